@@ -1,0 +1,6 @@
+/// The numbers N from `low` to `high`, or without an upper end.
+#[derive(Clone, Copy, Debug, PartialEq, Eq)]
+pub struct NRange {
+    pub low: u32,
+    pub high: Option<u32>,
+}

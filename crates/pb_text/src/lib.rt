@@ -1,0 +1,23 @@
+//! Places, names, tokens, actions and decimals: the words that all crates above share.
+#![tactic(auto)]
+
+mod action;
+mod memory;
+mod mode;
+mod name;
+mod number;
+mod place;
+mod quantity;
+mod token;
+mod words;
+
+pub use action::{Action, Joint};
+pub use memory::NoMemory;
+pub use mode::Mode;
+pub use name::Name;
+pub use number::push_number;
+pub use place::{Place, Spot};
+pub use quantity::Quantity;
+pub use token::{Key, Mark, Token, TokenKind};
+pub use words::Words;
+
