@@ -12,9 +12,16 @@ pub enum Joint {
 #[derive(Debug, Drop)]
 pub enum Action {
     /// The kernel chose the branch with the number `answer`.
-    Choose { rank: u32, kernel: u32, answer: u32 },
+    Choose {
+        rank: u32,
+        kernel: u32,
+        answer: u32,
+    },
     /// A compute kernel ran.
-    Run { rank: u32, kernel: u32 },
+    Run {
+        rank: u32,
+        kernel: u32,
+    },
     Send {
         rank: u32,
         to: u32,

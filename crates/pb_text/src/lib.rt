@@ -5,9 +5,12 @@ mod action;
 mod memory;
 mod mode;
 mod name;
+mod names;
 mod number;
 mod place;
 mod quantity;
+#[cfg(test)]
+mod tests;
 mod token;
 mod words;
 
@@ -15,9 +18,9 @@ pub use action::{Action, Joint};
 pub use memory::NoMemory;
 pub use mode::Mode;
 pub use name::Name;
+pub use names::Names;
 pub use number::push_number;
 pub use place::{Place, Spot};
 pub use quantity::Quantity;
 pub use token::{Key, Mark, Token, TokenKind};
 pub use words::Words;
-
