@@ -1,0 +1,13 @@
+pub mod Split
+pub mod Lawful
+pub mod LawfulGrammar
+pub mod Exact
+pub mod ExactMany
+pub mod Firsts
+pub mod ExactGrammar
+pub mod Deeper
+pub mod Fuel
+pub mod FuelGrammar
+pub mod Final
+pub mod Same
+pub mod SameRows

@@ -1,0 +1,9 @@
+pub mod Form
+pub mod Tree
+pub mod Plain
+pub mod Grammar
+pub mod Rows
+pub mod Laws
+pub mod Unexpected
+pub mod Reading
+pub mod Readers
