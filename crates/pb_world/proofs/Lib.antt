@@ -1,0 +1,11 @@
+pub mod Lists
+pub mod Follow
+pub mod Counted
+pub mod Sequential
+pub mod Invariant
+pub mod Events
+pub mod Theorem
+pub mod Local
+pub mod Shadow
+pub mod CarryLaws
+pub mod ExampleLaws

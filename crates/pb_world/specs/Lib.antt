@@ -1,0 +1,9 @@
+pub mod Actions
+pub mod Machine
+pub mod Counted
+pub mod Family
+pub mod World
+pub mod Theorem
+pub mod Sequencer
+pub mod Carry
+pub mod Example
