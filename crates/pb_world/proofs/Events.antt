@@ -1,16 +1,16 @@
 -- Each event keeps the invariant.
-use Rattle.std.proofs.Common.{◌≡◌, ◌≢◌, ℕ, suc, ◌<◌, Bool, true, List, [], ◌∷◌, ◌++◌, length, map, filter_map, slice_get, Option, Some, None, refl, sym, ap, ap₂, ◌∙◌, subst, inl, inr, append_assoc, append-nil, arith, length-append}
-use Rattle.std.proofs.lemmas.List.{map-append}
+use Rattle.std.proofs.Common.{◌≡◌, ◌≢◌, ℕ, suc, ◌<◌, Bool, true, List, [], ◌∷◌, ◌++◌, length, map, filter_map, slice_get, Option, Some, None, refl, sym, ap, ap₂, ◌∙◌, subst, inl, inr, append-nil, arith, length-append}
 use Rattle.std.proofs.lemmas.List.Elements.{filter_map-append}
 use Rattle.pb_text.specs.declared.mode.Mode.{Mode}
 use Rattle.pb_world.specs.Actions.{Action, Choose, Run, Send, Recv, Enter, Leave, Collective, Sends, Receives, Enters, Leaves, kind_of, of_rank, sent_to, received_from, entered_in, left_in, AnswerTable, answers_of, IsAnswered, IsPrefixOf, Covers}
 use Rattle.pb_world.specs.Machine.{Silent, Does, Probe}
 use Rattle.pb_world.specs.Family.{Family, Laws, IsInternal, choosing, running, IsOwn, own_internal, own_send, own_enter}
-use Rattle.pb_world.specs.World.{Message, content, World, updated, Takes, first, later, next_of, HasEntered, moved, posted, taken, inside, outside, Step, silent, probe, internal, send, receive, enter, leave, Reached, start, event}
+use Rattle.pb_world.specs.World.{Message, content, World, updated, Takes, next_of, HasEntered, moved, posted, taken, inside, outside, Step, silent, probe, internal, send, receive, enter, leave, Reached, start, event}
 use Rattle.pb_world.proofs.Lists.{eqb_cases, at_same, at_other, at2_same, at2_row, at2_place, seen, elsewhere, unseen, picked, picks, prefix_refl, prefix_filter, prefix_get, get_end, of_more, of_other, of_append, last_first, answered_before, answered_self}
 use Rattle.pb_world.proofs.Follow.{IsReal, after_silent, after_probe, after_act, after_this}
-use Rattle.pb_world.proofs.Sequential.{entry_of, exit_of, rounds, received_head, sent_head, received_none, sent_none}
-use Rattle.pb_world.proofs.Invariant.{Fits, FitsAt, IsAnsweredBy, Goes, Holds, holds_first, over, more, fits_ahead, ahead}
+use Rattle.pb_world.proofs.Sequential.{entry_of, exit_of, rounds}
+use Rattle.pb_world.proofs.Channels.{FitsFirst, FitsAt, takes_first, fits_covered, kept_unseen, kept_send, kept_receive}
+use Rattle.pb_world.proofs.Invariant.{IsAnsweredBy, Goes, Holds, holds_first, over, more, ahead}
 
 -- an action of a kind
 is_receive : (p l : ℕ) (a : Action) → kind_of a ≡ Receives p l → (words : List ℕ) × (a ≡ Recv p l words)
@@ -29,21 +29,16 @@ is_leave j (Send q m ws) e = cc
 is_leave j (Recv q m ws) e = cc
 is_leave j (Enter i ws) e = cc
 
--- the message that is taken is the first, where that one has the label
-takes_first : (l : ℕ) (ms : List Message) (m : Message) (rest : List Message) → Takes l ms m rest → ((n : Message) (ns : List Message) → ms ≡ n ∷ ns → n.label ≡ l) → (ms ≡ m ∷ rest) × (m.label ≡ l)
-takes_first l ms m rest (first e) h = (refl, e)
-takes_first l ms m rest (later {m = n} {ms = ns} ne t) h = absurd (ne (h n ns refl))
-
 module _ {S : Type 0} (F : Family S) (laws : Laws F) (w : List (ℕ × Action)) (W : World S) (inv : Holds F w W) where
   -- a step that shows nothing
-  holds_moved : (r : ℕ) → r < F.total → (y : S) → ((s : List Action) (ends : Bool) → IsReal s ends → FitsAt F W r s → Goes F r (W.state r) s ends → Goes F r y s ends) → Holds F w (moved F W r y)
+  holds_moved : (r : ℕ) → r < F.total → (y : S) → ((s : List Action) (ends : Bool) → IsReal s ends → FitsAt W.channel r s → Goes F r (W.state r) s ends → Goes F r y s ends) → Holds F w (moved F W r y)
   holds_moved r lt y on = record {
     covered = inv.covered;
     stood = λ q h s ends real fits f.
         let old = inv.stood q h s ends real fits f in
         elim (eqb_cases q r) [
           | inl e ↦
-              let here = on s ends real (subst (λ n. FitsAt F W n s) e.0 fits) (subst (λ n. Goes F n (W.state n) s ends) e.0 old) in
+              let here = on s ends real (subst (λ n. FitsAt W.channel n s) e.0 fits) (subst (λ n. Goes F n (W.state n) s ends) e.0 old) in
               subst (λ n. Goes F n (updated W.state r y n) s ends) (sym e.0) (subst (λ x. Goes F r x s ends) (sym (at_same W.state r y)) here)
           | inr e ↦ subst (λ x. Goes F q x s ends) (sym (at_other W.state r y q e.0)) old
         ];
@@ -59,7 +54,7 @@ module _ {S : Type 0} (F : Family S) (laws : Laws F) (w : List (ℕ × Action)) 
   holds_probe r lt p m rest y is has reads =
       holds_moved r lt y (λ s ends real fits f.
       let t = after_probe F.machine (F.allowed r) p f real is in
-      let fits' = subst (λ l. FitsAt F W r l) t.is fits in
+      let fits' = subst (λ l. FitsAt W.channel r l) t.is fits in
       let same = fits' m rest has in
       let tag : m.label ≡ t.label = ap (λ (c : ℕ × List ℕ). c.0) same in
       let one : Some y ≡ Some t.state = sym reads ∙ ap (F.machine.read (W.state r)) tag ∙ t.reads in
@@ -90,7 +85,7 @@ module _ {S : Type 0} (F : Family S) (laws : Laws F) (w : List (ℕ × Action)) 
   own_agrees : (r : ℕ) → r < F.total → (a : Action) → IsOwn a → F.allowed r a ≡ true → (A : AnswerTable) → IsAnsweredBy F (w ++ (r, a) ∷ []) A → (m : ℕ) → Covers (F.run A m) w → (b : Action) (s : List Action) → of_rank r (F.run A m) ≡ of_rank r w ++ b ∷ s → kind_of b ≡ kind_of a → b ≡ a
   own_agrees r lt a own al A h m cov b s e k = laws.answered A m r (of_rank r w) b s a lt e k own al (subst (λ l. IsAnswered l (A r)) (of_more w r a) (h r))
 
-  stood_act : (r : ℕ) → r < F.total → (a : Action) → next_of F W r ≡ Does (kind_of a) → Fits F W r a → (V : World S) → ((q : ℕ) → V.state q ≡ updated W.state r (F.machine.act (W.state r) a) q) → ((q : ℕ) → q ≢ r → (s : List Action) → FitsAt F V q s → FitsAt F W q s) → (q : ℕ) → q < F.total → (s : List Action) (ends : Bool) → IsReal s ends → FitsAt F V q s → Goes F q (F.start q) (of_rank q (w ++ (r, a) ∷ []) ++ s) ends → Goes F q (V.state q) s ends
+  stood_act : (r : ℕ) → r < F.total → (a : Action) → next_of F W r ≡ Does (kind_of a) → FitsFirst W.channel r a → (V : World S) → ((q : ℕ) → V.state q ≡ updated W.state r (F.machine.act (W.state r) a) q) → ((q : ℕ) → q ≢ r → (s : List Action) → FitsAt V.channel q s → FitsAt W.channel q s) → (q : ℕ) → q < F.total → (s : List Action) (ends : Bool) → IsReal s ends → FitsAt V.channel q s → Goes F q (F.start q) (of_rank q (w ++ (r, a) ∷ []) ++ s) ends → Goes F q (V.state q) s ends
   stood_act r lt a is fits V st back q h s ends real fits' f =
       let y : S = F.machine.act (W.state r) a in
       elim (eqb_cases q r) [
@@ -105,7 +100,7 @@ module _ {S : Type 0} (F : Family S) (laws : Laws F) (w : List (ℕ × Action)) 
       ]
 
   -- a receive that fits longer lists fits shorter ones
-  fits_back : (V : World S) (q : ℕ) → ((p : ℕ) → IsPrefixOf (W.channel p q) (V.channel p q)) → (s : List Action) → FitsAt F V q s → FitsAt F W q s
+  fits_back : (V : World S) (q : ℕ) → ((p : ℕ) → IsPrefixOf (W.channel p q) (V.channel p q)) → (s : List Action) → FitsAt V.channel q s → FitsAt W.channel q s
   fits_back V q h [] fits = tt
   fits_back V q h (Recv p l ws ∷ s) fits = λ m rest is. fits m (rest ++ (h p).0) (sym (h p).1 ∙ ap (λ t. t ++ (h p).0) is)
   fits_back V q h (Choose k n b ∷ s) fits = tt
@@ -114,24 +109,24 @@ module _ {S : Type 0} (F : Family S) (laws : Laws F) (w : List (ℕ × Action)) 
   fits_back V q h (Enter j ws ∷ s) fits = tt
   fits_back V q h (Leave j ws ∷ s) fits = tt
 
-  alone_shows : {B : Type 0} (f : Action → Option B) (a : Action) → IsInternal a → ((k n b : ℕ) → f (Choose k n b) ≡ None) → ((k : ℕ) → f (Run k) ≡ None) → filter_map f (a ∷ []) ≡ []
-  alone_shows f a (choosing {kernel = k} {branches = n} {branch = b}) hc hr = ap (λ (o : Option _). filter_map (λ (u : Option _). u) (o ∷ [])) (hc k n b)
-  alone_shows f a (running {kernel = k}) hc hr = ap (λ (o : Option _). filter_map (λ (u : Option _). u) (o ∷ [])) (hr k)
+  internal_shows : {B : Type 0} (f : Action → Option B) (a : Action) → IsInternal a → ((k n b : ℕ) → f (Choose k n b) ≡ None) → ((k : ℕ) → f (Run k) ≡ None) → filter_map f (a ∷ []) ≡ []
+  internal_shows f a (choosing {kernel = k} {branches = n} {branch = b}) hc hr = ap (λ (o : Option _). filter_map (λ (u : Option _). u) (o ∷ [])) (hc k n b)
+  internal_shows f a (running {kernel = k}) hc hr = ap (λ (o : Option _). filter_map (λ (u : Option _). u) (o ∷ [])) (hr k)
 
-  alone_fits : (r : ℕ) (a : Action) → IsInternal a → Fits F W r a
-  alone_fits r a choosing = tt
-  alone_fits r a running = tt
+  internal_fits : (r : ℕ) (a : Action) → IsInternal a → FitsFirst W.channel r a
+  internal_fits r a choosing = tt
+  internal_fits r a running = tt
 
   holds_alone : (r : ℕ) → r < F.total → (a : Action) → next_of F W r ≡ Does (kind_of a) → IsInternal a → F.allowed r a ≡ true → Holds F (w ++ (r, a) ∷ []) (moved F W r (F.machine.act (W.state r) a))
   holds_alone r lt a is al fine =
-      let sends : (q : ℕ) → filter_map (sent_to q) (a ∷ []) ≡ [] = λ q. alone_shows (sent_to q) a al (λ k n b. refl) (λ k. refl) in
-      let receives : (q : ℕ) → filter_map (received_from q) (a ∷ []) ≡ [] = λ q. alone_shows (received_from q) a al (λ k n b. refl) (λ k. refl) in
+      let sends : (q : ℕ) → filter_map (sent_to q) (a ∷ []) ≡ [] = λ q. internal_shows (sent_to q) a al (λ k n b. refl) (λ k. refl) in
+      let receives : (q : ℕ) → filter_map (received_from q) (a ∷ []) ≡ [] = λ q. internal_shows (received_from q) a al (λ k n b. refl) (λ k. refl) in
       record {
         covered = covered_act r lt a is (own_agrees r lt a (own_internal al) fine);
-        stood = stood_act r lt a is (alone_fits r a al) (moved F W r (F.machine.act (W.state r) a)) (λ q. refl) (λ q ne s fits. fits_back (moved F W r (F.machine.act (W.state r) a)) q (λ p. prefix_refl _) s fits);
-        held = λ p q. unseen (sent_to q) w r a p (sends q) ∙ inv.held p q ∙ ap (λ l. l ++ map content (W.channel p q)) (sym (unseen (received_from p) w r a q (receives p)));
-        entries = λ p. inv.entries p ∙ sym (unseen entered_in w r a p (alone_shows entered_in a al (λ k n b. refl) (λ k. refl)));
-        exits = λ p. inv.exits p ∙ ap length (sym (unseen left_in w r a p (alone_shows left_in a al (λ k n b. refl) (λ k. refl))));
+        stood = stood_act r lt a is (internal_fits r a al) (moved F W r (F.machine.act (W.state r) a)) (λ q. refl) (λ q ne s fits. fits_back (moved F W r (F.machine.act (W.state r) a)) q (λ p. prefix_refl _) s fits);
+        held = kept_unseen w W.channel inv.held r a sends receives;
+        entries = λ p. inv.entries p ∙ sym (unseen entered_in w r a p (internal_shows entered_in a al (λ k n b. refl) (λ k. refl)));
+        exits = λ p. inv.exits p ∙ ap length (sym (unseen left_in w r a p (internal_shows left_in a al (λ k n b. refl) (λ k. refl))));
       }
 
   holds_send : (r : ℕ) → r < F.total → (q : ℕ) (l : ℕ) (ws : List ℕ) (m : Message) → content m ≡ (l, ws) → next_of F W r ≡ Does (Sends q l) → F.allowed r (Send q l ws) ≡ true → Holds F (w ++ (r, Send q l ws) ∷ []) (posted F W r (F.machine.act (W.state r) (Send q l ws)) q m)
@@ -152,22 +147,7 @@ module _ {S : Type 0} (F : Family S) (laws : Laws F) (w : List (ℕ × Action)) 
       record {
         covered = covered_act r lt a is (own_agrees r lt a own_send fine);
         stood = stood_act r lt a is tt V (λ o. refl) (λ o ne s fits. fits_back V o (λ p. grows p o) s fits);
-        held = λ p o.
-            let got : filter_map (received_from p) (of_rank o (w ++ (r, a) ∷ [])) ≡ filter_map (received_from p) (of_rank o w) = unseen (received_from p) w r a o refl in
-            elim (eqb_cases p r) [
-              | inl e ↦ elim (eqb_cases o q) [
-                | inl d ↦
-                    subst (λ n. filter_map (sent_to o) (of_rank n (w ++ (r, a) ∷ [])) ≡ filter_map (received_from n) (of_rank o (w ++ (r, a) ∷ [])) ++ map content (V.channel n o)) (sym e.0)
-                    (subst (λ n. filter_map (sent_to n) (of_rank r (w ++ (r, a) ∷ [])) ≡ filter_map (received_from r) (of_rank n (w ++ (r, a) ∷ [])) ++ map content (V.channel r n)) (sym d.0)
-                    (seen (sent_to q) w r a ∙ ap₂ (λ x y. x ++ y) (inv.held r q) (sent_head q l ws []) ∙ append_assoc _ (map content (W.channel r q)) ((l, ws) ∷ [])
-                    ∙ ap (λ t. filter_map (received_from r) (of_rank q w) ++ t) (ap (λ c. map content (W.channel r q) ++ c ∷ []) (sym con) ∙ sym (map-append content (W.channel r q) (m ∷ [])) ∙ ap (map content) (sym here))
-                    ∙ ap (λ t. t ++ map content (V.channel r q)) (sym (unseen (received_from r) w r a q refl))))
-                | inr d ↦
-                    let dn : q ≢ o = λ z. d.0 (sym z) in
-                    unseen (sent_to o) w r a p (sent_none o q l ws dn) ∙ inv.held p o ∙ ap₂ (λ x y. x ++ map content y) (sym got) (sym (place p o d.0))
-              ]
-              | inr e ↦ elsewhere (sent_to o) w r a p e.0 ∙ inv.held p o ∙ ap₂ (λ x y. x ++ map content y) (sym got) (sym (row p o e.0))
-            ];
+        held = kept_send w W.channel inv.held r q l ws m con;
         entries = λ p. inv.entries p ∙ sym (unseen entered_in w r a p refl);
         exits = λ p. inv.exits p ∙ ap length (sym (unseen left_in w r a p refl));
       }
@@ -185,7 +165,7 @@ module _ {S : Type 0} (F : Family S) (laws : Laws F) (w : List (ℕ × Action)) 
             let t = after_act F.machine (F.allowed r) (Receives p l) f tt is in
             let first : t.action ≡ b = let u = t.is in cc in
             let shape = is_receive p l b (ap kind_of (sym first) ∙ t.kind) in
-            ap (λ (c : ℕ × List ℕ). c.0) (subst (λ x. Fits F W r x) shape.1 fits n ns e)
+            ap (λ (c : ℕ × List ℕ). c.0) (subst (λ x. FitsFirst W.channel r x) shape.1 fits n ns e)
       ]) in
       let is_first = takes_first l (W.channel p r) m rest takes tagged in
       let con : content m ≡ (l, m.words) = ap (λ x. (x, m.words)) is_first.1 in
@@ -195,27 +175,11 @@ module _ {S : Type 0} (F : Family S) (laws : Laws F) (w : List (ℕ × Action)) 
       record {
         covered = covered_act r lt a is (λ A h k cov b s e kind.
             let shape = is_receive p l b kind in
-            let fits = subst (λ x. Fits F W r x) shape.1 (fits_ahead F laws w W inv A k r b s cov e) in
+            let fits = subst (λ x. FitsFirst W.channel r x) shape.1 (fits_covered w W.channel inv.held F laws.sequential A k r b s cov e) in
             let same = ap (λ (c : ℕ × List ℕ). c.1) (fits m rest is_first.0) in
             shape.1 ∙ ap (λ x. Recv p l x) (sym same));
         stood = stood_act r lt a is (λ n ns e. let h = is_first.0 in let same : n ≡ m = cc in ap content same ∙ con) V (λ o. refl) (λ o ne s fits. fits_back V o (λ x. ([], append-nil _ ∙ sym (place x o ne))) s fits);
-        held = λ x o.
-            let sent : filter_map (sent_to o) (of_rank x (w ++ (r, a) ∷ [])) ≡ filter_map (sent_to o) (of_rank x w) = unseen (sent_to o) w r a x refl in
-            elim (eqb_cases o r) [
-              | inl d ↦ elim (eqb_cases x p) [
-                | inl e ↦
-                    subst (λ n. filter_map (sent_to o) (of_rank n (w ++ (r, a) ∷ [])) ≡ filter_map (received_from n) (of_rank o (w ++ (r, a) ∷ [])) ++ map content (V.channel n o)) (sym e.0)
-                    (subst (λ n. filter_map (sent_to n) (of_rank p (w ++ (r, a) ∷ [])) ≡ filter_map (received_from p) (of_rank n (w ++ (r, a) ∷ [])) ++ map content (V.channel p n)) (sym d.0)
-                    (unseen (sent_to r) w r a p refl ∙ inv.held p r ∙ ap (λ t. filter_map (received_from p) (of_rank r w) ++ map content t) is_first.0
-                    ∙ ap (λ c. filter_map (received_from p) (of_rank r w) ++ c ∷ map content rest) con
-                    ∙ sym (last_first (filter_map (received_from p) (of_rank r w)) (l, m.words) (map content rest))
-                    ∙ ap₂ (λ u v. u ++ map content v) (ap (λ t. filter_map (received_from p) (of_rank r w) ++ t) (sym (received_head p l m.words [])) ∙ sym (seen (received_from p) w r a)) (sym here)))
-                | inr e ↦
-                    let en : p ≢ x = λ z. e.0 (sym z) in
-                    sent ∙ inv.held x o ∙ ap₂ (λ u v. u ++ map content v) (sym (unseen (received_from x) w r a o (received_none x p l m.words en))) (sym (row x o e.0))
-              ]
-              | inr d ↦ sent ∙ inv.held x o ∙ ap₂ (λ u v. u ++ map content v) (sym (elsewhere (received_from x) w r a o d.0)) (sym (place x o d.0))
-            ];
+        held = kept_receive w W.channel inv.held r p l m.words m rest is_first.0 con;
         entries = λ q. inv.entries q ∙ sym (unseen entered_in w r a q refl);
         exits = λ q. inv.exits q ∙ ap length (sym (unseen left_in w r a q refl));
       }
@@ -227,7 +191,7 @@ module _ {S : Type 0} (F : Family S) (laws : Laws F) (w : List (ℕ × Action)) 
       record {
         covered = covered_act r lt a is (own_agrees r lt a own_enter fine);
         stood = stood_act r lt a is tt V (λ q. refl) (λ q ne s fits. fits_back V q (λ p. prefix_refl _) s fits);
-        held = λ p q. unseen (sent_to q) w r a p refl ∙ inv.held p q ∙ ap (λ l. l ++ map content (W.channel p q)) (sym (unseen (received_from p) w r a q refl));
+        held = kept_unseen w W.channel inv.held r a (λ q. refl) (λ p. refl);
         entries = λ p.
             elim (eqb_cases p r) [
               | inl e ↦ subst (λ n. V.entered n ≡ filter_map entered_in (of_rank n (w ++ (r, a) ∷ []))) (sym e.0) (at_same W.entered r (W.entered r ++ (j, ws) ∷ []) ∙ ap (λ l. l ++ (j, ws) ∷ []) (inv.entries r) ∙ sym (seen entered_in w r a))
@@ -265,7 +229,7 @@ module _ {S : Type 0} (F : Family S) (laws : Laws F) (w : List (ℕ × Action)) 
       record {
         covered = covered_act r lt a is (λ A h m cov b s e kind. leave_agrees r lt j words has A m cov b s e kind);
         stood = stood_act r lt a is tt V (λ q. refl) (λ q ne s fits. fits_back V q (λ p. prefix_refl _) s fits);
-        held = λ p q. unseen (sent_to q) w r a p refl ∙ inv.held p q ∙ ap (λ l. l ++ map content (W.channel p q)) (sym (unseen (received_from p) w r a q refl));
+        held = kept_unseen w W.channel inv.held r a (λ q. refl) (λ p. refl);
         entries = λ p. inv.entries p ∙ sym (unseen entered_in w r a p refl);
         exits = λ p.
             elim (eqb_cases p r) [

@@ -155,5 +155,5 @@ local = record {
 pub laws : Laws family
 laws = shadow_laws family first_state emit next is_over (λ q r. q.left r) (λ q. Unit {0}) shadow local
 
-pub example : AllRanks family
-example = all_ranks family laws
+pub ranks : AllRanks family
+ranks = all_ranks family laws

@@ -2,6 +2,8 @@ pub mod Lists
 pub mod Follow
 pub mod Counted
 pub mod Sequential
+pub mod Channels
+pub mod Flight
 pub mod Invariant
 pub mod Events
 pub mod Theorem

@@ -1,5 +1,5 @@
 -- What holds of the actions of whole steps.
-use Rattle.std.proofs.Common.{◌≡◌, ◌≢◌, ℕ, zero, suc, ◌+◌, ◌<◌, ◌≤◌, ◌==◌, cond, Bool, true, false, List, [], ◌∷◌, ◌++◌, map, filter_map, Option, Some, None, refl, sym, ap, ap₂, ◌∙◌, subst, inl, inr, zero-add, suc-add, arith}
+use Rattle.std.proofs.Common.{◌≡◌, ◌≢◌, ℕ, zero, suc, ◌+◌, ◌-◌, ◌<◌, ◌≤◌, ◌==◌, cond, Bool, true, false, List, [], ◌∷◌, ◌++◌, map, filter_map, Option, Some, None, refl, sym, ap, ap₂, ◌∙◌, subst, inl, inr, zero-add, suc-add, arith}
 use Rattle.std.proofs.Math.Decide.{dec_lt}
 use Rattle.std.proofs.lemmas.Bool.{eq-eqb}
 use Rattle.std.proofs.lemmas.List.{map-append}
@@ -26,45 +26,45 @@ each_of (suc n) f r h =
     ])
 
 -- an action that is internal, by rank
-pub alone_self : (r : ℕ) (a : Action) → of_rank r ((r, a) ∷ []) ≡ a ∷ []
-alone_self r a = ap (λ b. filter_map (λ (x : ℕ × Action). cond b (Some x.1) None) ((r, a) ∷ [])) (eq-eqb r r refl)
+pub internal_self : (r : ℕ) (a : Action) → of_rank r ((r, a) ∷ []) ≡ a ∷ []
+internal_self r a = ap (λ b. filter_map (λ (x : ℕ × Action). cond b (Some x.1) None) ((r, a) ∷ [])) (eq-eqb r r refl)
 
-pub alone_other : (r q : ℕ) (a : Action) → r ≢ q → of_rank q ((r, a) ∷ []) ≡ []
-alone_other r q a ne = ap (λ b. filter_map (λ (x : ℕ × Action). cond b (Some x.1) None) ((r, a) ∷ [])) (not_eqb r q ne)
+pub internal_other : (r q : ℕ) (a : Action) → r ≢ q → of_rank q ((r, a) ∷ []) ≡ []
+internal_other r q a ne = ap (λ b. filter_map (λ (x : ℕ × Action). cond b (Some x.1) None) ((r, a) ∷ [])) (not_eqb r q ne)
 
 -- where the action internal shows nothing, no rank does
-alone_none : {B : Type 0} (f : Action → Option B) (r q : ℕ) (a : Action) → filter_map f (a ∷ []) ≡ [] → filter_map f (of_rank q ((r, a) ∷ [])) ≡ []
-alone_none f r q a h =
+internal_none : {B : Type 0} (f : Action → Option B) (r q : ℕ) (a : Action) → filter_map f (a ∷ []) ≡ [] → filter_map f (of_rank q ((r, a) ∷ [])) ≡ []
+internal_none f r q a h =
     elim (eqb_cases r q) [
-      | inl y ↦ subst (λ n. filter_map f (of_rank n ((r, a) ∷ [])) ≡ []) y.0 (ap (filter_map f) (alone_self r a) ∙ h)
-      | inr y ↦ ap (filter_map f) (alone_other r q a y.0)
+      | inl y ↦ subst (λ n. filter_map f (of_rank n ((r, a) ∷ [])) ≡ []) y.0 (ap (filter_map f) (internal_self r a) ∙ h)
+      | inr y ↦ ap (filter_map f) (internal_other r q a y.0)
     ]
 
-alone_sends : (a : Action) → IsInternal a → (q : ℕ) → filter_map (sent_to q) (a ∷ []) ≡ []
-alone_sends a choosing q = refl
-alone_sends a running q = refl
+pub internal_sends : (a : Action) → IsInternal a → (q : ℕ) → filter_map (sent_to q) (a ∷ []) ≡ []
+internal_sends a choosing q = refl
+internal_sends a running q = refl
 
-alone_receives : (a : Action) → IsInternal a → (q : ℕ) → filter_map (received_from q) (a ∷ []) ≡ []
-alone_receives a choosing q = refl
-alone_receives a running q = refl
+pub internal_receives : (a : Action) → IsInternal a → (q : ℕ) → filter_map (received_from q) (a ∷ []) ≡ []
+internal_receives a choosing q = refl
+internal_receives a running q = refl
 
-alone_enters : (a : Action) → IsInternal a → filter_map entered_in (a ∷ []) ≡ []
-alone_enters a choosing = refl
-alone_enters a running = refl
+internal_enters : (a : Action) → IsInternal a → filter_map entered_in (a ∷ []) ≡ []
+internal_enters a choosing = refl
+internal_enters a running = refl
 
-alone_leaves : (a : Action) → IsInternal a → filter_map left_in (a ∷ []) ≡ []
-alone_leaves a choosing = refl
-alone_leaves a running = refl
+internal_leaves : (a : Action) → IsInternal a → filter_map left_in (a ∷ []) ≡ []
+internal_leaves a choosing = refl
+internal_leaves a running = refl
 
 -- what a rank does in a message
 pub message_sender : (p q l : ℕ) (ws : List ℕ) → p ≢ q → of_rank p ((p, Send q l ws) ∷ (q, Recv p l ws) ∷ []) ≡ Send q l ws ∷ []
-message_sender p q l ws ne = let ne' : q ≢ p = λ e. ne (sym e) in of_append p ((p, Send q l ws) ∷ []) ((q, Recv p l ws) ∷ []) ∙ ap₂ (λ x y. x ++ y) (alone_self p (Send q l ws)) (alone_other q p (Recv p l ws) ne')
+message_sender p q l ws ne = let ne' : q ≢ p = λ e. ne (sym e) in of_append p ((p, Send q l ws) ∷ []) ((q, Recv p l ws) ∷ []) ∙ ap₂ (λ x y. x ++ y) (internal_self p (Send q l ws)) (internal_other q p (Recv p l ws) ne')
 
 pub message_receiver : (p q l : ℕ) (ws : List ℕ) → p ≢ q → of_rank q ((p, Send q l ws) ∷ (q, Recv p l ws) ∷ []) ≡ Recv p l ws ∷ []
-message_receiver p q l ws ne = of_append q ((p, Send q l ws) ∷ []) ((q, Recv p l ws) ∷ []) ∙ ap₂ (λ x y. x ++ y) (alone_other p q (Send q l ws) ne) (alone_self q (Recv p l ws))
+message_receiver p q l ws ne = of_append q ((p, Send q l ws) ∷ []) ((q, Recv p l ws) ∷ []) ∙ ap₂ (λ x y. x ++ y) (internal_other p q (Send q l ws) ne) (internal_self q (Recv p l ws))
 
 pub message_other : (p q l : ℕ) (ws : List ℕ) (r : ℕ) → p ≢ r → q ≢ r → of_rank r ((p, Send q l ws) ∷ (q, Recv p l ws) ∷ []) ≡ []
-message_other p q l ws r np nq = of_append r ((p, Send q l ws) ∷ []) ((q, Recv p l ws) ∷ []) ∙ ap₂ (λ x y. x ++ y) (alone_other p r (Send q l ws) np) (alone_other q r (Recv p l ws) nq)
+message_other p q l ws r np nq = of_append r ((p, Send q l ws) ∷ []) ((q, Recv p l ws) ∷ []) ∙ ap₂ (λ x y. x ++ y) (internal_other p r (Send q l ws) np) (internal_other q r (Recv p l ws) nq)
 
 -- x, where both tests are true
 abbrev pub one_if : {B : Type 0} → Bool → B → List B
@@ -160,7 +160,7 @@ module _ {S : Type 0} (F : Family S) where
   -- in a statement, what a rank receives from another is what that one sends to it
   statement_matched : {st : List (ℕ × Action)} → Statement F st → (p q : ℕ) → filter_map (received_from p) (of_rank q st) ≡ filter_map (sent_to q) (of_rank p st)
   statement_matched nothing p q = refl
-  statement_matched (internal {r = r} {a = a} h al) p q = alone_none (received_from p) r q a (alone_receives a al p) ∙ sym (alone_none (sent_to q) r p a (alone_sends a al q))
+  statement_matched (internal {r = r} {a = a} h al) p q = internal_none (received_from p) r q a (internal_receives a al p) ∙ sym (internal_none (sent_to q) r p a (internal_sends a al q))
   statement_matched (message {p = p'} {q = q'} {label = l} {words = ws} hp hq ne) p q =
       message_received p' q' l ws ne p q ∙ both_comm (q' == q) (p' == p) (l, ws) ∙ sym (message_sent p' q' l ws ne p q)
   statement_matched (joint j f) p q = joint_none (received_from p) j f q (λ u v. refl) ∙ sym (joint_none (sent_to q) j f p (λ u v. refl))
@@ -177,7 +177,7 @@ module _ {S : Type 0} (F : Family S) where
   -- a statement is at most one round
   statement_rounds : {st : List (ℕ × Action)} → Statement F st → (rounds : List Round) × ((r : ℕ) → r < F.total → Rounds rounds (of_rank r st) r)
   statement_rounds nothing = ([], λ r h. record { enters = refl; leaves = refl })
-  statement_rounds (internal {r = q} {a = a} h al) = ([], λ r k. record { enters = alone_none entered_in q r a (alone_enters a al); leaves = alone_none left_in q r a (alone_leaves a al) })
+  statement_rounds (internal {r = q} {a = a} h al) = ([], λ r k. record { enters = internal_none entered_in q r a (internal_enters a al); leaves = internal_none left_in q r a (internal_leaves a al) })
   statement_rounds (message {p = p} {q = q} {label = l} {words = ws} hp hq ne) =
       ([], λ r k. record { enters = message_none entered_in p q l ws ne refl refl r; leaves = message_none left_in p q l ws ne refl refl r })
   statement_rounds (joint j f) = ((j, f) ∷ [], λ r k. record { enters = ap (filter_map entered_in) (joint_of j f r k); leaves = ap (filter_map left_in) (joint_of j f r k) })
@@ -218,3 +218,11 @@ module _ {S : Type 0} (F : Family S) where
         let st = laws.steps A (k + m) in
         subst (λ n. IsPrefixOf (of_rank r (F.run A m)) (of_rank r (F.run A n))) (sym (suc-add k m))
         (prefix_trans _ _ _ (later_steps m k r) (of_rank r st.0, sym (rank_next r (k + m))))
+
+  -- what a run has done, a longer run begins with
+  pub runs_begin : IsSequential F → (A : AnswerTable) (m n : ℕ) → m ≤ n → IsPrefixOf (F.run A m) (F.run A n)
+  runs_begin sequential A m n le = let e : n - m + m ≡ n = omega arith in subst (λ k. IsPrefixOf (F.run A m) (F.run A k)) e (go (n - m))
+    where
+      go : (d : ℕ) → IsPrefixOf (F.run A m) (F.run A (d + m))
+      go zero = subst (λ k. IsPrefixOf (F.run A m) (F.run A k)) (sym (zero-add m)) (prefix_refl _)
+      go (suc d) = let st = sequential.steps A (d + m) in subst (λ k. IsPrefixOf (F.run A m) (F.run A k)) (sym (suc-add d m)) (prefix_trans _ _ _ (go d) (st.0, sym st.2))

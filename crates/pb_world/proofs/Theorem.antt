@@ -11,8 +11,9 @@ use Rattle.pb_world.specs.World.{Message, content, World, AllEager, Takes, first
 use Rattle.pb_world.specs.Theorem.{IsSound, HasDone, IsWhole, AllRanks}
 use Rattle.pb_world.proofs.Lists.{eqb_cases, picked, picks, prefix_trans, prefix_filter, prefix_both, prefix_get, get_end, no_elements, behind, not_before, begins_or_not, of_append, answered_self}
 use Rattle.pb_world.proofs.Follow.{after_probe, after_act, never_lost, never_undefined}
-use Rattle.pb_world.proofs.Sequential.{entry_of, exit_of, matched, rounds, later_steps, sent_head, alone_self, alone_other, message_sender, message_receiver, message_other, joint_of}
-use Rattle.pb_world.proofs.Invariant.{Fits, IsAnsweredBy, Goes, Holds, over, more, ahead}
+use Rattle.pb_world.proofs.Sequential.{entry_of, exit_of, matched, rounds, later_steps, sent_head, internal_self, internal_other, message_sender, message_receiver, message_other, joint_of}
+use Rattle.pb_world.proofs.Channels.{FitsFirst}
+use Rattle.pb_world.proofs.Invariant.{IsAnsweredBy, Goes, Holds, over, more, ahead}
 use Rattle.pb_world.proofs.Events.{holds}
 
 no_cons : {A : Type 0} (u : List A) (c : A) (cs : List A) → [] ≡ u ++ c ∷ cs → ⊥
@@ -67,7 +68,7 @@ module _ {S : Type 0} (F : Family S) (laws : Laws F) (w : List (ℕ × Action)) 
           | more b s e fits f ↦
               let t = after_probe F.machine (F.allowed r) p f tt is in
               let head : b ≡ Recv p t.label t.words = let u = t.is in cc in
-              let same = subst (λ x. Fits F W r x) head fits msg rest has in
+              let same = subst (λ x. FitsFirst W.channel r x) head fits msg rest has in
               let tag : msg.label ≡ t.label = ap (λ (c : ℕ × List ℕ). c.0) same in
               let no : None ≡ Some t.state = sym none ∙ ap (F.machine.read (W.state r)) tag ∙ t.reads in
               cc
@@ -100,7 +101,7 @@ module _ {S : Type 0} (F : Family S) (laws : Laws F) (w : List (ℕ × Action)) 
   Enabled r (Send q l ws) = Unit {0}
   Enabled r (Enter j ws) = Unit {0}
 
-  enabled_fits : (r : ℕ) (a : Action) → Enabled r a → Fits F W r a
+  enabled_fits : (r : ℕ) (a : Action) → Enabled r a → FitsFirst W.channel r a
   enabled_fits r (Recv p l ws) en = λ m rest is. let h = en.2 in let same : m ≡ en.0 = cc in ap content same ∙ en.3
   enabled_fits r (Choose k n b) en = tt
   enabled_fits r (Run k) en = tt
@@ -195,18 +196,18 @@ module _ {S : Type 0} (F : Family S) (laws : Laws F) (w : List (ℕ × Action)) 
               inr (left_at q lt h.0 h.1 h.2 (λ x. ap (filter_map (sent_to x)) s.0) (subst (λ c. Enabled q c) (sym s.1) (en same)))
         ]
 
-    alone_left : (q : ℕ) (a : Action) → IsInternal a → st ≡ (q, a) ∷ [] → (r : ℕ) → r < F.total → ¬ HasDone F w (suc n) r → Left (suc n)
-    alone_left q a al e r lt not =
+    internal_left : (q : ℕ) (a : Action) → IsInternal a → st ≡ (q, a) ∷ [] → (r : ℕ) → r < F.total → ¬ HasDone F w (suc n) r → Left (suc n)
+    internal_left q a al e r lt not =
         elim (eqb_cases q r) [
           | inl y ↦
-              let mine : of_rank r st ≡ a ∷ [] = ap (of_rank r) e ∙ subst (λ k. of_rank k ((q, a) ∷ []) ≡ a ∷ []) y.0 (alone_self q a) in
-              elim (one_left r lt a mine (λ same. alone_enabled r a al)) [ inl d ↦ absurd (not d) | inr h ↦ h ]
-          | inr y ↦ absurd (not (none_left r lt (ap (of_rank r) e ∙ alone_other q r a y.0)))
+              let mine : of_rank r st ≡ a ∷ [] = ap (of_rank r) e ∙ subst (λ k. of_rank k ((q, a) ∷ []) ≡ a ∷ []) y.0 (internal_self q a) in
+              elim (one_left r lt a mine (λ same. internal_enabled r a al)) [ inl d ↦ absurd (not d) | inr h ↦ h ]
+          | inr y ↦ absurd (not (none_left r lt (ap (of_rank r) e ∙ internal_other q r a y.0)))
         ]
       where
-        alone_enabled : (r : ℕ) (a : Action) → IsInternal a → Enabled r a
-        alone_enabled r a choosing = tt
-        alone_enabled r a running = tt
+        internal_enabled : (r : ℕ) (a : Action) → IsInternal a → Enabled r a
+        internal_enabled r a choosing = tt
+        internal_enabled r a running = tt
 
     -- the receiver's message is there, once the sender has done its part
     message_there : (p q l : ℕ) (ws : List ℕ) → of_rank p st ≡ Send q l ws ∷ [] → HasDone F w (suc n) p → of_rank q w ≡ of_rank q (F.run (answers_of w) n) → Enabled q (Recv p l ws)
@@ -300,7 +301,7 @@ module _ {S : Type 0} (F : Family S) (laws : Laws F) (w : List (ℕ × Action)) 
 
   step_left : (n : ℕ) → ((q : ℕ) → q < F.total → HasDone F w n q) → (st : List (ℕ × Action)) → Statement F st → F.run (answers_of w) (suc n) ≡ F.run (answers_of w) n ++ st → (r : ℕ) → r < F.total → ¬ HasDone F w (suc n) r → Left (suc n)
   step_left n done st nothing is_next r lt not = absurd (not (none_left n done st is_next r lt refl))
-  step_left n done st (Statement.internal {r = q} {a = a} h al) is_next r lt not = alone_left n done st is_next q a al refl r lt not
+  step_left n done st (Statement.internal {r = q} {a = a} h al) is_next r lt not = internal_left n done st is_next q a al refl r lt not
   step_left n done st (message {p = p} {q = q} {label = l} {words = ws} hp hq ne) is_next r lt not = message_left n done st is_next p q l ws hp hq ne refl r lt not
   step_left n done st (joint j f) is_next r lt not = joint_left n done st is_next j f refl r lt not
 

@@ -102,8 +102,10 @@ pub data Reached {S : Type 0} (F : Family S) : List (ℕ × Action) → World S 
   start : Reached F [] (beginning F)
   event : {w : List (ℕ × Action)} {W V : World S} {r : ℕ} {acts : List Action} → Reached F w W → Step F W r acts V → Reached F (w ++ map (λ a. (r, a)) acts) V
 
--- Where a sequential run covers what was done, each channel holds exactly what was sent and not yet received, in order
+-- Each channel holds exactly what was sent and not yet received, in order
+abbrev pub IsInFlight : List (ℕ × Action) → (ℕ → ℕ → List Message) → Type 0
+IsInFlight w channel = (p q : ℕ) → filter_map (sent_to q) (of_rank p w) ≡ filter_map (received_from p) (of_rank q w) ++ map content (channel p q)
+
+-- so it is where a sequential run covers what was done
 abbrev pub InFlight : Type 0 → Type 0
-InFlight S =
-    (F : Family S) → IsSequential F → (A : AnswerTable) (m : ℕ) (w : List (ℕ × Action)) (W : World S) → Reached F w W → Covers (F.run A m) w → (p q : ℕ) →
-    filter_map (sent_to q) (of_rank p w) ≡ filter_map (received_from p) (of_rank q w) ++ map content (W.channel p q)
+InFlight S = (F : Family S) → IsSequential F → (A : AnswerTable) (m : ℕ) (w : List (ℕ × Action)) (W : World S) → Reached F w W → Covers (F.run A m) w → IsInFlight w W.channel

@@ -1,5 +1,5 @@
 use Rattle.pb_world.proofs.example.Goals as goal
-use Rattle.pb_world.proofs.ExampleLaws.{example}
+use Rattle.pb_world.proofs.ExampleLaws.{laws, ranks}
 
 pub returns : goal.returns
-returns c = example
+returns c = record { laws = laws; ranks = ranks }
