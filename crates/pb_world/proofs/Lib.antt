@@ -11,3 +11,4 @@ pub mod Local
 pub mod Shadow
 pub mod CarryLaws
 pub mod ExampleLaws
+pub mod Recorded

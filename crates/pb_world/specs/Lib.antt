@@ -3,6 +3,7 @@ pub mod Machine
 pub mod Counted
 pub mod Family
 pub mod World
+pub mod Log
 pub mod Theorem
 pub mod Sequencer
 pub mod Carry

@@ -4,6 +4,7 @@
 ghost use Rattle.pb_world.specs.Counted.{CountedFollows};
 ghost use Rattle.pb_world.specs.Example.{family};
 ghost use Rattle.pb_world.specs.Family.{Family, Laws, RunsBegin, ReceivesAreSends};
+ghost use Rattle.pb_world.specs.Log.{LogLaws};
 ghost use Rattle.pb_world.specs.Theorem.{AllRanks};
 ghost use Rattle.pb_world.specs.World.{InFlight};
 
@@ -37,4 +38,9 @@ pub fn in_flight<S>()
 /// What a machine follows within a bound on its silent steps, it follows where it is lost beyond the bound.
 pub fn counted_follows<S>()
     ensures { CountedFollows S }
+{}
+
+/// The map from actions in full to their log keeps each rank's part, what covers what, and the answers.
+pub fn logs()
+    ensures { LogLaws }
 {}
