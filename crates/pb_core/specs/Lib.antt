@@ -1,0 +1,9 @@
+pub mod Ranks
+pub mod Tree
+pub mod Plain
+pub mod Flat
+pub mod FlatOf
+pub mod Run
+pub mod Collectives
+pub mod Outcomes
+pub mod Rules

@@ -1,0 +1,13 @@
+use pb_text::Place;
+use thiserror::Error;
+
+/// Why a file has no core.
+#[derive(Clone, Copy, Debug, PartialEq, Eq, Error)]
+pub enum LowerFault {
+    /// The least of the rules 1 to 5 that is broken, and the first place in the file at which it is.
+    #[error("Broken")]
+    Broken { rule: u8, place: Place },
+    /// Memory ran out.
+    #[error("NoMemory")]
+    NoMemory,
+}
