@@ -1,0 +1,11 @@
+//! The endpoint program that a protocol projects to.
+#![tactic(auto)]
+
+mod stmt;
+mod tables;
+
+pub use pb_affine::{Base, Guard, Guards, Lin, NRange};
+pub use pb_syntax::{CoreKernel, CoreLabel, KernelKind, Op, Payload};
+pub use pb_text::{Name, NoMemory};
+pub use stmt::{Peer, Relay, Stmt, Test};
+pub use tables::{Local, Role};
