@@ -1,0 +1,10 @@
+pub mod Entries
+pub mod Faults
+pub mod Files
+pub mod MemFolder
+pub mod MemSink
+pub mod Refusals
+pub mod Shelf
+pub mod Sinks
+pub mod SureFolder
+pub mod SureSink
