@@ -1,0 +1,9 @@
+pub mod Numbers
+pub mod Breakpoints
+pub mod Bounds
+pub mod Regions
+pub mod Building
+pub mod Spans
+pub mod Live
+pub mod Search
+pub mod Roles
