@@ -1,0 +1,203 @@
+ghost use Rattle.std.specs.Prelude.{◌≡◌, ◌≤◌, IfOk};
+ghost use Rattle.pb_parse.specs.Gives.{GivesTo, numeral};
+ghost use Rattle.pb_syntax.specs.Grammar.{reads_count};
+ghost use Rattle.pb_syntax.specs.Reading.{starts, one_at, among, next};
+ghost use Rattle.pb_syntax.specs.Readers.{mark_at, key_at, name_at, number_at, mark_next, key_next, word_next, number_next, statement_keys, item_keys};
+ghost use Rattle.pb_parse.specs.Gives.{place_at};
+ghost use Rattle.pb_syntax.specs.Grammar.{kind_number};
+
+use pb_syntax::{Place, Spot};
+use pb_text::{Key, Mark, Token, TokenKind};
+use std::alloc::AllocFailed;
+
+/// Why a form can't be read.
+#[derive(Clone, Copy, Debug, PartialEq, Eq)]
+pub(crate) enum Stop {
+    /// The next token doesn't go on, or there is none.
+    Unexpected,
+    NoMemory,
+}
+
+impl<T: Drop> From<AllocFailed<T>> for Stop {
+    ghost use Rattle.std.specs.Prelude.{◌≡◌};
+    ghost use Rattle.pb_parse.specs.declared.cursor.Stop.TheVariants.{NoMemory};
+
+    ghost from_gives = { λ _ e. e ≡ NoMemory };
+
+    fn from(_: AllocFailed<T>) -> Self {
+        Stop::NoMemory
+    }
+}
+
+/// A number where it stands.
+#[derive(Clone, Copy)]
+pub(crate) struct Numeral {
+    pub(crate) value: u32,
+    pub(crate) place: Place,
+}
+
+// Marks have the kinds 0 to 12, keys 13 to 36, names 37 and numbers 38.
+fn kind_number(kind: &TokenKind) -> u8
+    ensures { result ≡ kind_number kind.now }
+{
+    match kind {
+        TokenKind::Mark(mark) => *mark as u8,
+        TokenKind::Key(key) => 13 + *key as u8,
+        TokenKind::Word(_) => 37,
+        TokenKind::Number(_) => 38,
+    }
+}
+
+/// The tokens that are left. A method reads one form; where it can't, the cursor stays before the token that doesn't go on.
+#[derive(Drop)]
+pub(crate) struct Cursor<'a> {
+    pub(crate) rest: &'a [Token],
+}
+
+impl<'a> Cursor<'a> {
+    pub(crate) fn at_mark(&self, mark: Mark) -> bool
+        ensures { result ≡ starts (mark_next mark) self.now.rest.now }
+    {
+        match self.rest.first() {
+            Some(token) => kind_number(&token.kind) == mark as u8,
+            None => false,
+        }
+    }
+
+    pub(crate) fn at_key(&self, key: Key) -> bool
+        ensures { result ≡ starts (key_next key) self.now.rest.now }
+    {
+        match self.rest.first() {
+            Some(token) => kind_number(&token.kind) == 13 + key as u8,
+            None => false,
+        }
+    }
+
+    pub(crate) fn at_word(&self) -> bool
+        ensures { result ≡ starts word_next self.now.rest.now }
+    {
+        match self.rest.first() {
+            Some(token) => kind_number(&token.kind) == 37,
+            None => false,
+        }
+    }
+
+    pub(crate) fn at_number(&self) -> bool
+        ensures { result ≡ starts number_next self.now.rest.now }
+    {
+        match self.rest.first() {
+            Some(token) => kind_number(&token.kind) == 38,
+            None => false,
+        }
+    }
+
+    pub(crate) fn at_item(&self) -> bool
+        ensures { result ≡ starts (among item_keys) self.now.rest.now }
+    {
+        match self.rest.first() {
+            Some(token) => matches!(kind_number(&token.kind), 37 | 25),
+            None => false,
+        }
+    }
+
+    pub(crate) fn at_statement(&self) -> bool
+        ensures { result ≡ starts (among statement_keys) self.now.rest.now }
+    {
+        match self.rest.first() {
+            Some(token) => matches!(
+                kind_number(&token.kind),
+                37 | 19 | 20 | 21 | 22 | 25 | 26 | 27 | 28 | 29
+            ),
+            None => false,
+        }
+    }
+
+    pub(crate) fn mark(&mut self, mark: Mark) -> Result<Place, Stop>
+        ensures { GivesTo (λ x. x) result self.new.rest.now (mark_at mark self.old.rest.now) }
+    {
+        match self.rest.split_first() {
+            Some((token, rest)) if kind_number(&token.kind) == mark as u8 => {
+                self.rest = rest;
+                Ok(token.place)
+            }
+            _ => Err(Stop::Unexpected),
+        }
+    }
+
+    pub(crate) fn key(&mut self, key: Key) -> Result<Place, Stop>
+        ensures { GivesTo (λ x. x) result self.new.rest.now (key_at key self.old.rest.now) }
+    {
+        match self.rest.split_first() {
+            Some((token, rest)) if kind_number(&token.kind) == 13 + key as u8 => {
+                self.rest = rest;
+                Ok(token.place)
+            }
+            _ => Err(Stop::Unexpected),
+        }
+    }
+
+    pub(crate) fn name(&mut self) -> Result<Spot, Stop>
+        ensures { GivesTo (λ x. x) result self.new.rest.now (name_at self.old.rest.now) }
+    {
+        let Some((token, rest)) = self.rest.split_first() else {
+            return Err(Stop::Unexpected);
+        };
+        match token.kind {
+            TokenKind::Word(name) => {
+                self.rest = rest;
+                Ok(Spot {
+                    name,
+                    place: token.place,
+                })
+            }
+            _ => Err(Stop::Unexpected),
+        }
+    }
+
+    pub(crate) fn number(&mut self) -> Result<Numeral, Stop>
+        ensures read { GivesTo numeral result self.new.rest.now (number_at self.old.rest.now) }
+        ensures small { IfOk result (λ n. n.value ≤ 2000000000) }
+    {
+        let Some((token, rest)) = self.rest.split_first() else {
+            return Err(Stop::Unexpected);
+        };
+        match token.kind {
+            TokenKind::Number(value) if value <= 2_000_000_000 => {
+                self.rest = rest;
+                Ok(Numeral {
+                    value,
+                    place: token.place,
+                })
+            }
+            _ => Err(Stop::Unexpected),
+        }
+    }
+
+    pub(crate) fn nonzero(&mut self) -> Result<Numeral, Stop>
+        ensures { GivesTo numeral result self.new.rest.now (one_at reads_count self.old.rest.now) }
+    {
+        let Some((token, rest)) = self.rest.split_first() else {
+            return Err(Stop::Unexpected);
+        };
+        match token.kind {
+            TokenKind::Number(value) if value <= 2_000_000_000 && value != 0 => {
+                self.rest = rest;
+                Ok(Numeral {
+                    value,
+                    place: token.place,
+                })
+            }
+            _ => Err(Stop::Unexpected),
+        }
+    }
+
+    // Where it stands.
+    pub(crate) fn place(&self, end: Place) -> Place
+        ensures { result ≡ place_at end self.now.rest.now }
+    {
+        match self.rest.first() {
+            Some(token) => token.place,
+            None => end,
+        }
+    }
+}

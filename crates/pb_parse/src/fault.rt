@@ -1,0 +1,20 @@
+use pb_text::{Place, Quantity};
+use thiserror::Error;
+
+/// Why there is no tree. The earliest token counts, and at one token the earlier variant.
+#[derive(Clone, Copy, Debug, PartialEq, Eq, Error)]
+pub enum ParseFault {
+    /// The first token such that no file begins with the tokens up to it, or the place behind the last byte where the
+    /// tokens end too early.
+    #[error("Unexpected")]
+    Unexpected(Place),
+    /// A `{` that would be the 65th open one.
+    #[error("TooDeep")]
+    TooDeep(Place),
+    /// The `role` of the 65th role, the first token of statement 4,001, the `or` before branch 65, a number above
+    /// 100,000 as the low end of the constant or in a lin, a number above 1,024 as a payload's count.
+    #[error("TooMany")]
+    TooMany(Quantity, Place),
+    #[error("NoMemory")]
+    NoMemory,
+}

@@ -1,0 +1,19 @@
+//! The parser of protocol files: exactly the grammar of `pb_syntax`, and the limits on what a file may hold.
+//!
+//! `specs/Parsed` says which answer is right, and `specs/Limits` which token passes which limit. One pass over the tokens
+//! finds the first that passes a limit. Then the tokens up to it are read once, from left to right, one method for each
+//! form, so a recursion never goes below 65 open braces.
+#![tactic(auto)]
+
+mod blocks;
+mod cursor;
+mod ends;
+mod fault;
+mod file;
+mod limits;
+mod parts;
+mod simple;
+mod verdict;
+
+pub use fault::ParseFault;
+pub use verdict::parse_tokens;

@@ -1,0 +1,100 @@
+ghost use Rattle.std.specs.Prelude.{◌≡◌, ◌<◌, take, drop, length};
+ghost use Rattle.pb_syntax.specs.Tree.{PlainFile};
+ghost use Rattle.pb_syntax.specs.Grammar.{IsFile};
+ghost use Rattle.pb_parse.specs.Limits.{AreWithin, NextPasses, counts};
+ghost use Rattle.pb_parse.specs.Parsed.{IsParsed, Gives, passes_fault, stop_fault};
+
+use crate::cursor::{Cursor, Stop};
+use crate::fault::ParseFault;
+use crate::limits::first_passed;
+use pb_syntax::FileTree;
+use pb_text::{Place, Quantity, Token};
+use std::alloc::Global;
+
+/// The tree of the tokens of a whole text. `end` is the place behind its last byte.
+#[tactic(auto, using(crate::proofs::Together::only))]
+pub fn parse_tokens(alloc: Global, tokens: &[Token], end: Place) -> Result<FileTree, ParseFault>
+    ensures parsed { IsParsed end tokens.now result }
+    // Each file within the limits is parsed, unless memory runs out.
+    ensures only { (file : PlainFile) → IsFile tokens.now file → AreWithin tokens.now → Gives file result }
+{
+    verdict(alloc, tokens, end)
+}
+
+fn verdict(alloc: Global, tokens: &[Token], end: Place) -> Result<FileTree, ParseFault>
+    ensures { IsParsed end tokens.now result }
+{
+    match first_passed(tokens) {
+        Some((quantity, i)) => up_to(alloc, tokens, i, quantity, end),
+        None => all_of(alloc, tokens, end),
+    }
+}
+
+// No token passes a limit.
+#[tactic(auto, using(crate::proofs::Together::refused_within))]
+fn all_of(alloc: Global, tokens: &[Token], end: Place) -> Result<FileTree, ParseFault>
+    requires { AreWithin tokens.now }
+    ensures { IsParsed end tokens.now result }
+{
+    let mut cursor = Cursor { rest: tokens };
+    match cursor.whole(alloc, tokens.len()) {
+        Ok(file) => Ok(file),
+        Err(Stop::NoMemory) => Err(ParseFault::NoMemory),
+        Err(Stop::Unexpected) => Err(ParseFault::Unexpected(cursor.place(end))),
+    }
+}
+
+// Token `i` is the first to pass a limit, so the tokens up to it decide.
+fn up_to(
+    alloc: Global,
+    tokens: &[Token],
+    i: usize,
+    quantity: Quantity,
+    end: Place,
+) -> Result<FileTree, ParseFault>
+    requires below { i < length tokens.now }
+    requires within { AreWithin (take i tokens.now) }
+    requires passes { NextPasses (counts (take i tokens.now)) (drop i tokens.now) quantity }
+    ensures { IsParsed end tokens.now result }
+{
+    let place = tokens[i].place;
+    let front = &tokens[..i + 1];
+    let mut cursor = Cursor { rest: front };
+    match cursor.whole(alloc, front.len()) {
+        Ok(_) => Err(passes_fault(quantity, place)),
+        Err(Stop::NoMemory) => Err(ParseFault::NoMemory),
+        Err(Stop::Unexpected) => Err(stop_fault(&cursor, quantity, place)),
+    }
+}
+
+// The fault where the cursor stopped: at its token, or at the one behind all it had, which passes a limit.
+fn stop_fault(cursor: &Cursor, quantity: Quantity, place: Place) -> ParseFault
+    ensures { result ≡ stop_fault quantity place cursor.now.rest.now }
+{
+    match cursor.rest.first() {
+        Some(token) => ParseFault::Unexpected(token.place),
+        None => passes_fault(quantity, place),
+    }
+}
+
+fn passes_fault(quantity: Quantity, place: Place) -> ParseFault
+    ensures { result ≡ passes_fault quantity place }
+{
+    match quantity {
+        Quantity::Nesting => ParseFault::TooDeep(place),
+        Quantity::FileBytes
+        | Quantity::NumberSize
+        | Quantity::NameLength
+        | Quantity::Statements
+        | Quantity::Roles
+        | Quantity::Branches
+        | Quantity::Constant
+        | Quantity::PayloadCount
+        | Quantity::Breakpoints
+        | Quantity::Ranks
+        | Quantity::WordsInFlight
+        | Quantity::TextNesting
+        | Quantity::TextStatements
+        | Quantity::Events => ParseFault::TooMany(quantity, place),
+    }
+}
