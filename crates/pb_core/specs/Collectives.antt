@@ -1,5 +1,10 @@
--- The four collectives.
-use Rattle.std.specs.Prelude.{ℕ, zero, suc, ◌==◌, cond, true, List, [], ◌∷◌, nat_lt}
+-- What the four collectives need and give (MPI 3.1, chapter 5), and with that the setting of a protocol at one N.
+use Rattle.std.specs.Prelude.{ℕ, zero, suc, ◌+◌, ◌-◌, ◌%◌, ◌^◌, ◌==◌, cond, Bool, true, false, ℤ, pos, negsuc, int_le, List, [], ◌∷◌, nat_lt, if◌then◌else◌}
+use Rattle.pb_syntax.specs.declared.core_label.CoreLabel.{CoreLabel}
+use Rattle.pb_syntax.specs.declared.tree.Payload.{Payload}
+use Rattle.pb_syntax.specs.declared.tree.Payload.TheVariants.{Unit as Signal, Int32, Uint32}
+use Rattle.pb_core.specs.Plain.{Protocol}
+use Rattle.pb_core.specs.Ranks.{total}
 use Rattle.pb_core.specs.Run.{Setting}
 
 -- by what a collective is: a barrier, a broadcast, a reduce or an allreduce
@@ -23,7 +28,9 @@ abbrev pub combined_of : (ℕ → ℕ → ℕ) → ℕ → (ℕ → List ℕ) �
 combined_of f zero words = []
 combined_of f (suc n) words = combined f n words
 
--- for this many ranks, sizes of labels, and an operation by its number and the label
+-- For this many ranks, sizes of labels, and an operation by its number and the label. A barrier has no words; in a
+-- broadcast the root enters with words and all leave with them; in a reduce all enter and the root leaves with the
+-- combination; in an allreduce all do both. A root that is no rank has no words.
 abbrev pub setting : ℕ → (ℕ → ℕ) → (ℕ → ℕ → ℕ → ℕ → ℕ) → Setting
 setting total size operate = record {
   total = total;
@@ -34,3 +41,36 @@ setting total size operate = record {
       let all = combined_of (operate j.operation j.label) total words in
       by_kind j.what [] (cond (nat_lt j.root total) (words j.root) []) (cond (r == j.root) all []) all;
 }
+
+-- ---- words
+
+-- a word read in two's complement
+abbrev pub signed : ℕ → ℤ
+signed w = if nat_lt w (2 ^ 31) then pos w else negsuc (2 ^ 32 - 1 - w)
+
+abbrev pub is_at_most : Payload → ℕ → ℕ → Bool
+is_at_most (Int32 n) x y = int_le (signed x) (signed y)
+is_at_most (Uint32 n) x y = int_le (pos x) (pos y)
+is_at_most Signal x y = int_le (pos x) (pos y)
+
+-- the operation with a number on two words: min, max, and the sum modulo 2^32
+abbrev pub combine : Payload → ℕ → ℕ → ℕ → ℕ
+combine p zero x y = if is_at_most p x y then x else y
+combine p (suc zero) x y = if is_at_most p x y then y else x
+combine p (suc (suc n)) x y = (x + y) % 2 ^ 32
+
+abbrev pub word_count : Payload → ℕ
+word_count Signal = 0
+word_count (Int32 n) = n
+word_count (Uint32 n) = n
+
+-- the payload of the label with a number, none where there is no such label
+abbrev pub payload_of : List CoreLabel → ℕ → Payload
+payload_of [] l = Signal
+payload_of (x ∷ xs) zero = x.payload
+payload_of (x ∷ xs) (suc l) = payload_of xs l
+
+-- the setting of a protocol at N = n
+abbrev pub setting_of : Protocol → ℤ → Setting
+setting_of p n =
+    setting (total p.roles n) (λ l. word_count (payload_of p.labels l)) (λ operation l x y. combine (payload_of p.labels l) operation x y)

@@ -5,5 +5,6 @@ pub mod Flat
 pub mod FlatOf
 pub mod Run
 pub mod Collectives
+pub mod Public
 pub mod Outcomes
 pub mod Rules

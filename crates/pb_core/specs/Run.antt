@@ -1,8 +1,8 @@
--- The sequential run of a flat protocol.
+-- The sequential run of a flat protocol, under a table of answers.
 use Rattle.std.specs.Prelude.{◌≡◌, ℕ, zero, suc, ◌<◌, ◌==◌, Bool, true, false, List, [], ◌∷◌, ◌++◌, length, map, replicate, nat_lt}
-use Rattle.pb_world.specs.Actions.{Act, Choose, Run, Send, Recv, Enter, Leave, Joint, of_rank, Answer}
+use Rattle.pb_world.specs.Actions.{Act, Choose, Run, Send, Recv, Enter, Leave, Joint, of_rank, Answer, Answers, answers_of}
 use Rattle.pb_world.specs.Family.{each}
-use Rattle.pb_world.specs.Sequencer.{popped_all, first_or}
+use Rattle.pb_world.specs.Sequencer.{popped_all, first_or, state_after, emitted}
 use Rattle.pb_core.specs.Flat.{Block, stop, message, compute, together, choice, looped, again, Branches, takes_part, in_choice, count, branch_at, first_ending}
 
 -- what a run knows besides the protocol: the ranks, how many words a label has, and what collectives do
@@ -28,7 +28,7 @@ pub record Frame : Type 0 where
   pub opener : Opener
   pub rest : Block
 
--- who takes part in each open loop
+-- who takes part in the body of each loop around, the innermost first
 abbrev pub Env : Type 0
 Env = List (ℕ → Bool)
 
@@ -71,7 +71,7 @@ move o K (choice a p k bs g) c = record { opener = Chosen p bs; rest = branch_at
 move o K (looped a b g) c = record { opener = Body b; rest = b } ∷ record { opener = o; rest = g } ∷ K
 move o K (again n) c = back_over o n K (back K)
 
--- a state, with the answers that are left
+-- what is still to do, the innermost frame first, and the answers that are left
 pub record State : Type 0 where
   pub stack : List Frame
   pub left : ℕ → Answer
@@ -136,3 +136,19 @@ module _ (w : Setting) where
 
   abbrev pub next : State → State
   next q = record { stack = move_of q.stack q.left; left = λ r. popped_all (of_rank r (emit q)) (q.left r) }
+
+  -- The start of a protocol under a table of answers, the actions of the first m steps, and whether no statement is left
+  -- then. A step without an action goes into a loop, back to one, or past the end of a block.
+  abbrev pub first_state : Block → Answers → State
+  first_state protocol A = record { stack = record { opener = Top; rest = protocol } ∷ []; left = A }
+
+  abbrev pub seq : Block → Answers → ℕ → List (ℕ × Act)
+  seq protocol A m = emitted emit next m (first_state protocol A)
+
+  abbrev pub is_over : Block → Answers → ℕ → Bool
+  is_over protocol A m = is_over_at (state_after emit next m (first_state protocol A)).stack
+
+  -- a run with these actions is whole: the sequential run under its answers ends, and each rank did its part of that
+  abbrev pub IsWhole : Block → List (ℕ × Act) → Type 0
+  IsWhole protocol w =
+      (m : ℕ) × (is_over protocol (answers_of w) m ≡ true) × ((r : ℕ) → of_rank r w ≡ of_rank r (seq protocol (answers_of w) m))
