@@ -1,1 +1,5 @@
+mod Bools
+mod Numbers
+mod LeastSets
+mod RunLaws
 mod Rows

@@ -194,15 +194,15 @@ abbrev two : BlockTree → BlockTree → Protocol
 two a b = protocol (label Signal ∷ label Signal ∷ []) (more (mark 0 3) (choice 0 (w 15 (fixed (pos 0))) (branch (mark 1 20) a (branch (mark 3 40) b no_branch))) nothing)
 
 -- at N = 5 rank 4 finds a receive in the first branch and nothing in the second
-row_8 : breaches (two (first_to (n+ (negsuc 0)) 0) (first_to (fixed (pos 3)) 1)) (pos 5) ≡ breach 10 3 40 (pos 4) ∷ []
-row_8 = refl
+left_out : breaches (two (first_to (n+ (negsuc 0)) 0) (first_to (fixed (pos 3)) 1)) (pos 5) ≡ breach 10 3 40 (pos 4) ∷ []
+left_out = refl
 
-row_8_at_4 : breaches (two (first_to (n+ (negsuc 0)) 0) (first_to (fixed (pos 3)) 1)) (pos 4) ≡ []
-row_8_at_4 = refl
+left_out_at_4 : breaches (two (first_to (n+ (negsuc 0)) 0) (first_to (fixed (pos 3)) 1)) (pos 4) ≡ []
+left_out_at_4 = refl
 
 -- the same label in both
-row_9 : breaches (two (first_to (n+ (negsuc 0)) 0) (first_to (n+ (negsuc 0)) 0)) (pos 2) ≡ breach 12 3 40 (pos 1) ∷ []
-row_9 = refl
+same_label : breaches (two (first_to (n+ (negsuc 0)) 0) (first_to (n+ (negsuc 0)) 0)) (pos 2) ≡ breach 12 3 40 (pos 1) ∷ []
+same_label = refl
 
 -- W[2] is told by W[0] in one branch and by W[1] in the other
 abbrev tell : ℕ → ℤ → ℤ → BlockTree → BlockTree

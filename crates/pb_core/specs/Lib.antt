@@ -8,3 +8,5 @@ pub mod Collectives
 pub mod Public
 pub mod Outcomes
 pub mod Rules
+pub mod TakesPart
+pub mod Laws
