@@ -9,7 +9,9 @@ use Rattle.pb_syntax.specs.declared.core_label.CoreLabel.{CoreLabel}
 use Rattle.pb_syntax.specs.declared.tree.Op.TheVariants.{Sum, Max}
 use Rattle.pb_syntax.specs.declared.tree.Payload.{Payload}
 use Rattle.pb_syntax.specs.declared.tree.Payload.TheVariants.{Unit as Signal, Int32, Uint32}
-use Rattle.pb_world.specs.Actions.{Answers, of_rank}
+use Rattle.pb_world.specs.Actions.{AnswerTable}
+use Rattle.pb_world.specs.Actions as W
+use Rattle.pb_world.specs.Log.{log_of}
 use Rattle.pb_core.specs.declared.protocol.CoreRole.{CoreRole}
 use Rattle.pb_core.specs.declared.tree.CoreEnd.{CoreEnd}
 use Rattle.pb_core.specs.Ranks.{Seat, size, total}
@@ -18,7 +20,6 @@ use Rattle.pb_core.specs.Plain.{Protocol}
 use Rattle.pb_core.specs.Flat.{takes_part}
 use Rattle.pb_core.specs.Run.{seq, is_over}
 use Rattle.pb_core.specs.Collectives.{setting_of, combined, combine}
-use Rattle.pb_core.specs.Public.{shown}
 use Rattle.pb_core.specs.Outcomes.{firsts, receives, nothing_first}
 use Rattle.pb_core.specs.Rules.{Breach, breaches, flat_at, somebody}
 
@@ -65,7 +66,7 @@ protocol labels body = record {
   blocks = 0;
 }
 
-abbrev no_answers : Answers
+abbrev no_answers : AnswerTable
 no_answers r = record { branches = []; words = [] }
 
 abbrev breach : ℕ → ℕ → ℕ → ℤ → Breach
@@ -78,14 +79,14 @@ ring = protocol (label Signal ∷ [])
     (more (mark 0 3) (foreach (bounds (fixed (pos 0)) (n+ (negsuc 1))) (mark 1 3) (more (mark 1 3) (message 0 (w 12 (i+ (pos 0))) (w 27 (i+ (pos 1)))) nothing))
     (more (mark 2 3) (message 0 (w 12 (n+ (negsuc 0))) (w 27 (fixed (pos 0)))) nothing))
 
-ring_at_3 : shown (seq (setting_of ring (pos 3)) (flat_at ring (pos 3)) no_answers 10)
+ring_at_3 : log_of (seq (setting_of ring (pos 3)) (flat_at ring (pos 3)) no_answers 10)
     ≡ Send 0 1 0 [] ∷ Recv 1 0 0 [] ∷ Send 1 2 0 [] ∷ Recv 2 1 0 [] ∷ Send 2 0 0 [] ∷ Recv 0 2 0 [] ∷ []
 ring_at_3 = refl
 
 ring_over : is_over (setting_of ring (pos 3)) (flat_at ring (pos 3)) no_answers 4 ≡ true
 ring_over = refl
 
-ring_at_5 : shown (seq (setting_of ring (pos 5)) (flat_at ring (pos 5)) no_answers 10)
+ring_at_5 : log_of (seq (setting_of ring (pos 5)) (flat_at ring (pos 5)) no_answers 10)
     ≡ Send 0 1 0 [] ∷ Recv 1 0 0 [] ∷ Send 1 2 0 [] ∷ Recv 2 1 0 [] ∷ Send 2 3 0 [] ∷ Recv 3 2 0 [] ∷ Send 3 4 0 [] ∷ Recv 4 3 0 [] ∷ Send 4 0 0 [] ∷ Recv 0 4 0 [] ∷ []
 ring_at_5 = refl
 
@@ -123,12 +124,12 @@ turns = protocol (label Signal ∷ label Signal ∷ label Signal ∷ [])
     (more (mark 5 99) (message 2 (w 108 (fixed (pos 2))) (w 116 (fixed (pos 3)))) nothing))
 
 -- the table has one answer, to go on; then it is used up, and the branch that can end is taken
-turns_at_4 : shown (seq (setting_of turns (pos 4)) (flat_at turns (pos 4)) (λ r. record { branches = 0 ∷ []; words = [] }) 20)
+turns_at_4 : log_of (seq (setting_of turns (pos 4)) (flat_at turns (pos 4)) (λ r. record { branches = 0 ∷ []; words = [] }) 20)
     ≡ Choose 0 0 0 ∷ Send 0 1 0 [] ∷ Recv 1 0 0 [] ∷ Choose 0 0 1 ∷ Send 0 1 1 [] ∷ Recv 1 0 1 [] ∷ Send 2 3 2 [] ∷ Recv 3 2 2 [] ∷ []
 turns_at_4 = refl
 
 -- a branch number that is too large counts as not there, and is used up
-turns_too_large : shown (seq (setting_of turns (pos 4)) (flat_at turns (pos 4)) (λ r. record { branches = 2 ∷ 0 ∷ []; words = [] }) 20)
+turns_too_large : log_of (seq (setting_of turns (pos 4)) (flat_at turns (pos 4)) (λ r. record { branches = 2 ∷ 0 ∷ []; words = [] }) 20)
     ≡ Choose 0 0 1 ∷ Send 0 1 1 [] ∷ Recv 1 0 1 [] ∷ Send 2 3 2 [] ∷ Recv 3 2 2 [] ∷ []
 turns_too_large = refl
 
@@ -140,23 +141,23 @@ turns_keeps = refl
 abbrev sum_row : Protocol
 sum_row = protocol (label (Uint32 1) ∷ []) (more (mark 0 3) (reduce 0 Sum (w 30 (fixed (pos 0)))) nothing)
 
-sum_at_3 : shown (seq (setting_of sum_row (pos 3)) (flat_at sum_row (pos 3)) (λ r. record { branches = []; words = (10 * r ∷ []) ∷ [] }) 1)
+sum_at_3 : log_of (seq (setting_of sum_row (pos 3)) (flat_at sum_row (pos 3)) (λ r. record { branches = []; words = (10 * r ∷ []) ∷ [] }) 1)
     ≡ Enter 0 (Labelled 0) (0 ∷ []) ∷ Enter 1 (Labelled 0) (10 ∷ []) ∷ Enter 2 (Labelled 0) (20 ∷ []) ∷ Leave 0 (Labelled 0) (30 ∷ []) ∷ Leave 1 (Labelled 0) [] ∷ Leave 2 (Labelled 0) [] ∷ []
 sum_at_3 = refl
 
 -- words of another length count as not there
-sum_of_wrong_length : shown (seq (setting_of sum_row (pos 2)) (flat_at sum_row (pos 2)) (λ r. record { branches = []; words = (7 ∷ 7 ∷ []) ∷ [] }) 1)
+sum_of_wrong_length : log_of (seq (setting_of sum_row (pos 2)) (flat_at sum_row (pos 2)) (λ r. record { branches = []; words = (7 ∷ 7 ∷ []) ∷ [] }) 1)
     ≡ Enter 0 (Labelled 0) (0 ∷ []) ∷ Enter 1 (Labelled 0) (0 ∷ []) ∷ Leave 0 (Labelled 0) (0 ∷ []) ∷ Leave 1 (Labelled 0) [] ∷ []
 sum_of_wrong_length = refl
 
 -- a sum wraps; the greatest of signed words: -1 is below 0
-sum_wraps : combine (Uint32 1) 2 4294967295 2 ≡ 1
+sum_wraps : combine (Uint32 1) W.Sum 4294967295 2 ≡ 1
 sum_wraps = refl
 
-signed_max : combine (Int32 1) 1 4294967295 0 ≡ 0
+signed_max : combine (Int32 1) W.Max 4294967295 0 ≡ 0
 signed_max = refl
 
-unsigned_max : combine (Uint32 1) 1 4294967295 0 ≡ 4294967295
+unsigned_max : combine (Uint32 1) W.Max 4294967295 0 ≡ 4294967295
 unsigned_max = refl
 
 -- Jacobi's method, with two words for each side
@@ -172,7 +173,7 @@ jacobi = protocol (label (Int32 2) ∷ label (Int32 2) ∷ label (Int32 1) ∷ l
     (branch (mark 7 19) (more (mark 12 20) (foreach (bounds (fixed (pos 1)) (n+ (negsuc 0))) (mark 8 20) (more (mark 13 20) (message 4 (w 21 (fixed (pos 0))) (w 22 (i+ (pos 0)))) nothing)) nothing) no_branch))) nothing)))))) nothing)
 
 -- without answers the words are zeros, and the branch is the one that can end
-jacobi_at_3 : shown (seq (setting_of jacobi (pos 3)) (flat_at jacobi (pos 3)) no_answers 9)
+jacobi_at_3 : log_of (seq (setting_of jacobi (pos 3)) (flat_at jacobi (pos 3)) no_answers 9)
     ≡ Send 0 1 0 (0 ∷ 0 ∷ []) ∷ Recv 1 0 0 (0 ∷ 0 ∷ []) ∷ Send 1 2 0 (0 ∷ 0 ∷ []) ∷ Recv 2 1 0 (0 ∷ 0 ∷ [])
     ∷ Send 1 0 1 (0 ∷ 0 ∷ []) ∷ Recv 0 1 1 (0 ∷ 0 ∷ []) ∷ Send 2 1 1 (0 ∷ 0 ∷ []) ∷ Recv 1 2 1 (0 ∷ 0 ∷ [])
     ∷ Run 0 0 ∷ Run 1 0 ∷ Run 2 0

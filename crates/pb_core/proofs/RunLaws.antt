@@ -2,7 +2,7 @@
 use Rattle.std.proofs.Common.{◌≡◌, ℕ, zero, suc, ◌+◌, ◌==◌, cond, Bool, true, false, None, Some, Option, List, [], ◌∷◌, ◌++◌, filter_map, refl, sym, ap, ap₂, ◌∙◌, arith, subst}
 use Rattle.std.proofs.lemmas.List.Elements.{filter_map-append}
 use Rattle.std.proofs.lemmas.List.{append_assoc}
-use Rattle.pb_world.specs.Actions.{Act, Choose, Run, Send, Recv, Enter, Leave, Joint, Answer, Answers, IsPrefixOf}
+use Rattle.pb_world.specs.Actions.{Action, Choose, Run, Send, Recv, Enter, Leave, Collective, Answers, AnswerTable, IsPrefixOf}
 use Rattle.pb_world.specs.Family.{each}
 use Rattle.pb_world.specs.Sequencer.{emitted, state_after}
 use Rattle.pb_core.specs.Flat.{Block, stop, message, compute, together, choice, looped, again, count}
@@ -56,15 +56,15 @@ no_pick : {X : Type 0} (b : Bool) → let none : Option X = None in cond b none 
 no_pick true = refl
 no_pick false = refl
 
-each_none : {Y : Type 0} (f : ℕ × Act → Option Y) (g : ℕ → Act) → ((r : ℕ) → f (r, g r) ≡ None) → (n : ℕ) → filter_map f (each n g) ≡ []
+each_none : {Y : Type 0} (f : ℕ × Action → Option Y) (g : ℕ → Action) → ((r : ℕ) → f (r, g r) ≡ None) → (n : ℕ) → filter_map f (each n g) ≡ []
 each_none f g h zero = refl
 each_none f g h (suc n) = filter_map-append f (each n g) ((n, g n) ∷ []) ∙ ap₂ (λ x y. x ++ y) (each_none f g h n) (one_alone f (n, g n) (h n))
 
-joint_none : {Y : Type 0} (f : ℕ × Act → Option Y) (n : ℕ) (g h : ℕ → Act) → ((r : ℕ) → f (r, g r) ≡ None) → ((r : ℕ) → f (r, h r) ≡ None) → filter_map f (each n g ++ each n h) ≡ []
+joint_none : {Y : Type 0} (f : ℕ × Action → Option Y) (n : ℕ) (g h : ℕ → Action) → ((r : ℕ) → f (r, g r) ≡ None) → ((r : ℕ) → f (r, h r) ≡ None) → filter_map f (each n g ++ each n h) ≡ []
 joint_none f n g h a b = filter_map-append f (each n g) (each n h) ∙ ap₂ (λ x y. x ++ y) (each_none f g a n) (each_none f h b n)
 
 module _ (w : Setting) where
-  block_matched : (p q : ℕ) (b : Block) (left : ℕ → Answer) → receipts p q (emit_at w b left) ≡ sends p q (emit_at w b left)
+  block_matched : (p q : ℕ) (b : Block) (left : AnswerTable) → receipts p q (emit_at w b left) ≡ sends p q (emit_at w b left)
   block_matched p q stop left = refl
   block_matched p q (message a p' q' l g) left = message_matched p q p' q' l _
   block_matched p q (compute a p' k g) left = one_alone (got_by p q) (p', Run k) (no_pick (p' == q)) ∙ sym (one_alone (sent_by p q) (p', Run k) (no_pick (p' == p)))
@@ -75,7 +75,7 @@ module _ (w : Setting) where
   block_matched p q (looped a b g) left = refl
   block_matched p q (again n) left = refl
 
-  stack_matched : (p q : ℕ) (K : List Frame) (left : ℕ → Answer) → receipts p q (emit_of w K left) ≡ sends p q (emit_of w K left)
+  stack_matched : (p q : ℕ) (K : List Frame) (left : AnswerTable) → receipts p q (emit_of w K left) ≡ sends p q (emit_of w K left)
   stack_matched p q [] left = refl
   stack_matched p q (f ∷ K) left = block_matched p q f.rest left
 

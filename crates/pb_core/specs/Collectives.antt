@@ -1,18 +1,12 @@
 -- What the four collectives need and give (MPI 3.1, chapter 5), and with that the setting of a protocol at one N.
-use Rattle.std.specs.Prelude.{ℕ, zero, suc, ◌+◌, ◌-◌, ◌%◌, ◌^◌, ◌==◌, cond, Bool, true, false, ℤ, pos, negsuc, int_le, List, [], ◌∷◌, nat_lt, if◌then◌else◌}
+use Rattle.std.specs.Prelude.{ℕ, zero, suc, ◌+◌, ◌-◌, ◌%◌, ◌^◌, ◌==◌, cond, Bool, true, ℤ, pos, negsuc, int_le, List, [], ◌∷◌, nat_lt, if◌then◌else◌}
 use Rattle.pb_syntax.specs.declared.core_label.CoreLabel.{CoreLabel}
 use Rattle.pb_syntax.specs.declared.tree.Payload.{Payload}
 use Rattle.pb_syntax.specs.declared.tree.Payload.TheVariants.{Unit as Signal, Int32, Uint32}
+use Rattle.pb_world.specs.Actions.{Operation, Max, Min, Sum, Collective, Barrier, Broadcast, Reduce, Allreduce}
 use Rattle.pb_core.specs.Plain.{Protocol}
 use Rattle.pb_core.specs.Ranks.{total}
 use Rattle.pb_core.specs.Run.{Setting}
-
--- by what a collective is: a barrier, a broadcast, a reduce or an allreduce
-abbrev pub by_kind : {A : Type 0} → ℕ → A → A → A → A → A
-by_kind zero a b c d = a
-by_kind (suc zero) a b c d = b
-by_kind (suc (suc zero)) a b c d = c
-by_kind (suc (suc (suc n))) a b c d = d
 
 abbrev pub word_by_word : (ℕ → ℕ → ℕ) → List ℕ → List ℕ → List ℕ
 word_by_word f [] ys = []
@@ -28,19 +22,33 @@ abbrev pub combined_of : (ℕ → ℕ → ℕ) → ℕ → (ℕ → List ℕ) �
 combined_of f zero words = []
 combined_of f (suc n) words = combined f n words
 
--- For this many ranks, sizes of labels, and an operation by its number and the label. A barrier has no words; in a
+-- For this many ranks, sizes of labels, and an operation on two words of a label. A barrier has no words; in a
 -- broadcast the root enters with words and all leave with them; in a reduce all enter and the root leaves with the
 -- combination; in an allreduce all do both. A root that is no rank has no words.
-abbrev pub setting : ℕ → (ℕ → ℕ) → (ℕ → ℕ → ℕ → ℕ → ℕ) → Setting
-setting total size operate = record {
-  total = total;
-  size = size;
-  weight = λ j r. by_kind j.what 0 (cond (r == j.root) (size j.label) 0) (size j.label) (size j.label);
-  needs = λ j r p. by_kind j.what true (p == j.root) (r == j.root) true;
-  outcome = λ j r words.
-      let all = combined_of (operate j.operation j.label) total words in
-      by_kind j.what [] (cond (nat_lt j.root total) (words j.root) []) (cond (r == j.root) all []) all;
-}
+module _ (total : ℕ) (size : ℕ → ℕ) (operate : Operation → ℕ → ℕ → ℕ → ℕ) where
+  -- with how many words a rank enters
+  abbrev pub weight : Collective → ℕ → ℕ
+  weight Barrier r = 0
+  weight (Broadcast label root) r = cond (r == root) (size label) 0
+  weight (Reduce label operation root) r = size label
+  weight (Allreduce label operation) r = size label
+
+  -- whether rank r needs the entry of rank p to leave
+  abbrev pub needs : Collective → ℕ → ℕ → Bool
+  needs Barrier r p = true
+  needs (Broadcast label root) r p = p == root
+  needs (Reduce label operation root) r p = r == root
+  needs (Allreduce label operation) r p = true
+
+  -- the words with which rank r leaves
+  abbrev pub outcome : Collective → ℕ → (ℕ → List ℕ) → List ℕ
+  outcome Barrier r words = []
+  outcome (Broadcast label root) r words = cond (nat_lt root total) (words root) []
+  outcome (Reduce label operation root) r words = cond (r == root) (combined_of (operate operation label) total words) []
+  outcome (Allreduce label operation) r words = combined_of (operate operation label) total words
+
+  abbrev pub setting : Setting
+  setting = record { total = total; size = size; weight = weight; needs = needs; outcome = outcome }
 
 -- ---- words
 
@@ -53,11 +61,11 @@ is_at_most (Int32 n) x y = int_le (signed x) (signed y)
 is_at_most (Uint32 n) x y = int_le (pos x) (pos y)
 is_at_most Signal x y = int_le (pos x) (pos y)
 
--- the operation with a number on two words: min, max, and the sum modulo 2^32
-abbrev pub combine : Payload → ℕ → ℕ → ℕ → ℕ
-combine p zero x y = if is_at_most p x y then x else y
-combine p (suc zero) x y = if is_at_most p x y then y else x
-combine p (suc (suc n)) x y = (x + y) % 2 ^ 32
+-- an operation on two words; the sum is taken modulo 2^32
+abbrev pub combine : Payload → Operation → ℕ → ℕ → ℕ
+combine p Min x y = if is_at_most p x y then x else y
+combine p Max x y = if is_at_most p x y then y else x
+combine p Sum x y = (x + y) % 2 ^ 32
 
 abbrev pub word_count : Payload → ℕ
 word_count Signal = 0

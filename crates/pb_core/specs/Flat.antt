@@ -1,7 +1,7 @@
 -- A flat protocol: N is put in, each foreach is its items, each end is a rank's number, and a continue names a loop
 -- around it by how many stand between. Who takes part in it, and what of it can end.
 use Rattle.std.specs.Prelude.{ℕ, zero, suc, ◌==◌, cond, Bool, true, false, ◌||◌, ◌&&◌, List, [], ◌∷◌, nat_lt}
-use Rattle.pb_world.specs.Actions.{Joint}
+use Rattle.pb_world.specs.Actions.{Collective}
 use Rattle.pb_core.specs.Ranks.{Seat}
 use Rattle.pb_core.specs.Tree.{Mark}
 
@@ -22,7 +22,7 @@ mutual
     stop : Block
     message : (origin : Origin) (from to label : ℕ) (rest : Block) → Block
     compute : (origin : Origin) (at kernel : ℕ) (rest : Block) → Block
-    together : (origin : Origin) (joint : Joint) (rest : Block) → Block
+    together : (origin : Origin) (joint : Collective) (rest : Block) → Block
     choice : (origin : Origin) (at kernel : ℕ) (branches : Branches) (rest : Block) → Block
     looped : (origin : Origin) (body rest : Block) → Block
     again : (n : ℕ) → Block

@@ -3,7 +3,8 @@ use Rattle.std.specs.Prelude.{ℕ, suc, ◌+◌, ◌*◌, ℤ, pos, nat_eq, if�
 use Rattle.pb_affine.specs.Values.{value, range}
 use Rattle.pb_syntax.specs.declared.tree.Op.{Op}
 use Rattle.pb_syntax.specs.declared.tree.Op.TheVariants.{Min, Max, Sum}
-use Rattle.pb_world.specs.Actions.{Joint}
+use Rattle.pb_world.specs.Actions as W
+use Rattle.pb_world.specs.Actions.{Operation, Barrier, Broadcast, Reduce, Allreduce}
 use Rattle.pb_core.specs.declared.protocol.CoreRole.{CoreRole}
 use Rattle.pb_core.specs.declared.tree.CoreEnd.{CoreEnd}
 use Rattle.pb_core.specs.Ranks.{Seat, seats, number_in}
@@ -41,22 +42,10 @@ between id (x ∷ xs) = if nat_eq id x then 0 else suc (between id xs)
 
 -- ---- collectives as the world knows them
 
-abbrev pub op_number : Op → ℕ
-op_number Min = 0
-op_number Max = 1
-op_number Sum = 2
-
-abbrev pub barrier_joint : Joint
-barrier_joint = record { what = 0; label = 0; operation = 0; root = 0 }
-
-abbrev pub broadcast_joint : ℕ → ℕ → Joint
-broadcast_joint l root = record { what = 1; label = l; operation = 0; root = root }
-
-abbrev pub reduce_joint : ℕ → Op → ℕ → Joint
-reduce_joint l op root = record { what = 2; label = l; operation = op_number op; root = root }
-
-abbrev pub allreduce_joint : ℕ → Op → Joint
-allreduce_joint l op = record { what = 3; label = l; operation = op_number op; root = 0 }
+abbrev pub operation_of : Op → Operation
+operation_of Min = W.Min
+operation_of Max = W.Max
+operation_of Sum = W.Sum
 
 module _ (roles : List CoreRole) (n : ℤ) where
   abbrev pub rank_of : CoreEnd → ℤ → ℕ
@@ -72,10 +61,10 @@ module _ (roles : List CoreRole) (n : ℤ) where
     flat_stmt opens i m (T.again id) rest = again (between id opens)
     flat_stmt opens i m (T.choice k at bs) rest = choice (from_one m at n i) (rank_of at i) k (flat_branches opens i bs) rest
     flat_stmt opens i m (run k at) rest = compute (from_one m at n i) (rank_of at i) k rest
-    flat_stmt opens i m barrier rest = together (from_none m) barrier_joint rest
-    flat_stmt opens i m (broadcast l root) rest = together (from_one m root n i) (broadcast_joint l (rank_of root i)) rest
-    flat_stmt opens i m (reduce l op root) rest = together (from_one m root n i) (reduce_joint l op (rank_of root i)) rest
-    flat_stmt opens i m (allreduce l op) rest = together (from_none m) (allreduce_joint l op) rest
+    flat_stmt opens i m barrier rest = together (from_none m) Barrier rest
+    flat_stmt opens i m (broadcast l root) rest = together (from_one m root n i) (Broadcast l (rank_of root i)) rest
+    flat_stmt opens i m (reduce l op root) rest = together (from_one m root n i) (Reduce l (operation_of op) (rank_of root i)) rest
+    flat_stmt opens i m (allreduce l op) rest = together (from_none m) (Allreduce l (operation_of op)) rest
 
     pub flat_block : List ℕ → ℤ → BlockTree → Block → Block
     flat_block opens i nothing rest = rest

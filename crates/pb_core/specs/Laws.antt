@@ -2,7 +2,7 @@
 use Rattle.std.specs.Prelude.{◌≡◌, ◌≢◌, ℕ, zero, suc, ◌+◌, ◌==◌, cond, ℤ, pos, ◌+ℤ◌, ◌≤ℤ◌, Option, None, List, [], ◌∷◌, filter_map}
 use Rattle.pb_affine.specs.declared.lin.Base.TheVariants.{Var}
 use Rattle.pb_affine.specs.Values.{value}
-use Rattle.pb_world.specs.Actions.{Act, Answers, sent_to, received_from, IsPrefixOf}
+use Rattle.pb_world.specs.Actions.{Action, AnswerTable, sent_to, received_from, IsPrefixOf}
 use Rattle.pb_core.specs.declared.protocol.CoreRole.{CoreRole}
 use Rattle.pb_core.specs.Ranks.{seats, total, number_in, at, size, place}
 use Rattle.pb_core.specs.Flat.{Block}
@@ -39,22 +39,22 @@ Totalled = (roles : List CoreRole) (n : ℤ) → AreInhabited roles n → pos (t
 -- ---- runs
 
 -- the label and the words of what p sends to q, and of what q receives from p
-abbrev pub sent_by : ℕ → ℕ → ℕ × Act → Option (ℕ × List ℕ)
+abbrev pub sent_by : ℕ → ℕ → ℕ × Action → Option (ℕ × List ℕ)
 sent_by p q e = cond (e.0 == p) (sent_to q e.1) None
 
-abbrev pub got_by : ℕ → ℕ → ℕ × Act → Option (ℕ × List ℕ)
+abbrev pub got_by : ℕ → ℕ → ℕ × Action → Option (ℕ × List ℕ)
 got_by p q e = cond (e.0 == q) (received_from p e.1) None
 
-abbrev pub sends : ℕ → ℕ → List (ℕ × Act) → List (ℕ × List ℕ)
+abbrev pub sends : ℕ → ℕ → List (ℕ × Action) → List (ℕ × List ℕ)
 sends p q w = filter_map (sent_by p q) w
 
-abbrev pub receipts : ℕ → ℕ → List (ℕ × Act) → List (ℕ × List ℕ)
+abbrev pub receipts : ℕ → ℕ → List (ℕ × Action) → List (ℕ × List ℕ)
 receipts p q w = filter_map (got_by p q) w
 
 -- a rank receives from another what that one sent to it, in order
 abbrev pub Matched : Type 0
-Matched = (w : Setting) (protocol : Block) (A : Answers) (m p q : ℕ) → receipts p q (seq w protocol A m) ≡ sends p q (seq w protocol A m)
+Matched = (w : Setting) (protocol : Block) (A : AnswerTable) (m p q : ℕ) → receipts p q (seq w protocol A m) ≡ sends p q (seq w protocol A m)
 
 -- a run begins each longer run
 abbrev pub Extends : Type 0
-Extends = (w : Setting) (protocol : Block) (A : Answers) (m more : ℕ) → IsPrefixOf (seq w protocol A m) (seq w protocol A (m + more))
+Extends = (w : Setting) (protocol : Block) (A : AnswerTable) (m more : ℕ) → IsPrefixOf (seq w protocol A m) (seq w protocol A (m + more))

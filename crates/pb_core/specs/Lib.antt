@@ -5,7 +5,6 @@ pub mod Flat
 pub mod FlatOf
 pub mod Run
 pub mod Collectives
-pub mod Public
 pub mod Outcomes
 pub mod Rules
 pub mod TakesPart

@@ -1,21 +1,21 @@
 -- The sequential run of a flat protocol, under a table of answers.
 use Rattle.std.specs.Prelude.{◌≡◌, ℕ, zero, suc, ◌<◌, ◌==◌, Bool, true, false, List, [], ◌∷◌, ◌++◌, length, map, replicate, nat_lt}
-use Rattle.pb_world.specs.Actions.{Act, Choose, Run, Send, Recv, Enter, Leave, Joint, of_rank, Answer, Answers, answers_of}
+use Rattle.pb_world.specs.Actions.{Action, Choose, Run, Send, Recv, Enter, Leave, Collective, of_rank, AnswerTable, answers_of}
 use Rattle.pb_world.specs.Family.{each}
-use Rattle.pb_world.specs.Sequencer.{popped_all, first_or, state_after, emitted}
+use Rattle.pb_world.specs.Sequencer.{answers_after_all, first_or, state_after, emitted}
 use Rattle.pb_core.specs.Flat.{Block, stop, message, compute, together, choice, looped, again, Branches, takes_part, in_choice, count, branch_at, first_ending}
 
 -- what a run knows besides the protocol: the ranks, how many words a label has, and what collectives do
 pub record Setting : Type 0 where
   pub total : ℕ
   pub size : ℕ → ℕ
-  pub weight : Joint → ℕ → ℕ  -- with how many words a rank enters
-  pub needs : Joint → ℕ → ℕ → Bool  -- whose entry a rank needs to leave
-  pub outcome : Joint → ℕ → (ℕ → List ℕ) → List ℕ  -- with what it leaves
+  pub weight : Collective → ℕ → ℕ  -- with how many words a rank enters
+  pub needs : Collective → ℕ → ℕ → Bool  -- whose entry a rank needs to leave
+  pub outcome : Collective → ℕ → (ℕ → List ℕ) → List ℕ  -- with what it leaves
 
 -- no more than what a rank needs counts
 abbrev pub Depends : Setting → Type 0
-Depends w = (j : Joint) (r : ℕ) (f g : ℕ → List ℕ) → ((p : ℕ) → p < w.total → w.needs j r p ≡ true → f p ≡ g p) → w.outcome j r f ≡ w.outcome j r g
+Depends w = (j : Collective) (r : ℕ) (f g : ℕ → List ℕ) → ((p : ℕ) → p < w.total → w.needs j r p ≡ true → f p ≡ g p) → w.outcome j r f ≡ w.outcome j r g
 
 -- in what a block stands
 pub data Opener : Type 0 where
@@ -74,7 +74,7 @@ move o K (again n) c = back_over o n K (back K)
 -- what is still to do, the innermost frame first, and the answers that are left
 pub record State : Type 0 where
   pub stack : List Frame
-  pub left : ℕ → Answer
+  pub left : AnswerTable
 
 -- words with which a rank enters: none, or its answer, or zeros
 abbrev pub enter_words : ℕ → (List ℕ → Bool) → List (List ℕ) → List ℕ
@@ -87,7 +87,7 @@ is_over_at (f ∷ K) = false
 
 module _ (w : Setting) where
   -- a branch that is there, words of the right length
-  abbrev pub is_allowed : ℕ → Act → Bool
+  abbrev pub is_allowed : ℕ → Action → Bool
   is_allowed r (Choose k n b) = nat_lt b n
   is_allowed r (Run k) = true
   is_allowed r (Send q l ws) = length ws == w.size l
@@ -96,16 +96,16 @@ module _ (w : Setting) where
   is_allowed r (Leave j ws) = true
 
   -- the branch that a rank takes, the words that it sends, and those with which it enters
-  abbrev pub branch_now : (ℕ → Answer) → ℕ → ℕ → Branches → ℕ
+  abbrev pub branch_now : AnswerTable → ℕ → ℕ → Branches → ℕ
   branch_now left p k bs = first_or (left p).branches (λ x. is_allowed p (Choose k (count bs) x)) (first_ending bs)
 
-  abbrev pub words_now : (ℕ → Answer) → ℕ → ℕ → ℕ → List ℕ
+  abbrev pub words_now : AnswerTable → ℕ → ℕ → ℕ → List ℕ
   words_now left p q l = first_or (left p).words (λ ws. is_allowed p (Send q l ws)) (replicate (w.size l) 0)
 
-  abbrev pub entered_now : (ℕ → Answer) → Joint → ℕ → List ℕ
+  abbrev pub entered_now : AnswerTable → Collective → ℕ → List ℕ
   entered_now left j p = enter_words (w.weight j p) (λ ws. is_allowed p (Enter j ws)) (left p).words
 
-  abbrev pub emit_at : Block → (ℕ → Answer) → List (ℕ × Act)
+  abbrev pub emit_at : Block → AnswerTable → List (ℕ × Action)
   emit_at stop left = []
   emit_at (message a p q l g) left = (p, Send q l (words_now left p q l)) ∷ (q, Recv p l (words_now left p q l)) ∷ []
   emit_at (compute a p k g) left = (p, Run k) ∷ []
@@ -114,7 +114,7 @@ module _ (w : Setting) where
   emit_at (looped a b g) left = []
   emit_at (again n) left = []
 
-  abbrev pub taken_at : Block → (ℕ → Answer) → ℕ
+  abbrev pub taken_at : Block → AnswerTable → ℕ
   taken_at (choice a p k bs g) left = branch_now left p k bs
   taken_at stop left = 0
   taken_at (message a p q l g) left = 0
@@ -123,32 +123,32 @@ module _ (w : Setting) where
   taken_at (looped a b g) left = 0
   taken_at (again n) left = 0
 
-  abbrev pub emit_of : List Frame → (ℕ → Answer) → List (ℕ × Act)
+  abbrev pub emit_of : List Frame → AnswerTable → List (ℕ × Action)
   emit_of [] left = []
   emit_of (f ∷ K) left = emit_at f.rest left
 
-  abbrev pub move_of : List Frame → (ℕ → Answer) → List Frame
+  abbrev pub move_of : List Frame → AnswerTable → List Frame
   move_of [] left = []
   move_of (f ∷ K) left = move f.opener K f.rest (taken_at f.rest left)
 
-  abbrev pub emit : State → List (ℕ × Act)
+  abbrev pub emit : State → List (ℕ × Action)
   emit q = emit_of q.stack q.left
 
   abbrev pub next : State → State
-  next q = record { stack = move_of q.stack q.left; left = λ r. popped_all (of_rank r (emit q)) (q.left r) }
+  next q = record { stack = move_of q.stack q.left; left = λ r. answers_after_all (of_rank r (emit q)) (q.left r) }
 
   -- The start of a protocol under a table of answers, the actions of the first m steps, and whether no statement is left
   -- then. A step without an action goes into a loop, back to one, or past the end of a block.
-  abbrev pub first_state : Block → Answers → State
+  abbrev pub first_state : Block → AnswerTable → State
   first_state protocol A = record { stack = record { opener = Top; rest = protocol } ∷ []; left = A }
 
-  abbrev pub seq : Block → Answers → ℕ → List (ℕ × Act)
+  abbrev pub seq : Block → AnswerTable → ℕ → List (ℕ × Action)
   seq protocol A m = emitted emit next m (first_state protocol A)
 
-  abbrev pub is_over : Block → Answers → ℕ → Bool
+  abbrev pub is_over : Block → AnswerTable → ℕ → Bool
   is_over protocol A m = is_over_at (state_after emit next m (first_state protocol A)).stack
 
   -- a run with these actions is whole: the sequential run under its answers ends, and each rank did its part of that
-  abbrev pub IsWhole : Block → List (ℕ × Act) → Type 0
+  abbrev pub IsWhole : Block → List (ℕ × Action) → Type 0
   IsWhole protocol w =
       (m : ℕ) × (is_over protocol (answers_of w) m ≡ true) × ((r : ℕ) → of_rank r w ≡ of_rank r (seq protocol (answers_of w) m))

@@ -1,6 +1,6 @@
 -- Who takes part, by the sentences on it: the least sets that keep them.
 use Rattle.std.specs.Prelude.{◌≡◌, ℕ, zero, suc, Bool, true, false, List, [], ◌∷◌}
-use Rattle.pb_world.specs.Actions.{Joint}
+use Rattle.pb_world.specs.Actions.{Collective}
 use Rattle.pb_core.specs.Tree.{Mark}
 use Rattle.pb_core.specs.Flat.{Origin, Block, message, compute, together, choice, looped, again, Branches, branch, nth, takes_part}
 
@@ -18,7 +18,7 @@ mutual
     after_message : {E : List Block} {a : Origin} {barred : List Bool} {p q l : ℕ} {g : Block} → Takes r E barred g → Takes r E barred (message a p q l g)
     computes : {E : List Block} {a : Origin} {barred : List Bool} {p k : ℕ} {g : Block} → p ≡ r → Takes r E barred (compute a p k g)
     after_compute : {E : List Block} {a : Origin} {barred : List Bool} {p k : ℕ} {g : Block} → Takes r E barred g → Takes r E barred (compute a p k g)
-    joins : {E : List Block} {a : Origin} {barred : List Bool} {j : Joint} {g : Block} → Takes r E barred (together a j g)
+    joins : {E : List Block} {a : Origin} {barred : List Bool} {j : Collective} {g : Block} → Takes r E barred (together a j g)
     chooses : {E : List Block} {a : Origin} {barred : List Bool} {p k : ℕ} {bs : Branches} {g : Block} → p ≡ r → Takes r E barred (choice a p k bs g)
     in_branch : {E : List Block} {a : Origin} {barred : List Bool} {p k : ℕ} {bs : Branches} {g : Block} → Takes_some r E barred bs → Takes r E barred (choice a p k bs g)
     after_choice : {E : List Block} {a : Origin} {barred : List Bool} {p k : ℕ} {bs : Branches} {g : Block} → Takes r E barred g → Takes r E barred (choice a p k bs g)
