@@ -37,4 +37,8 @@ folder_steady folder = length folder.calls.fails.items == 0
 pub record CountsCall {T E : Type 0} (old new : MemFolder) (result : Result T E) : Type 0 where
   pub calls : folder_calls new ≡ next_count (folder_calls old)
   pub faults : folder_faults new ≡ (if is_ok result then folder_faults old else next_count (folder_faults old))
+
+-- what the folder was made with stays
+pub record KeepsFiles (old new : MemFolder) : Type 0 where
+  pub files : folder_files new ≡ folder_files old
   pub fails : folder_fails new ≡ folder_fails old

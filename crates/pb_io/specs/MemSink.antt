@@ -1,6 +1,6 @@
 -- What a sink in memory takes, and which of its pieces fail.
-use Rattle.std.specs.Prelude.{◌≡◌, ℕ, ◌-◌, min, Bool, List, length}
-use Rattle.pb_io.specs.Faults.{is_among}
+use Rattle.std.specs.Prelude.{◌≡◌, ℕ, ◌-◌, ◌==◌, if◌then◌else◌, min, Bool, List, length, Result, is_ok}
+use Rattle.pb_io.specs.Faults.{is_among, next_count}
 use Rattle.pb_io.specs.declared.mem_sink.MemSink.{MemSink}
 
 -- the bytes taken so far
@@ -33,6 +33,11 @@ fitting_count sink piece = min (min (length piece) sink.most) (sink.room - lengt
 -- the next piece with bytes fails by its number
 abbrev pub sink_fails_now : MemSink → Bool
 sink_fails_now sink = is_among sink.calls.next sink.calls.fails.items
+
+-- one more piece, where it has bytes, and one more fault where it failed
+pub record CountsPiece {T E : Type 0} (old new : MemSink) (piece : List ℕ) (result : Result T E) : Type 0 where
+  pub calls : sink_calls new ≡ (if length piece == 0 then sink_calls old else next_count (sink_calls old))
+  pub faults : sink_faults new ≡ (if is_ok result then sink_faults old else next_count (sink_faults old))
 
 -- what the sink was made with stays
 pub record KeepsSettings (old new : MemSink) : Type 0 where

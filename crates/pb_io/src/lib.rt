@@ -32,3 +32,6 @@ pub use sink::Sink;
 pub use sure_folder::SureFolder;
 pub use sure_sink::SureSink;
 pub use writing::write_all;
+
+#[cfg(test)]
+mod tests;

@@ -1,9 +1,9 @@
-ghost use Rattle.std.specs.Prelude.{◌≡◌, ◌+◌, ◌≤◌, ◌⊎◌, true, false, Some, None, [], length, min, IsOk, IsSome, IfOk, OnOk, OnErr};
+ghost use Rattle.std.specs.Prelude.{◌≡◌, ◌⊎◌, true, false, Some, None, [], length, min, IsSome, IfOk, OnOk, OnErr};
 ghost use Rattle.std.specs.Io.{ReadsAtMost};
 ghost use Rattle.std.specs.Io.KnownBytes.{ReadConsumes};
 ghost use Rattle.pb_io.specs.Entries.{entries};
 ghost use Rattle.pb_io.specs.Faults.{HasCause, next_count};
-ghost use Rattle.pb_io.specs.Files.{Opens, IsSure, IsSureOf, file_of};
+ghost use Rattle.pb_io.specs.Files.{Opens, file_of};
 
 use crate::calls::{Calls, count_up};
 use crate::shelf::Shelf;
@@ -43,7 +43,7 @@ impl MemFolder {
 }
 
 impl Folder for MemFolder {
-    ghost use Rattle.pb_io.specs.MemFolder.{folder_files, folder_left, folder_faults, folder_reads, folder_fails_now, folder_steady, CountsCall};
+    ghost use Rattle.pb_io.specs.MemFolder.{folder_files, folder_left, folder_faults, folder_reads, folder_fails_now, folder_steady, CountsCall, KeepsFiles};
 
     ghost holds = { λ folder. Some (folder_files folder) };
 
@@ -56,19 +56,16 @@ impl Folder for MemFolder {
     ghost reads = { folder_reads };
 
     fn open_file(&mut self, name: &str) -> Result<(), Failed>
-        ensures opened { Opens (⟦<MemFolder as Folder>⟧.holds self.old) name.now
-            (⟦<MemFolder as Folder>⟧.left self.old) (⟦<MemFolder as Folder>⟧.left self.new) result }
-        ensures sure { IsSureOf (⟦<MemFolder as Folder>⟧.steady self.old) (⟦<MemFolder as Folder>⟧.holds self.old) name.now → IsOk result }
-        ensures holds { ⟦<MemFolder as Folder>⟧.holds self.new ≡ ⟦<MemFolder as Folder>⟧.holds self.old }
-        ensures steady { ⟦<MemFolder as Folder>⟧.steady self.new ≡ ⟦<MemFolder as Folder>⟧.steady self.old }
-        ensures reads { ⟦<MemFolder as Folder>⟧.reads self.new ≤ ⟦<MemFolder as Folder>⟧.reads self.old }
-        ensures cause { HasCause (⟦<MemFolder as Folder>⟧.faults self.old) (⟦<MemFolder as Folder>⟧.faults self.new) result }
-
-        // Which calls fail, and what is counted.
-        ensures failed { OnErr result ((folder_fails_now self.old ≡ true) ⊎ (file_of (folder_files self.old) name.now ≡ None)) }
-        ensures done { OnOk result ((folder_fails_now self.old ≡ false) × IsSome (file_of (folder_files self.old) name.now)) }
+        ensures opened { Opens (Some (folder_files self.old)) name.now
+            (Some (folder_left self.old)) (Some (folder_left self.new)) result }
+        ensures failed { OnErr result ((folder_fails_now self.old ≡ true)
+            ⊎ (file_of (folder_files self.old) name.now ≡ None)) }
+        ensures done { OnOk result ((folder_fails_now self.old ≡ false)
+            × IsSome (file_of (folder_files self.old) name.now)) }
         ensures counts { CountsCall self.old self.new result }
-        ensures reads_stay { folder_reads self.new ≡ folder_reads self.old }
+        ensures cause { HasCause (folder_faults self.old) (folder_faults self.new) result }
+        ensures reads { folder_reads self.new ≡ folder_reads self.old }
+        ensures settings { KeepsFiles self.old self.new }
     {
         if self.calls.next_fails() {
             count_up(&mut self.faults);
@@ -88,19 +85,14 @@ impl Folder for MemFolder {
 
     fn read(&mut self, buf: &mut [u8]) -> Result<usize, Failed>
         ensures count { ReadsAtMost result buf.new }
-        ensures bytes { ReadConsumes (⟦<MemFolder as Folder>⟧.left self.old) (⟦<MemFolder as Folder>⟧.left self.new) result buf.new }
-        ensures sure { IsSure (⟦<MemFolder as Folder>⟧.steady self.old) (⟦<MemFolder as Folder>⟧.holds self.old) → IsOk result }
-        ensures holds { ⟦<MemFolder as Folder>⟧.holds self.new ≡ ⟦<MemFolder as Folder>⟧.holds self.old }
-        ensures steady { ⟦<MemFolder as Folder>⟧.steady self.new ≡ ⟦<MemFolder as Folder>⟧.steady self.old }
-        ensures reads { ⟦<MemFolder as Folder>⟧.reads self.new ≤ (⟦<MemFolder as Folder>⟧.reads self.old + 1) }
-        ensures cause { HasCause (⟦<MemFolder as Folder>⟧.faults self.old) (⟦<MemFolder as Folder>⟧.faults self.new) result }
-
-        // Which calls fail, how much is read, and what is counted.
-        ensures failed { OnErr result (folder_fails_now self.old ≡ true) }
-        ensures done { OnOk result (folder_fails_now self.old ≡ false) }
+        ensures bytes { ReadConsumes (Some (folder_left self.old)) (Some (folder_left self.new)) result buf.new }
         ensures exact { IfOk result (λ n. n ≡ min (length buf.old) (length (folder_left self.old))) }
+        ensures failed { OnErr result ((folder_fails_now self.old ≡ true) × (buf.new ≡ buf.old)) }
+        ensures done { OnOk result (folder_fails_now self.old ≡ false) }
         ensures counts { CountsCall self.old self.new result }
-        ensures reads_rise { folder_reads self.new ≡ next_count (folder_reads self.old) }
+        ensures cause { HasCause (folder_faults self.old) (folder_faults self.new) result }
+        ensures reads { folder_reads self.new ≡ next_count (folder_reads self.old) }
+        ensures settings { KeepsFiles self.old self.new }
     {
         count_up(&mut self.reads);
         if self.calls.next_fails() {

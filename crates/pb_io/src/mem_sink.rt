@@ -1,6 +1,6 @@
-ghost use Rattle.std.specs.Prelude.{◌≡◌, ◌+◌, ◌<◌, ◌≤◌, ◌⊎◌, true, false, if◌then◌else◌, Some, [], length, is_ok, IsOk, IfOk, OnOk, OnErr, vec_capacity};
+ghost use Rattle.std.specs.Prelude.{◌≡◌, ◌<◌, ◌≤◌, ◌⊎◌, true, false, Some, [], length, IfOk, OnOk, OnErr, vec_capacity};
 ghost use Rattle.std.specs.Io.KnownBytes.{WriteAppends};
-ghost use Rattle.pb_io.specs.Faults.{HasCause, next_count};
+ghost use Rattle.pb_io.specs.Faults.{HasCause};
 ghost use Rattle.pb_io.specs.Sinks.{IsCountOf};
 
 use crate::calls::{Calls, count_up};
@@ -60,7 +60,7 @@ impl MemSink {
 }
 
 impl Sink for MemSink {
-    ghost use Rattle.pb_io.specs.MemSink.{sink_taken, sink_calls, sink_faults, fitting_count, sink_fails_now, KeepsSettings};
+    ghost use Rattle.pb_io.specs.MemSink.{sink_taken, sink_faults, fitting_count, sink_fails_now, CountsPiece, KeepsSettings};
 
     ghost taken = { λ sink. Some (sink_taken sink) };
 
@@ -68,17 +68,13 @@ impl Sink for MemSink {
 
     fn write(&mut self, piece: &[u8]) -> Result<usize, Failed>
         ensures count { IfOk result (IsCountOf piece.now) }
-        ensures empty { length piece.now ≡ 0 → IsOk result }
-        ensures bytes { WriteAppends (⟦<MemSink as Sink>⟧.taken self.old) (⟦<MemSink as Sink>⟧.taken self.new) result piece.now }
-        ensures cause { HasCause (⟦<MemSink as Sink>⟧.faults self.old) (⟦<MemSink as Sink>⟧.faults self.new) result }
-
-        // Which pieces fail, how much is taken, and what is counted.
-        ensures failed { OnErr result ((0 < length piece.now) × ((fitting_count self.old piece.now ≡ 0) ⊎ (sink_fails_now self.old ≡ true))) }
-        ensures done { OnOk result (0 < length piece.now → sink_fails_now self.old ≡ false) }
         ensures exact { IfOk result (λ n. n ≡ fitting_count self.old piece.now) }
-        ensures calls { 0 < length piece.now → sink_calls self.new ≡ next_count (sink_calls self.old) }
-        ensures no_call { length piece.now ≡ 0 → sink_calls self.new ≡ sink_calls self.old }
-        ensures counts { sink_faults self.new ≡ (if is_ok result then sink_faults self.old else next_count (sink_faults self.old)) }
+        ensures bytes { WriteAppends (Some (sink_taken self.old)) (Some (sink_taken self.new)) result piece.now }
+        ensures failed { OnErr result ((0 < length piece.now)
+            × ((fitting_count self.old piece.now ≡ 0) ⊎ (sink_fails_now self.old ≡ true))) }
+        ensures done { OnOk result (0 < length piece.now → sink_fails_now self.old ≡ false) }
+        ensures counts { CountsPiece self.old self.new piece.now result }
+        ensures cause { HasCause (sink_faults self.old) (sink_faults self.new) result }
         ensures settings { KeepsSettings self.old self.new }
     {
         if piece.is_empty() {

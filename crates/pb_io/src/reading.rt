@@ -23,7 +23,7 @@ pub fn read_all<F: Folder>(
 ) -> Result<Vec<u8>, InFault>
     ensures whole { IfOk result (λ bytes. IsContent (F.holds folder.old) name.now bytes.items) }
     ensures size { IfOk result (λ bytes. vec_len bytes ≤ limit) }
-    ensures end { OnOk result (IfSome (F.holds folder.old) (λ _. IsAtEnd (F.left folder.new))) }
+    ensures end { OnOk result (IsAtEnd (F.left folder.new)) }
     ensures too_long { IsErrOf result InFault.TooLong
         → IfSome (F.holds folder.old) (λ files. limit < length (content_of files name.now)) }
     ensures stands { IfErr result (λ fault.

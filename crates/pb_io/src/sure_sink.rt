@@ -1,7 +1,4 @@
-ghost use Rattle.std.specs.Prelude.{◌≡◌, ◌+◌, ◌-◌, ◌^◌, min, None, length, IsOk, IfOk};
-ghost use Rattle.std.specs.Io.KnownBytes.{WriteAppends};
-ghost use Rattle.pb_io.specs.Faults.{HasCause};
-ghost use Rattle.pb_io.specs.Sinks.{IsCountOf};
+ghost use Rattle.std.specs.Prelude.{◌≡◌, ◌+◌, ◌-◌, ◌^◌, min, None, length};
 
 use crate::{Failed, Sink};
 
@@ -37,12 +34,7 @@ impl Sink for SureSink {
     ghost faults = { λ _. 0 };
 
     fn write(&mut self, piece: &[u8]) -> Result<usize, Failed>
-        ensures count { IfOk result (IsCountOf piece.now) }
-        ensures empty { length piece.now ≡ 0 → IsOk result }
-        ensures bytes { WriteAppends (⟦<SureSink as Sink>⟧.taken self.old) (⟦<SureSink as Sink>⟧.taken self.new) result piece.now }
-        ensures cause { HasCause (⟦<SureSink as Sink>⟧.faults self.old) (⟦<SureSink as Sink>⟧.faults self.new) result }
-
-        ensures exact { IfOk result (λ n. n ≡ length piece.now) }
+        ensures whole { result ≡ Ok (length piece.now) }
         ensures counts { sure_count self.new ≡ min (sure_count self.old + length piece.now) (2 ^ 64 - 1) }
     {
         self.count = self.count.saturating_add(piece.len() as u64);
