@@ -56,11 +56,13 @@ fn writes_what_fits(rt: HostRuntime) -> Result<(), Fail> {
         (12, 5, 2, 10),
         (12, 1, 11, 11),
     ] {
+        assert!(rt; 1 <= most);
         let fails = [fails].to_vec(rt.alloc())?;
         let mut sink = MemSink::new(rt.alloc(), room, most, fails)?;
         let written = write_all(&mut sink, b"Hello, pipe!");
         assert_eq!(rt; written.is_ok(), expected == 12, "{room} {most}");
-        assert_eq!(rt; sink.taken(), &b"Hello, pipe!"[..expected], "{room} {most}");
+        assert_eq!(rt; sink.taken().len(), expected, "{room} {most}");
+        assert!(rt; b"Hello, pipe!".starts_with(sink.taken()), "{room} {most}");
     }
     Ok(())
 }
