@@ -1,9 +1,9 @@
 -- What a set of names does with one more name, in the words of a table.
-use Rattle.std.proofs.Common.{◌≡◌, ℕ, suc, ◌+◌, ◌<◌, ◌≤◌, List, [], ◌∷◌, ◌++◌, length, refl, sym, ap, subst, ◌∙◌, arith, rules, Bool, true, false, cond, nat_eq, nat_lt, ltb, Some, None, MatchOption, if◌then◌else◌, ◌||◌, not, position}
+use Rattle.std.proofs.Common.{◌≡◌, ℕ, suc, ◌+◌, List, [], ◌∷◌, ◌++◌, length, refl, sym, ap, subst, ◌∙◌, arith, Bool, true, false, cond, nat_eq, nat_lt, Some, None, MatchOption, if◌then◌else◌, ◌||◌, not}
 use Rattle.std.specs.List.{list_any, position_or_len}
 use Rattle.std.specs.Cmp.Lexicographic.{pointwise}
 use Rattle.std.proofs.lemmas.Bool.{lt-ltb, ltb-true, ltb_from_iff}
-use Rattle.pb_text.specs.Tables.{IsInterned, position_of}
+use Rattle.pb_text.specs.Tables.{IsInterned}
 use Rattle.pb_text.specs.contracts.name.NamePartialEq.TheImpl.{eq-value}
 use Rattle.pb_text.proofs.Same.{same_test}
 

@@ -1,5 +1,5 @@
 -- A table of distinct names, each known by its position.
-use Rattle.std.specs.Prelude.{◌≡◌, ◌≢◌, ℕ, ◌<◌, ◌^◌, List, [], ◌∷◌, ◌++◌, length, Option, Some, None, MatchOption, nat_eq, position, slice_index_or}
+use Rattle.std.specs.Prelude.{◌≡◌, ◌≢◌, ℕ, ◌<◌, ◌^◌, List, [], ◌∷◌, ◌++◌, length, Option, MatchOption, nat_eq, position, slice_index_or}
 use Rattle.std.specs.Cmp.Lexicographic.{pointwise}
 
 -- no name stands twice

@@ -1,4 +1,4 @@
-use Rattle.std.proofs.Common.{◌≡◌, ◌∙◌, ap, position, nat_eq}
+use Rattle.std.proofs.Common.{◌∙◌, ap, position}
 use Rattle.pb_text.specs.Tables.{position_of}
 use Rattle.pb_text.proofs.Same.{same_test}
 use Rattle.pb_text.proofs.names.Names.find.Goals as goal

@@ -1,4 +1,4 @@
-use Rattle.std.proofs.Common.{Some, ◌<◌, ◌^◌, ◌≤◌, ◌+◌, ◌∙◌, ◌-◌, ◌≡◌, sym, subst, ap, length, arith, ℕ, List, Bool, true, false, if◌then◌else◌}
+use Rattle.std.proofs.Common.{Some, ◌<◌, ◌^◌, ◌+◌, ◌∙◌, ◌-◌, ◌≡◌, sym, subst, ap, length, arith, ℕ, List, Bool, true, false, if◌then◌else◌}
 use Rattle.pb_text.specs.Tables.{IsInterned, IsTable}
 use Rattle.pb_text.proofs.Same.{distinct_names, same_decides}
 use Rattle.pb_text.proofs.Interned.{interned}
