@@ -1,0 +1,37 @@
+-- The tokens of a text, and its first lexical fault.
+use Rattle.std.specs.Prelude.{◌≡◌, ℕ, ◌≤◌, ◌<◌, List, [], ◌∷◌, ◌++◌, take, drop, length, Option, None, Some}
+use Rattle.pb_text.specs.Places.{first_place, place_after}
+use Rattle.pb_text.specs.Lexemes.{Lexeme, gap, token, bad, Fault, lexeme}
+use Rattle.pb_text.specs.Spellings.{key_of}
+use Rattle.pb_text.specs.declared.place.Place.{Place}
+use Rattle.pb_text.specs.declared.token.Token.{Token}
+use Rattle.pb_text.specs.declared.token.TokenKind.{TokenKind}
+use Rattle.pb_text.specs.declared.token.TokenKind.TheVariants as kind
+
+-- from a place on, these bytes are these tokens, with gaps between them, up to the place `end` and the bytes `rest`
+pub data Lexes (end : Place) (rest : List ℕ) : Place → List ℕ → List Token → Type 0 where
+  done : Lexes end rest end rest []
+  skip : {place : Place} {bytes : List ℕ} {tokens : List Token} (len : ℕ) → lexeme bytes ≡ gap len
+      → Lexes end rest (place_after place (take len bytes)) (drop len bytes) tokens → Lexes end rest place bytes tokens
+  read : {place : Place} {bytes : List ℕ} {tokens : List Token} (what : TokenKind) (len : ℕ) → lexeme bytes ≡ token what len
+      → Lexes end rest (place_after place (take len bytes)) (drop len bytes) tokens
+      → Lexes end rest place bytes (record { kind = what; place = place } ∷ tokens)
+
+-- the bytes are a text with these tokens
+abbrev pub IsText : List ℕ → List Token → Type 0
+IsText bytes tokens = (end : Place) × Lexes end [] first_place bytes tokens
+
+-- the first lexical fault of the bytes, and where it begins
+abbrev pub IsFirstFault : List ℕ → Fault → Place → Type 0
+IsFirstFault bytes fault place =
+    (rest : List ℕ) × (tokens : List Token) × Lexes place rest first_place bytes tokens × (lexeme rest ≡ bad fault)
+
+-- a name has 1 to 64 bytes and is no keyword, and a number is at most 2,000,000,000
+abbrev pub IsSoundKind : TokenKind → Type 0
+IsSoundKind (kind.Word name) = (0 < length name) × (length name ≤ 64) × (key_of name ≡ None)
+IsSoundKind (kind.Key key) = Unit {0}
+IsSoundKind (kind.Number n) = n ≤ 2000000000
+IsSoundKind (kind.Mark mark) = Unit {0}
+
+abbrev pub IsSoundToken : Token → Type 0
+IsSoundToken t = IsSoundKind t.kind
