@@ -3,3 +3,4 @@ mod Numbers
 mod LeastSets
 mod RunLaws
 mod Rows
+mod FileRows

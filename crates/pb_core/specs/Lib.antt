@@ -9,3 +9,9 @@ pub mod Outcomes
 pub mod Rules
 pub mod TakesPart
 pub mod Laws
+pub mod Names
+pub mod FileRules
+pub mod Meaning
+pub mod Verdict
+pub mod Parts
+pub mod Cuts
