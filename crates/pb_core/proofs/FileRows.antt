@@ -114,9 +114,9 @@ one_rank = refl
 -- `A() from W[i:0..N-2] to W[i+1];` is a foreach of number 0 with block 1, in which the message is number 1
 bound_message : (meaning (file (more (message (spot (codes "A") 3) Signal (every (codes "i") 12 (range (number (pos 0) 16) (over (codes "N") (negsuc 1) 19))) (w 27 (over (codes "i") (pos 1) 29))) nothing))).body.block
     ≡ T.more (record { number = 0; place = at 3 3 })
-      (T.foreach (record { low = record { base = Fixed; off = pos 0 }; high = record { base = Param; off = negsuc 1 } }) (record { number = 1; place = at 3 3 })
-        (T.more (record { number = 1; place = at 3 3 })
-          (T.message 0 (record { role = 0; at = record { base = Var; off = pos 0 }; place = at 3 12 }) (record { role = 0; at = record { base = Var; off = pos 1 }; place = at 3 27 }))
-          T.nothing))
-      T.nothing
+    (T.foreach (record { low = record { base = Fixed; off = pos 0 }; high = record { base = Param; off = negsuc 1 } }) (record { number = 1; place = at 3 3 })
+    (T.more (record { number = 1; place = at 3 3 })
+    (T.message 0 (record { role = 0; at = record { base = Var; off = pos 0 }; place = at 3 12 }) (record { role = 0; at = record { base = Var; off = pos 1 }; place = at 3 27 }))
+    T.nothing))
+    T.nothing
 bound_message = refl

@@ -249,5 +249,5 @@ nested_rank_3 : takes_part [] 3 (flat_at nested (pos 4)) ≡ false
 nested_rank_3 = refl
 
 -- inside the inner loop: W[2] finds the continue of the outer loop in the second branch, and nothing in the first
-nested_breaks : breaches nested (pos 4) ≡ breach 10 3 8 (pos 2) ∷ breach 10 4 13 (pos 1) ∷ breach 10 4 13 (pos 2) ∷ []
+nested_breaks : breaches nested (pos 4) ≡ breach 10 4 13 (pos 1) ∷ breach 10 3 8 (pos 2) ∷ breach 10 4 13 (pos 2) ∷ []
 nested_breaks = refl

@@ -213,9 +213,9 @@ abbrev mutual
 -- a role without a range has the index 0 alone
 abbrev pub role_of : Name → RoleText → CoreRole
 role_of constant r = elim r.range [
-    | None ↦ record { name = r.role.name; place = r.role.place; low = record { base = Fixed; off = pos 0 }; high = record { base = Fixed; off = pos 0 } }
-    | Some over ↦ record { name = r.role.name; place = r.role.place; low = lin_of constant over.low; high = lin_of constant over.high }
-  ]
+  | None ↦ record { name = r.role.name; place = r.role.place; low = record { base = Fixed; off = pos 0 }; high = record { base = Fixed; off = pos 0 } }
+  | Some over ↦ record { name = r.role.name; place = r.role.place; low = lin_of constant over.low; high = lin_of constant over.high }
+]
 
 abbrev pub roles_of : Name → List RoleText → List CoreRole
 roles_of constant [] = []

@@ -1,4 +1,4 @@
--- The rules 6 to 12 at one N: the places at which each is broken, in the order of the file, with the rank that is named.
+-- The rules 6 to 12 at one N: the places at which each is broken, in the order of the file, and for 10 to 12 rank by rank.
 use Rattle.std.specs.Prelude.{ℕ, zero, suc, ℤ, pos, ◌==◌, Bool, true, false, ◌||◌, ◌&&◌, not, if◌then◌else◌, Option, Some, None, List, [], ◌∷◌, ◌++◌, map, filter}
 use Rattle.pb_affine.specs.Values.{value, range}
 use Rattle.pb_core.specs.declared.protocol.CoreRole.{CoreRole}
@@ -10,14 +10,14 @@ use Rattle.pb_core.specs.FlatOf.{flat}
 use Rattle.pb_core.specs.Run.{Env, at_rank}
 use Rattle.pb_core.specs.Outcomes.{Outcome, firsts, only_receives, comes_from_one, labels_of, none_shared}
 
--- for some number below T, and the numbers below T for which a test holds, ascending
+-- for some number below T, and what there is for each number below T, ascending
 abbrev pub some_below : ℕ → (ℕ → Bool) → Bool
 some_below zero f = false
 some_below (suc n) f = f n || some_below n f
 
-abbrev pub below : ℕ → (ℕ → Bool) → List ℕ
-below zero f = []
-below (suc n) f = below n f ++ (if f n then n ∷ [] else [])
+abbrev pub over_below : {A : Type 0} → ℕ → (ℕ → List A) → List A
+over_below zero f = []
+over_below (suc n) f = over_below n f ++ f n
 
 -- ---- rule 6: each role has at least one index
 
@@ -102,30 +102,24 @@ abbrev mutual
 
 -- ---- rules 10 to 12: what a rank that is told of a choice finds first in its branches
 
--- a rank, at the mark of a block
-pub record Placed : Type 0 where
-  pub mark : Mark
-  pub rank : ℕ
-
--- The ranks other than the chooser that take part in some branch, at each branch in which what they find first doesn't
--- fit, beside what they find first in the branches before it.
+-- The branches in which what a rank finds first doesn't fit, beside what it finds first in the branches before. It is asked
+-- of a rank that isn't the chooser and takes part in some branch.
 module _ (fits : (before here : List Outcome) → Bool) where
   abbrev mutual
-    pub misfits : ℕ → Env → Block → List Placed
-    misfits T env stop = []
-    misfits T env (message a p q l g) = misfits T env g
-    misfits T env (compute a p k g) = misfits T env g
-    misfits T env (together a j g) = misfits T env g
-    misfits T env (choice a p k bs g) =
-        misfits_among T env (λ r. not (p == r) && takes_part_among (at_rank r env) r bs) (λ r. []) bs ++ misfits T env g
-    misfits T env (looped a b g) = misfits T ((λ r. takes_part (false ∷ at_rank r env) r b) ∷ env) b ++ misfits T env g
-    misfits T env (again n) = []
+    pub misfits : List Bool → ℕ → Block → List Mark
+    misfits held r stop = []
+    misfits held r (message a p q l g) = misfits held r g
+    misfits held r (compute a p k g) = misfits held r g
+    misfits held r (together a j g) = misfits held r g
+    misfits held r (choice a p k bs g) = misfits_among held r (not (p == r) && takes_part_among held r bs) [] bs ++ misfits held r g
+    misfits held r (looped a b g) = misfits (takes_part (false ∷ held) r b ∷ held) r b ++ misfits held r g
+    misfits held r (again n) = []
 
-    pub misfits_among : ℕ → Env → (ℕ → Bool) → (ℕ → List Outcome) → Branches → List Placed
-    misfits_among T env told before no_branch = []
-    misfits_among T env told before (branch m b bs) =
-        map (λ r. record { mark = m; rank = r }) (below T (λ r. told r && not (fits (before r) (firsts (at_rank r env) r b))))
-        ++ (misfits T env b ++ misfits_among T env told (λ r. before r ++ firsts (at_rank r env) r b) bs)
+    pub misfits_among : List Bool → ℕ → Bool → List Outcome → Branches → List Mark
+    misfits_among held r is_told before no_branch = []
+    misfits_among held r is_told before (branch m b bs) =
+        (if is_told && not (fits before (firsts held r b)) then m ∷ [] else [])
+        ++ (misfits held r b ++ misfits_among held r is_told (before ++ firsts held r b) bs)
 
 -- rule 10: it finds only receives
 abbrev pub receives_only : List Outcome → List Outcome → Bool
@@ -153,8 +147,8 @@ nobody k m = record { rule = k; mark = m; at = None }
 abbrev pub somebody : ℕ → Asked → Breach
 somebody k a = record { rule = k; mark = a.mark; at = Some a.seat }
 
-abbrev pub ranked : ℕ → List Seat → Placed → Breach
-ranked k ranks e = record { rule = k; mark = e.mark; at = Some (seat_at e.rank ranks) }
+abbrev pub ranked : ℕ → Seat → Mark → Breach
+ranked k seat m = record { rule = k; mark = m; at = Some seat }
 
 module _ (p : Protocol) (n : ℤ) where
   abbrev pub flat_at : Block
@@ -165,6 +159,10 @@ module _ (p : Protocol) (n : ℤ) where
 
   abbrev pub ranks_at : List Seat
   ranks_at = seats p.roles n
+
+  -- for each rank, ascending
+  abbrev pub misfitting : ℕ → (List Outcome → List Outcome → Bool) → List Breach
+  misfitting k fits = over_below total_at (λ r. map (ranked k (seat_at r ranks_at)) (misfits fits [] r flat_at))
 
   abbrev pub broken_6 : List Breach
   broken_6 = map (nobody 6) (empty_roles 0 p.roles n)
@@ -179,13 +177,13 @@ module _ (p : Protocol) (n : ℤ) where
   broken_9 = map (nobody 9) (deserted total_at [] flat_at)
 
   abbrev pub broken_10 : List Breach
-  broken_10 = map (ranked 10 ranks_at) (misfits receives_only total_at [] flat_at)
+  broken_10 = misfitting 10 receives_only
 
   abbrev pub broken_11 : List Breach
-  broken_11 = map (ranked 11 ranks_at) (misfits keeps_source total_at [] flat_at)
+  broken_11 = misfitting 11 keeps_source
 
   abbrev pub broken_12 : List Breach
-  broken_12 = map (ranked 12 ranks_at) (misfits keeps_labels total_at [] flat_at)
+  broken_12 = misfitting 12 keeps_labels
 
   -- each rule's, one rule after the other
   abbrev pub breaches : List Breach

@@ -6,8 +6,7 @@ ghost use Rattle.pb_core.specs.TakesPart.{BodyIs, ContinueIs, Least};
 pub fn ranks_are_numbered()
     ensures numbered { Numbered }
     ensures totalled { Totalled }
-{
-}
+{}
 
 /// Those who take part, as computed, are the least sets that keep the sentences on it. A rank takes part in a `continue`
 /// exactly where it takes part in the loop's body for another reason, and so the `continue` adds nobody to the loop.
@@ -16,19 +15,16 @@ pub fn takers_are_least()
     ensures least { Least }
     ensures continues { ContinueIs }
     ensures body { BodyIs }
-{
-}
+{}
 
 /// In a sequential run a rank receives from another what that one sent to it, in order.
 #[tactic(auto, using(crate::proofs::RunLaws::matched))]
 pub fn receives_match()
     ensures { Matched }
-{
-}
+{}
 
 /// A sequential run begins each longer one under the same answers.
 #[tactic(auto, using(crate::proofs::RunLaws::extends))]
 pub fn runs_extend()
     ensures { Extends }
-{
-}
+{}
