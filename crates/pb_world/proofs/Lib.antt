@@ -12,3 +12,4 @@ pub mod Shadow
 pub mod CarryLaws
 pub mod ExampleLaws
 pub mod Recorded
+pub mod OnceFollows

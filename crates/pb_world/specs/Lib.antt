@@ -6,5 +6,6 @@ pub mod World
 pub mod Log
 pub mod Theorem
 pub mod Sequencer
+pub mod Once
 pub mod Carry
 pub mod Example
