@@ -1,0 +1,13 @@
+pub mod Kept
+pub mod Clean
+pub mod Stacks
+pub mod Branches
+pub mod Keep
+pub mod Moves
+pub mod Whole
+pub mod Progress
+pub mod Derive
+pub mod Accepted
+pub mod Starts
+pub mod OnceLaws
+pub mod Collected

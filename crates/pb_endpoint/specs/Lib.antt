@@ -1,0 +1,4 @@
+pub mod Tests
+pub mod Endpoint
+pub mod Theorem
+pub mod Once
