@@ -4,10 +4,11 @@ use Rattle.std.proofs.lemmas.Bool.{eq-eqb, eqb-true, ltb-true}
 use Rattle.pb_world.proofs.Lists.{eqb_cases}
 use Rattle.pb_core.specs.Flat.{Block, stop, message, compute, together, choice, looped, again, Branches, no_branch, branch, nth, takes_part, takes_part_among, count, branch_at, can_end, some_can_end}
 use Rattle.pb_core.specs.Run.{Setting, Env, at_rank}
-use Rattle.pb_core.specs.Outcomes.{Outcome, nothing_first, receives, other_first, again_first, or_then, firsts, firsts_among, only_receives, only_from, source_of, labels_of, is_among, none_shared}
-use Rattle.pb_endpoint.specs.Tests.{are_apart}
-use Rattle.pb_endpoint.specs.Tests.{all_below, some_below, is_formed, are_formed, is_stop, loops_end, loops_end_each, ends_before, ends_before_each, holds_again, holds_again_among, is_peopled, are_peopled, at_choices, at_choices_among, receives_only, from_one, Accepted}
-use Rattle.pb_endpoint.proofs.Kept.{Receives_first, Receives_each, first_label, first_label_among, Apart, IsTold, Keeps, Keeps_each, Loops_end, Loops_end_each, Ends_before, Ends_before_each, Has, Continued, Continued_each, Obeys}
+use Rattle.pb_core.specs.Outcomes.{Outcome, nothing_first, receives, other_first, again_first, or_then, firsts, firsts_among, only_receives, only_from, source_of, labels_of, is_among}
+use Rattle.pb_endpoint.specs.Rules.{is_formed, are_formed, is_stop, loops_end, loops_end_each, ends_before, ends_before_each, Accepted}
+use Rattle.pb_core.specs.Rules.{receives_only, keeps_source, keeps_labels, some_below, holds_again, holds_again_among}
+use Rattle.pb_endpoint.proofs.Tests.{all_below, is_peopled, are_peopled, at_choices, at_choices_among, all_receives, from_one, labels_fit, peopled_of, choices_of, says_receives, says_source, apart_of}
+use Rattle.pb_endpoint.proofs.Kept.{Receives_first, Receives_each, first_label, first_label_among, IsTold, Keeps, Keeps_each, Loops_end, Loops_end_each, Ends_before, Ends_before_each, Has, Continued, Continued_each, Obeys}
 use Rattle.pb_endpoint.proofs.Stacks.{bool_cases}
 use Rattle.pb_endpoint.proofs.Branches.{or_one, or_left, or_right}
 use Rattle.pb_endpoint.proofs.Moves.{labels_append, among_left, among_right}
@@ -77,29 +78,10 @@ from_append p (nothing_first ∷ xs) ys h = from_append p xs ys h
 from_append p (other_first ∷ xs) ys h = from_append p xs ys h
 from_append p (again_first ∷ xs) ys h = from_append p xs ys h
 
-not_shared : (xs ys : List ℕ) → none_shared xs ys ≡ true → (l : ℕ) → is_among l xs ≡ true → is_among l ys ≡ true → ⊥
-not_shared [] ys h l a b = cc
-not_shared (x ∷ xs) ys h l a b =
-    let both = and_both (not (is_among x ys)) (none_shared xs ys) h in
-    elim (or_one (x == l) (is_among l xs) a) [
-      | inl y ↦
-          let in_ys : is_among x ys ≡ true = subst (λ k. is_among k ys ≡ true) (sym (eqb-true x l y)) b in
-          let out : not (is_among x ys) ≡ false = ap not in_ys in
-          let n = both.0 in
-          cc
-      | inr y ↦ not_shared xs ys both.1 l y b
-    ]
-
-apart_of : (held : List Bool) (r : ℕ) (bs : Branches) → are_apart held r bs ≡ true → Apart held r bs
-apart_of held r no_branch h = tt
-apart_of held r (branch mark b bs) h =
-    let both = and_both (none_shared (labels_of (firsts held r b)) (labels_of (firsts_among held r bs))) (are_apart held r bs) h in
-    (not_shared (labels_of (firsts held r b)) (labels_of (firsts_among held r bs)) both.0, apart_of held r bs both.1)
-
 module _ (T r : ℕ) (is_rank : r < T) where
   -- the rule on choices, for this rank
   abbrev R : Env → Block → Type 0
-  R env g = at_choices receives_only T env g ≡ true
+  R env g = at_choices all_receives T env g ≡ true
 
   abbrev test_at : (List Bool → ℕ → Branches → Bool) → Env → ℕ → Branches → ℕ → Bool
   test_at test env p bs r = (p == r) || (not (takes_part_among (at_rank r env) r bs) || test (at_rank r env) r bs)
@@ -137,13 +119,13 @@ module _ (T r : ℕ) (is_rank : r < T) where
       let e = at_rank r env in
       let F = firsts e r g in
       let FA = firsts_among e r bs in
-      let ks = and_both (all_below T (test_at receives_only env p bs)) _ k in
+      let ks = and_both (all_below T (test_at all_receives env p bs)) _ k in
       let all : Bool → Bool → List Outcome = λ u v. cond u (other_first ∷ []) (cond v (or_then FA F) F) in
       elim (bool_cases (p == r)) [
         | inl y ↦ ap (λ u. no_nothing (all u (takes_part_among e r bs))) y
         | inr y ↦ elim (bool_cases (takes_part_among e r bs)) [
-          | inl z ↦ (let o = receives_something FA (told_test receives_only env p bs ks.0 y z) in ap₂ (λ u v. no_nothing (all u v)) y z ∙ ap no_nothing (or_then_none FA F o) ∙ o)
-          | inr z ↦ ap₂ (λ u v. no_nothing (all u v)) y z ∙ found env g (and_both (at_choices_among receives_only T env bs) _ ks.1).1 (or_false _ _ h (ap₂ (λ u v. u || v) y z))
+          | inl z ↦ (let o = receives_something FA (told_test all_receives env p bs ks.0 y z) in ap₂ (λ u v. no_nothing (all u v)) y z ∙ ap no_nothing (or_then_none FA F o) ∙ o)
+          | inr z ↦ ap₂ (λ u v. no_nothing (all u v)) y z ∙ found env g (and_both (at_choices_among all_receives T env bs) _ ks.1).1 (or_false _ _ h (ap₂ (λ u v. u || v) y z))
         ]
       ]
   found env (looped origin b g) k h =
@@ -151,7 +133,7 @@ module _ (T r : ℕ) (is_rank : r < T) where
       let F = firsts e r g in
       let t = takes_part (false ∷ e) r b in
       let XS = firsts (t ∷ e) r b in
-      let ks = and_both (at_choices receives_only T (inner env b) b) _ k in
+      let ks = and_both (at_choices all_receives T (inner env b) b) _ k in
       let all : Bool → List Outcome = λ u. cond u (or_then XS F) F in
       elim (bool_cases t) [
         | inl z ↦ (let o = found (inner env b) b ks.0 (part_inside env b z) in ap (λ u. no_nothing (all u)) z ∙ ap no_nothing (or_then_none XS F o) ∙ o)
@@ -192,15 +174,15 @@ module _ (T r : ℕ) (is_rank : r < T) where
         let e = at_rank r env in
         let F = firsts e r g in
         let FA = firsts_among e r bs in
-        let ks = and_both (all_below T (test_at receives_only env p' bs)) _ k in
-        let kb = and_both (at_choices_among receives_only T env bs) _ ks.1 in
+        let ks = and_both (all_below T (test_at all_receives env p' bs)) _ k in
+        let kb = and_both (at_choices_among all_receives T env bs) _ ks.1 in
         let all : Bool → Bool → List Outcome = λ u v. cond u (other_first ∷ []) (cond v (or_then FA F) F) in
         let goal : Bool → Bool → Type 0 = λ u v. MatchBool u ⊥ (MatchBool v (Receives_each e r p bs) (Receives_first e r p g)) in
         elim (bool_cases (p' == r)) [
           | inl y ↦ (let no' = sym (ap (λ u. only_receives (all u (takes_part_among e r bs))) y) ∙ o in cc)
           | inr y ↦ elim (bool_cases (takes_part_among e r bs)) [
             | inl z ↦
-                let o' = told_test receives_only env p' bs ks.0 y z in
+                let o' = told_test all_receives env p' bs ks.0 y z in
                 let f' : only_from p FA ≡ true = sym (ap₂ (λ u v. only_from p (all u v)) y z ∙ ap (only_from p) (or_then_none FA F (receives_something FA o'))) ∙ f in
                 subst (λ u. goal u (takes_part_among e r bs)) (sym y) (subst (λ v. goal false v) (sym z) (receives_each env bs p kb.0 o' f'))
             | inr z ↦ subst (λ u. goal u (takes_part_among e r bs)) (sym y) (subst (λ v. goal false v) (sym z)
@@ -212,7 +194,7 @@ module _ (T r : ℕ) (is_rank : r < T) where
         let F = firsts e r g in
         let t = takes_part (false ∷ e) r b in
         let XS = firsts (t ∷ e) r b in
-        let ks = and_both (at_choices receives_only T (inner env b) b) _ k in
+        let ks = and_both (at_choices all_receives T (inner env b) b) _ k in
         let all : Bool → List Outcome = λ u. cond u (or_then XS F) F in
         let goal : Bool → Type 0 = λ u. MatchBool u (Receives_first (true ∷ e) r p b) (Receives_first e r p g) in
         elim (bool_cases t) [
@@ -228,11 +210,11 @@ module _ (T r : ℕ) (is_rank : r < T) where
           | inr y ↦ (let no' = sym (ap (λ u. only_receives (all u)) y) ∙ o in cc)
         ]
 
-    receives_each : (env : Env) (bs : Branches) (p : ℕ) → at_choices_among receives_only T env bs ≡ true → only_receives (firsts_among (at_rank r env) r bs) ≡ true → only_from p (firsts_among (at_rank r env) r bs) ≡ true → Receives_each (at_rank r env) r p bs
+    receives_each : (env : Env) (bs : Branches) (p : ℕ) → at_choices_among all_receives T env bs ≡ true → only_receives (firsts_among (at_rank r env) r bs) ≡ true → only_from p (firsts_among (at_rank r env) r bs) ≡ true → Receives_each (at_rank r env) r p bs
     receives_each env no_branch p k o f = tt
     receives_each env (branch mark b bs) p k o f =
         let e = at_rank r env in
-        let ks = and_both (at_choices receives_only T env b) _ k in
+        let ks = and_both (at_choices all_receives T env b) _ k in
         let os = receives_append (firsts e r b) (firsts_among e r bs) o in
         let fs = from_append p (firsts e r b) (firsts_among e r bs) f in
         (receives_first env b p ks.0 os.0 fs.0, receives_each env bs p ks.1 os.1 fs.1)
@@ -266,8 +248,8 @@ module _ (T r : ℕ) (is_rank : r < T) where
         let e = at_rank r env in
         let F = firsts e r g in
         let FA = firsts_among e r bs in
-        let ks = and_both (all_below T (test_at receives_only env p' bs)) _ k in
-        let kb = and_both (at_choices_among receives_only T env bs) _ ks.1 in
+        let ks = and_both (all_below T (test_at all_receives env p' bs)) _ k in
+        let kb = and_both (at_choices_among all_receives T env bs) _ ks.1 in
         let all : Bool → Bool → List Outcome = λ u v. cond u (other_first ∷ []) (cond v (or_then FA F) F) in
         let goal : Bool → Bool → Type 0 = λ u v. MatchBool u ⊥ (MatchBool v (Receives_each e r p bs) (Receives_first e r p g)) in
         elim (bool_cases (p' == r)) [
@@ -276,7 +258,7 @@ module _ (T r : ℕ) (is_rank : r < T) where
               let d' = subst (λ u. goal u (takes_part_among e r bs)) y d in
               elim (bool_cases (takes_part_among e r bs)) [
                 | inl z ↦
-                    let o = receives_something FA (told_test receives_only env p' bs ks.0 y z) in
+                    let o = receives_something FA (told_test all_receives env p' bs ks.0 y z) in
                     ap₂ (λ u v. is_among l (labels_of (all u v))) y z ∙ ap (λ xs. is_among l (labels_of xs)) (or_then_none FA F o)
                     ∙ labels_listed_each env bs p kb.0 (subst (λ v. goal false v) z d') l (sym (ap (λ u. cond u (first_label_among e r bs l) (first_label e r g l)) z) ∙ h)
                 | inr z ↦ ap₂ (λ u v. is_among l (labels_of (all u v))) y z ∙ labels_listed env g p kb.1 (subst (λ v. goal false v) z d') l (sym (ap (λ u. cond u (first_label_among e r bs l) (first_label e r g l)) z) ∙ h)
@@ -287,7 +269,7 @@ module _ (T r : ℕ) (is_rank : r < T) where
         let F = firsts e r g in
         let t = takes_part (false ∷ e) r b in
         let XS = firsts (t ∷ e) r b in
-        let ks = and_both (at_choices receives_only T (inner env b) b) _ k in
+        let ks = and_both (at_choices all_receives T (inner env b) b) _ k in
         let all : Bool → List Outcome = λ u. cond u (or_then XS F) F in
         let goal : Bool → Type 0 = λ u. MatchBool u (Receives_first (true ∷ e) r p b) (Receives_first e r p g) in
         elim (bool_cases t) [
@@ -300,34 +282,34 @@ module _ (T r : ℕ) (is_rank : r < T) where
         ]
     labels_listed env (again n) p k d l h = absurd d
 
-    labels_listed_each : (env : Env) (bs : Branches) (p : ℕ) → at_choices_among receives_only T env bs ≡ true → Receives_each (at_rank r env) r p bs → (l : ℕ) → first_label_among (at_rank r env) r bs l ≡ true → is_among l (labels_of (firsts_among (at_rank r env) r bs)) ≡ true
+    labels_listed_each : (env : Env) (bs : Branches) (p : ℕ) → at_choices_among all_receives T env bs ≡ true → Receives_each (at_rank r env) r p bs → (l : ℕ) → first_label_among (at_rank r env) r bs l ≡ true → is_among l (labels_of (firsts_among (at_rank r env) r bs)) ≡ true
     labels_listed_each env no_branch p k d l h = cc
     labels_listed_each env (branch mark b bs) p k d l h =
         let e = at_rank r env in
-        let ks = and_both (at_choices receives_only T env b) _ k in
+        let ks = and_both (at_choices all_receives T env b) _ k in
         ap (is_among l) (labels_append (firsts e r b) (firsts_among e r bs)) ∙
         (elim (or_one (first_label e r b l) (first_label_among e r bs l) h) [
           | inl y ↦ among_left l (labels_of (firsts e r b)) (labels_of (firsts_among e r bs)) (labels_listed env b p ks.0 d.0 l y)
           | inr y ↦ among_right l (labels_of (firsts e r b)) (labels_of (firsts_among e r bs)) (labels_listed_each env bs p ks.1 d.1 l y)
         ])
 
-  labels_at : (env : Env) (bs : Branches) (p : ℕ) → at_choices_among receives_only T env bs ≡ true → Receives_each (at_rank r env) r p bs → (x l : ℕ) → first_label (at_rank r env) r (branch_at x bs) l ≡ true → is_among l (labels_of (firsts (at_rank r env) r (branch_at x bs))) ≡ true
+  labels_at : (env : Env) (bs : Branches) (p : ℕ) → at_choices_among all_receives T env bs ≡ true → Receives_each (at_rank r env) r p bs → (x l : ℕ) → first_label (at_rank r env) r (branch_at x bs) l ≡ true → is_among l (labels_of (firsts (at_rank r env) r (branch_at x bs))) ≡ true
   labels_at env no_branch p k d x l h = cc
-  labels_at env (branch mark b bs) p k d zero l h = labels_listed env b p (and_both (at_choices receives_only T env b) _ k).0 d.0 l h
-  labels_at env (branch mark b bs) p k d (suc x) l h = labels_at env bs p (and_both (at_choices receives_only T env b) _ k).1 d.1 x l h
+  labels_at env (branch mark b bs) p k d zero l h = labels_listed env b p (and_both (at_choices all_receives T env b) _ k).0 d.0 l h
+  labels_at env (branch mark b bs) p k d (suc x) l h = labels_at env bs p (and_both (at_choices all_receives T env b) _ k).1 d.1 x l h
 
   -- what the three tests say of a choice
-  told_is : (env : Env) (p : ℕ) (bs : Branches) → all_below T (test_at receives_only env p bs) ≡ true → all_below T (test_at from_one env p bs) ≡ true → all_below T (test_at are_apart env p bs) ≡ true → at_choices_among receives_only T env bs ≡ true → (p == r) ≡ false → takes_part_among (at_rank r env) r bs ≡ true → IsTold (at_rank r env) r bs
+  told_is : (env : Env) (p : ℕ) (bs : Branches) → all_below T (test_at all_receives env p bs) ≡ true → all_below T (test_at from_one env p bs) ≡ true → all_below T (test_at labels_fit env p bs) ≡ true → at_choices_among all_receives T env bs ≡ true → (p == r) ≡ false → takes_part_among (at_rank r env) r bs ≡ true → IsTold (at_rank r env) r bs
   told_is env p bs a b c k ne y =
       let e = at_rank r env in
       let src = source_of (firsts_among e r bs) in
-      let all = receives_each env bs src k (told_test receives_only env p bs a ne y) (told_test from_one env p bs b ne y) in
-      record { receives = all; labels = labels_at env bs src k all; apart = apart_of e r bs (told_test are_apart env p bs c ne y) }
+      let all = receives_each env bs src k (told_test all_receives env p bs a ne y) (told_test from_one env p bs b ne y) in
+      record { receives = all; labels = labels_at env bs src k all; apart = apart_of e r bs (told_test labels_fit env p bs c ne y) }
 
 -- ---- all rules
 
 mutual
-  keeps_of : (T : ℕ) (env : Env) (g : Block) → is_formed T (length env) g ≡ true → at_choices receives_only T env g ≡ true → at_choices from_one T env g ≡ true → at_choices are_apart T env g ≡ true → Keeps T env g
+  keeps_of : (T : ℕ) (env : Env) (g : Block) → is_formed T (length env) g ≡ true → at_choices all_receives T env g ≡ true → at_choices from_one T env g ≡ true → at_choices labels_fit T env g ≡ true → Keeps T env g
   keeps_of T env stop f a b c = tt
   keeps_of T env (message origin p q l g) f a b c =
       let x = and_both _ (is_formed T (length env) g) f in
@@ -344,12 +326,12 @@ mutual
       let x = and_both (nat_lt p T && nat_lt 0 (count bs)) _ f in
       let y = and_both (nat_lt p T) _ x.0 in
       let z = and_both (are_formed T (length env) bs) _ x.1 in
-      let a1 = and_both (all_below T (λ r. (p == r) || (not (takes_part_among (at_rank r env) r bs) || receives_only (at_rank r env) r bs))) _ a in
+      let a1 = and_both (all_below T (λ r. (p == r) || (not (takes_part_among (at_rank r env) r bs) || all_receives (at_rank r env) r bs))) _ a in
       let b1 = and_both (all_below T (λ r. (p == r) || (not (takes_part_among (at_rank r env) r bs) || from_one (at_rank r env) r bs))) _ b in
-      let c1 = and_both (all_below T (λ r. (p == r) || (not (takes_part_among (at_rank r env) r bs) || are_apart (at_rank r env) r bs))) _ c in
-      let a2 = and_both (at_choices_among receives_only T env bs) _ a1.1 in
+      let c1 = and_both (all_below T (λ r. (p == r) || (not (takes_part_among (at_rank r env) r bs) || labels_fit (at_rank r env) r bs))) _ c in
+      let a2 = and_both (at_choices_among all_receives T env bs) _ a1.1 in
       let b2 = and_both (at_choices_among from_one T env bs) _ b1.1 in
-      let c2 = and_both (at_choices_among are_apart T env bs) _ c1.1 in (
+      let c2 = and_both (at_choices_among labels_fit T env bs) _ c1.1 in (
         ltb-true p T y.0,
         ltb-true 0 (count bs) y.1,
         (λ r lt ne part_is. told_is T r lt env p bs a1.0 b1.0 c1.0 a2.0 ne part_is),
@@ -359,19 +341,19 @@ mutual
   keeps_of T env (looped origin d g) f a b c =
       let x = and_both (is_formed T (suc (length env)) d) _ f in
       let env' : Env = (λ r. takes_part (false ∷ at_rank r env) r d) ∷ env in
-      let a1 = and_both (at_choices receives_only T env' d) _ a in
+      let a1 = and_both (at_choices all_receives T env' d) _ a in
       let b1 = and_both (at_choices from_one T env' d) _ b in
-      let c1 = and_both (at_choices are_apart T env' d) _ c in
+      let c1 = and_both (at_choices labels_fit T env' d) _ c in
       (keeps_of T env' d x.0 a1.0 b1.0 c1.0, keeps_of T env g x.1 a1.1 b1.1 c1.1)
   keeps_of T env (again n) f a b c = ltb-true n (length env) f
 
-  keeps_each_of : (T : ℕ) (env : Env) (bs : Branches) → are_formed T (length env) bs ≡ true → at_choices_among receives_only T env bs ≡ true → at_choices_among from_one T env bs ≡ true → at_choices_among are_apart T env bs ≡ true → Keeps_each T env bs
+  keeps_each_of : (T : ℕ) (env : Env) (bs : Branches) → are_formed T (length env) bs ≡ true → at_choices_among all_receives T env bs ≡ true → at_choices_among from_one T env bs ≡ true → at_choices_among labels_fit T env bs ≡ true → Keeps_each T env bs
   keeps_each_of T env no_branch f a b c = tt
   keeps_each_of T env (branch mark d bs) f a b c =
       let x = and_both (is_formed T (length env) d) _ f in
-      let a1 = and_both (at_choices receives_only T env d) _ a in
+      let a1 = and_both (at_choices all_receives T env d) _ a in
       let b1 = and_both (at_choices from_one T env d) _ b in
-      let c1 = and_both (at_choices are_apart T env d) _ c in
+      let c1 = and_both (at_choices labels_fit T env d) _ c in
       (keeps_of T env d x.0 a1.0 b1.0 c1.0, keeps_each_of T env bs x.1 a1.1 b1.1 c1.1)
 
 mutual
@@ -461,9 +443,13 @@ mutual
 
 pub obeyed : (w : Setting) (protocol : Block) → Accepted w protocol → Obeys w.total protocol
 obeyed w protocol a =
-    let keeps = keeps_of w.total [] protocol a.formed a.receives a.sources a.labels in
+    let keeps =
+    keeps_of w.total [] protocol a.formed
+    (choices_of receives_only all_receives (says_receives []) w.total [] protocol a.receives)
+    (choices_of keeps_source from_one says_source w.total [] protocol a.sources)
+    (choices_of keeps_labels labels_fit (λ held r bs h. h) w.total [] protocol a.labels) in
     record {
       keeps = keeps;
       ends = ends_of protocol a.ends;
-      people = continued w.total [] protocol (λ n e. absurd (let lt = stands_in w.total [] protocol n keeps e in omega arith)) a.peopled;
+      people = continued w.total [] protocol (λ n e. absurd (let lt = stands_in w.total [] protocol n keeps e in omega arith)) (peopled_of w.total [] protocol a.peopled);
     }

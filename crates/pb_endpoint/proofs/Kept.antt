@@ -3,7 +3,7 @@ use Rattle.std.proofs.Common.{◌≡◌, ◌≢◌, ℕ, ◌<◌, ◌==◌, cond
 use Rattle.pb_core.specs.Flat.{Block, stop, message, compute, together, choice, looped, again, Branches, no_branch, branch, nth, takes_part, takes_part_among, count, branch_at, can_end, some_can_end}
 use Rattle.pb_core.specs.Outcomes.{firsts, firsts_among, source_of, labels_of, is_among}
 use Rattle.pb_core.specs.Run.{Env, at_rank}
-use Rattle.pb_endpoint.specs.Tests.{is_stop}
+use Rattle.pb_endpoint.specs.Rules.{is_stop}
 
 -- ---- first outcomes
 

@@ -6,6 +6,7 @@ pub mod Keep
 pub mod Moves
 pub mod Whole
 pub mod Progress
+pub mod Tests
 pub mod Derive
 pub mod Accepted
 pub mod Starts

@@ -8,7 +8,7 @@ use Rattle.pb_core.specs.Flat.{Origin, Block, stop, message, compute, together, 
 use Rattle.pb_core.specs.Outcomes.{firsts_among, source_of}
 use Rattle.pb_core.specs.Run.{Setting, Opener, Top, Chosen, Body, Frame, at_rank, env_over, env_of, live, back, back_over, move, State, is_allowed, branch_now, words_now, emit, next}
 use Rattle.pb_endpoint.proofs.Kept.{Receives_first, Receives_each, Keeps, Loops_end, Loops_end_each, Ends_before}
-use Rattle.pb_endpoint.specs.Tests.{is_stop}
+use Rattle.pb_endpoint.specs.Rules.{is_stop}
 use Rattle.pb_endpoint.proofs.Clean.{involved, Clean, Body_keeps, Stack_keeps}
 use Rattle.pb_endpoint.proofs.Stacks.{or_no, bool_cases, live_env}
 use Rattle.pb_endpoint.proofs.Branches.{or_one, or_left, or_right, keeps_at, loops_end_at, ends_before_at, no_part_at, receives_in, first_ending_ends, none_ends}

@@ -4,7 +4,7 @@ use Rattle.std.proofs.lemmas.Bool.{eqb-true}
 use Rattle.pb_core.specs.Flat.{Block, stop, message, compute, together, choice, looped, again, Branches, no_branch, branch, nth, takes_part, takes_part_among, can_end, some_can_end}
 use Rattle.pb_core.specs.Run.{Env, at_rank}
 use Rattle.pb_core.specs.Outcomes.{firsts_among, source_of}
-use Rattle.pb_endpoint.specs.Tests.{is_stop}
+use Rattle.pb_endpoint.specs.Rules.{is_stop}
 use Rattle.pb_endpoint.specs.Endpoint.{Code, done, send, receive, run, enter, leave, choose, told, loop, Arms, no_arm, arm, code, arms}
 use Rattle.pb_endpoint.specs.Endpoint as E
 use Rattle.pb_endpoint.proofs.Kept.{Receives_first, Receives_each, Keeps, Keeps_each, Ends_before, Ends_before_each}

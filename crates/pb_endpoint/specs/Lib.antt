@@ -1,4 +1,4 @@
-pub mod Tests
+pub mod Rules
 pub mod Endpoint
 pub mod Theorem
 pub mod Once

@@ -5,7 +5,7 @@ use Rattle.pb_world.specs.Machine.{Lost, Machine}
 use Rattle.pb_world.specs.Family.{Family, Laws}
 use Rattle.pb_core.specs.Flat.{Block}
 use Rattle.pb_core.specs.Run.{Setting, Depends}
-use Rattle.pb_endpoint.specs.Tests.{Accepted}
+use Rattle.pb_endpoint.specs.Rules.{Accepted}
 use Rattle.pb_endpoint.specs.Endpoint.{Code, done, send, receive, run, enter, leave, choose, told, loop, again, Part, next_at, quiet_at, act_at, read_at, branch_of, endpoint}
 use Rattle.pb_endpoint.specs.Theorem.{family}
 

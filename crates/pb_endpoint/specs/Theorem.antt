@@ -6,7 +6,7 @@ use Rattle.pb_world.specs.Family.{Family, Laws}
 use Rattle.pb_world.specs.Sequencer.{emitted, state_after}
 use Rattle.pb_core.specs.Flat.{Block}
 use Rattle.pb_core.specs.Run.{Setting, Depends, Top, State, is_allowed, emit, next, is_over_at}
-use Rattle.pb_endpoint.specs.Tests.{Accepted}
+use Rattle.pb_endpoint.specs.Rules.{Accepted}
 use Rattle.pb_endpoint.specs.Endpoint.{Part, machine, endpoint}
 
 module _ (w : Setting) (protocol : Block) where
