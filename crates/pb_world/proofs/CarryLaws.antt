@@ -1,11 +1,12 @@
 -- What an upper machine follows, a lower one that simulates it does too.
-use Rattle.std.proofs.Common.{◌≡◌, ℕ, zero, suc, ◌+◌, ◌-◌, ◌<◌, ◌≤◌, Bool, false, List, [], ◌∷◌, refl, sym, ap, ◌∙◌, subst, inl, inr, arith}
+use Rattle.std.proofs.Common.{◌≡◌, ℕ, zero, suc, ◌+◌, ◌-◌, ◌<◌, ◌≤◌, Bool, false, List, [], ◌∷◌, refl, sym, ap, ◌∙◌, subst, arith}
 use Rattle.pb_world.specs.Actions.{Action, Recv, kind_of}
 use Rattle.pb_world.specs.Machine.{Next, Silent, Does, Probe, Ended, Lost, Undefined, Machine, IsStanding, Follows}
 use Rattle.pb_world.specs.Machine as M
-use Rattle.pb_world.specs.Counted.{is_quiet, counted, FollowsWithin, stands, ended, silent, act, probe}
-use Rattle.pb_world.specs.Family.{Family, Laws, Statement, nothing, internal, message, joint}
+use Rattle.pb_world.specs.Counted.{is_quiet, counted, counted_start, FollowsWithin, stands, ended, silent, act, probe}
+use Rattle.pb_world.specs.Family.{Family, Laws}
 use Rattle.pb_world.proofs.Counted.{counts}
+use Rattle.pb_world.proofs.OnMachine.{laws_on}
 use Rattle.pb_world.specs.Carry.{Quietly, here, further, Simulates, lowered}
 
 module _ {D : Type 0} (down : Machine D) (allowed : Action → Bool) (bound : ℕ) where
@@ -59,24 +60,7 @@ module _ {D : Type 0} (down : Machine D) (allowed : Action → Bool) (bound : �
         let e = d.5 l x' rd in
         enough (d.0 + suc e.0) k e.3 (before (suc e.0) d.2 (probe d.4 e.2 (below e.0 e.1 e.4 f)))
 
-module _ {U D : Type 0} (F : Family U) (down : Machine D) (bound : ℕ) (start : ℕ → D) where
-  statement_below : {st : List (ℕ × Action)} → Statement F st → Statement (lowered F down bound start) st
-  statement_below nothing = nothing
-  statement_below (internal h a) = internal h a
-  statement_below (message hp hq ne) = message hp hq ne
-  statement_below (joint j words) = joint j words
-
--- the law goes down
+-- the laws go down
 pub carried : {U D : Type 0} (F : Family U) (down : Machine D) (bound : ℕ) (start : ℕ → D) (Rel : ℕ → ℕ → U → D → Type 0) →
     ((r : ℕ) → r < F.total → Simulates F.machine down (F.allowed r) bound (Rel r)) → ((r : ℕ) → r < F.total → Rel r bound (F.start r) (start r)) → Laws F → Laws (lowered F down bound start)
-carried F down bound start Rel sim first laws = record {
-  sequential = record { starts = laws.sequential.starts; steps = λ A m. (let st = laws.sequential.steps A m in (st.0, statement_below F down bound start st.1, st.2)) };
-  follows = λ A m r lt. go r lt (laws.follows A m r lt);
-  goes_on = λ A m r lt. elim (laws.goes_on A m r lt) [ inl f ↦ inl (go r lt f) | inr h ↦ inr h ];
-  goes_over = laws.goes_over;
-  answered = laws.answered;
-  depends = laws.depends;
-}
-  where
-    go : (r : ℕ) {s : List Action} {ends : Bool} → r < F.total → Follows F.machine (F.allowed r) (F.start r) s ends → Follows (counted bound down) (F.allowed r) (record { state = start r; count = zero }) s ends
-    go r lt f = counts bound down (F.allowed r) zero (omega arith) (below down (F.allowed r) bound F.machine (Rel r) (sim r lt) bound (start r) (first r lt) f)
+carried F down bound start Rel sim first laws = laws_on F (counted bound down) (λ r. counted_start (start r)) (λ r lt s ends f. counts bound down (F.allowed r) zero (omega arith) (below down (F.allowed r) bound F.machine (Rel r) (sim r lt) bound (start r) (first r lt) f)) laws

@@ -9,6 +9,7 @@ pub mod Events
 pub mod Theorem
 pub mod Local
 pub mod Shadow
+pub mod OnMachine
 pub mod CarryLaws
 pub mod ExampleLaws
 pub mod Recorded

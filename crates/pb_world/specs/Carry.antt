@@ -3,7 +3,7 @@ use Rattle.std.specs.Prelude.{◌≡◌, ℕ, zero, suc, ◌+◌, ◌<◌, ◌�
 use Rattle.pb_world.specs.Actions.{Action, Kind, kind_of}
 use Rattle.pb_world.specs.Machine.{Silent, Does, Probe, Ended, Machine}
 use Rattle.pb_world.specs.Counted.{Counted, counted, counted_start}
-use Rattle.pb_world.specs.Family.{Family}
+use Rattle.pb_world.specs.Family.{Family, on_machine}
 
 -- so many silent steps
 pub data Quietly {D : Type 0} (down : Machine D) : ℕ → D → D → Type 0 where
@@ -20,13 +20,4 @@ pub record Simulates {U D : Type 0} (up : Machine U) (down : Machine D) (allowed
 
 -- the same family with the lower machine, which is lost after too many silent steps
 abbrev pub lowered : {U D : Type 0} → Family U → Machine D → ℕ → (ℕ → D) → Family (Counted D)
-lowered F down bound start = record {
-  total = F.total;
-  machine = counted bound down;
-  start = λ r. counted_start (start r);
-  allowed = F.allowed;
-  needs = F.needs;
-  outcome = F.outcome;
-  run = F.run;
-  over = F.over;
-}
+lowered F down bound start = on_machine F (counted bound down) (λ r. counted_start (start r))

@@ -13,6 +13,19 @@ pub record Family (S : Type 0) : Type 0 where
   pub run : AnswerTable → ℕ → List (ℕ × Action)  -- the actions of so many steps of the sequential run
   pub over : AnswerTable → ℕ → Bool  -- whether it has ended by then
 
+-- the same family with other machines
+abbrev pub on_machine : {S D : Type 0} → Family S → Machine D → (ℕ → D) → Family D
+on_machine F machine start = record {
+  total = F.total;
+  machine = machine;
+  start = start;
+  allowed = F.allowed;
+  needs = F.needs;
+  outcome = F.outcome;
+  run = F.run;
+  over = F.over;
+}
+
 -- an action that no other rank takes part in
 pub data IsInternal : Action → Type 0 where
   choosing : {kernel branches branch : ℕ} → IsInternal (Choose kernel branches branch)
