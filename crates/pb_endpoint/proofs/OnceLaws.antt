@@ -2,17 +2,19 @@
 use Rattle.std.proofs.Common.{◌≡◌, ℕ, zero, suc, ◌<◌, ◌==◌, Bool, cond, true, false, ◌||◌, ◌&&◌, List, [], ◌∷◌, Option, Some, None, refl, sym, ap, ◌∙◌, subst, inl, inr}
 use Rattle.std.proofs.lemmas.Bool.{eq-eqb, eqb-true}
 use Rattle.pb_world.specs.Actions.{Action}
-use Rattle.pb_world.specs.Machine.{Silent, Lost, IsStanding, Follows, stands, ended, silent, act, probe}
-use Rattle.pb_world.specs.Family.{Family, Laws, Statement, nothing, internal, joint}
-use Rattle.pb_world.specs.Family as L
+use Rattle.pb_world.specs.Machine.{Silent}
+use Rattle.pb_world.specs.Family.{Laws}
+use Rattle.pb_world.specs.Once.{once_start, once}
+use Rattle.pb_world.proofs.OnceFollows.{KeepsOnce, follows_once}
+use Rattle.pb_world.proofs.OnMachine.{laws_on}
 use Rattle.pb_world.proofs.Theorem.{all_ranks}
 use Rattle.pb_core.specs.Flat.{Block, stop, message, compute, together, choice, looped, again, Branches, no_branch, branch, nth, takes_part, takes_part_among}
-use Rattle.pb_core.specs.Run.{Setting}
+use Rattle.pb_core.specs.Run.{Setting, is_allowed}
 use Rattle.pb_endpoint.specs.Endpoint.{Code, done, send, receive, run, enter, leave, choose, told, loop, Arms, no_arm, arm, code, arms, Part, arm_at, arm_of, next_at, return_to, quiet_at, branch_of, act_at, chosen, read_at, machine, endpoint}
 use Rattle.pb_endpoint.specs.Endpoint as E
 use Rattle.pb_core.specs.Outcomes.{is_among}
 use Rattle.pb_endpoint.specs.Theorem.{family}
-use Rattle.pb_endpoint.specs.Once.{is_at_again, once_of, once, once_family, Bridge_once}
+use Rattle.pb_endpoint.specs.Once.{is_at_again, once_family, Bridge_once}
 use Rattle.pb_endpoint.proofs.Kept.{Obeys}
 use Rattle.pb_endpoint.proofs.Stacks.{bool_cases}
 use Rattle.pb_endpoint.proofs.Branches.{or_one, or_left, or_right}
@@ -183,17 +185,13 @@ not_bad (f ∷ K) back i = go f.code back i
     go (E.again n) true i = (let x = i.1 refl in cc)
     go (E.again n) false i = refl
 
-module _ (allowed : Action → Bool) where
-  next_is : (X : List Part) (back : Bool) → Inv X back → once.next (record { stack = X; went_back = back }) ≡ next_at X
-  next_is X back i = ap (λ u. cond u Lost (next_at X)) (not_bad X back i)
-
-  -- what the machine follows, it follows without going back twice
-  follows_once : {X : List Part} {s : List Action} {ends : Bool} (back : Bool) → Inv X back → Follows machine allowed X s ends → Follows once allowed (record { stack = X; went_back = back }) s ends
-  follows_once {X = X} back i (stands h) = stands (subst IsStanding (sym (next_is X back i)) h)
-  follows_once {X = X} back i (ended h) = ended (next_is X back i ∙ h)
-  follows_once {X = X} back i (silent h f) = silent (next_is X back i ∙ h) (follows_once (is_at_again X || back) (quiet_ok X back i h) f)
-  follows_once {X = X} back i (act {a = a} h al f) = act (next_is X back i ∙ h) al (follows_once false (act_ok X (branch_of a) i.0, λ t. cc) f)
-  follows_once {X = X} back i (probe {y = y} {label = l} h rd f) = probe (next_is X back i ∙ h) (ap (once_of back) rd) (follows_once back (let it = read_ok X y l i.0 rd in (it.0, λ t. it.1)) f)
+keeps_once : (allowed : Action → Bool) → KeepsOnce is_at_again machine allowed Inv
+keeps_once allowed = record {
+  never_twice = not_bad;
+  quiet = quiet_ok;
+  act = λ X back a i h. (act_ok X (branch_of a) i.0, λ t. cc);
+  read = λ X Y back l i rd. (let it = read_ok X Y l i.0 rd in (it.0, λ t. it.1));
+}
 
 -- ---- a way back is to a loop in which the rank takes part
 module _ (r : ℕ) where
@@ -240,21 +238,8 @@ module _ (w : Setting) (protocol : Block) (obeys : Obeys w.total protocol) where
   inv_start : (r : ℕ) → r < w.total → Inv (endpoint protocol r) false
   inv_start r lt = ((fine r w.total lt [] protocol obeys.keeps obeys.ends, (λ n h. (let out = open_again r [] protocol n h in cc)), tt, tt), λ t. cc)
 
-  statement_once : {st : List (ℕ × Action)} → Statement (family w protocol) st → Statement (once_family w protocol) st
-  statement_once nothing = nothing
-  statement_once (internal h a) = internal h a
-  statement_once (L.message hp hq ne) = L.message hp hq ne
-  statement_once (joint j words) = joint j words
-
   laws_once : Laws (family w protocol) → Laws (once_family w protocol)
-  laws_once laws = record {
-    sequential = record { starts = laws.sequential.starts; steps = λ A m. (let st = laws.sequential.steps A m in (st.0, statement_once st.1, st.2)) };
-    follows = λ A m r lt. follows_once ((family w protocol).allowed r) false (inv_start r lt) (laws.follows A m r lt);
-    goes_on = λ A m r lt. elim (laws.goes_on A m r lt) [ inl f ↦ inl (follows_once ((family w protocol).allowed r) false (inv_start r lt) f) | inr h ↦ inr h ];
-    goes_over = laws.goes_over;
-    answered = laws.answered;
-    depends = laws.depends;
-  }
+  laws_once = laws_on (family w protocol) (once is_at_again machine) (λ r. once_start (endpoint protocol r)) (λ r lt s ends f. follows_once is_at_again machine (is_allowed w r) Inv (keeps_once (is_allowed w r)) false (inv_start r lt) f)
 
 pub once_is : Bridge_once
 once_is w protocol depends accepted =
