@@ -1,0 +1,4 @@
+pub mod Indents
+pub mod Layouts
+pub mod Lengths
+pub mod Plains

@@ -1,1 +1,4 @@
+pub mod Layout
+pub mod Pieces
+pub mod Tables
 pub mod Tree
