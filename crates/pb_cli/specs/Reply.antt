@@ -1,0 +1,56 @@
+-- What the program answers: a status, and the bytes that it writes.
+use Rattle.std.specs.Prelude.{◌≡◌, ℕ, ◌<◌, ◌≤◌, ◌⊎◌, Bool, List, length, Option, Some, None, IsSome, Result, Ok, Err, Vec}
+use Rattle.std.specs.Global.{Global}
+use Rattle.std.specs.Io.KnownBytes.{Appends}
+use Rattle.pb_text.specs.declared.place.Place.{Place}
+use Rattle.pb_io.specs.Files.{File, content_of, IsSureOf}
+use Rattle.pb_io.specs.Sinks.{AppendsFront}
+use Rattle.pb_cli.specs.Lines.{line_of, status_of}
+use Rattle.pb_cli.specs.declared.refusal.Refusal.{Refusal}
+use Rattle.pb_cli.specs.declared.refusal.Refusal.TheVariants as refusal
+use Rattle.pb_cli.specs.declared.status.Status.{Status}
+use Rattle.pb_cli.specs.declared.status.Status.TheVariants.{Done, Usage, ReadFault, WriteFault, Limit, NoMemory, NotBuilt}
+
+-- how many bytes a protocol file may have
+abbrev pub most_bytes : ℕ
+most_bytes = 1048576
+
+-- the place of the first byte
+abbrev pub first_place : Place
+first_place = record { line = 1; col = 1 }
+
+-- the words name a file, and where the folder tells its bytes they are such
+abbrev pub OnFile : Option (List ℕ) → Option (List File) → (List ℕ → Type 0) → Type 0
+OnFile None holds P = ⊥
+OnFile (Some name) None P = Unit {0}
+OnFile (Some name) (Some files) P = P (content_of files name)
+
+-- to the words and the files belong a status and the bytes that it comes with. Which of the files that are short enough
+-- are built, and what the text on Done means, is left open, and so is when memory is wanting
+abbrev pub IsReply : Option (List ℕ) → Option (List File) → Status → List ℕ → Type 0
+IsReply form holds Done text = OnFile form holds (λ bytes. length bytes ≤ most_bytes)
+IsReply form holds Usage text = (form ≡ None) × (text ≡ line_of refusal.Usage)
+IsReply form holds ReadFault text = IsSome form × (text ≡ line_of refusal.ReadFault)
+IsReply form holds Limit text = OnFile form holds (λ bytes. most_bytes < length bytes) × (text ≡ line_of refusal.FileBytes)
+IsReply form holds NoMemory text = IsSome form × (text ≡ line_of refusal.NoMemory)
+IsReply form holds NotBuilt text =
+    OnFile form holds (λ bytes. length bytes ≤ most_bytes) × (text ≡ line_of (refusal.NotBuilt first_place))
+IsReply form holds other text = ⊥
+
+-- an answer's status and bytes: a text is done, and a refusal has its line
+abbrev pub Answers : Result (Vec ℕ Global) Refusal → (Status → List ℕ → Type 0) → Type 0
+Answers (Ok text) P = P Done text.items
+Answers (Err refusal) P = P (status_of refusal) (line_of refusal)
+
+-- a status was given and its bytes were written, or a write failed and only some first bytes of them were
+abbrev pub Says : Status → List ℕ → Status → Option (List ℕ) → Option (List ℕ) → Type 0
+Says status text result old new = ((result ≡ status) × Appends old new text) ⊎ ((result ≡ WriteFault) × AppendsFront old new text)
+
+-- the status and the bytes that belong to the words and the files, but for a write that failed
+abbrev pub SaysReply : Option (List ℕ) → Option (List File) → Status → Option (List ℕ) → Option (List ℕ) → Type 0
+SaysReply form holds result old new = (status : Status) × (text : List ℕ) × IsReply form holds status text × Says status text result old new
+
+-- a steady folder that holds the file that the words name
+abbrev pub IsSureOfForm : Option (List ℕ) → Bool → Option (List File) → Type 0
+IsSureOfForm None steady holds = ⊥
+IsSureOfForm (Some name) steady holds = IsSureOf steady holds name

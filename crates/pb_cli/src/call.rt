@@ -1,0 +1,57 @@
+ghost use Rattle.std.specs.Prelude.{◌≡◌, map, IsErrOf};
+ghost use Rattle.std.specs.String.{string_bytes};
+ghost use Rattle.pb_io.specs.Faults.{Rose};
+ghost use Rattle.pb_cli.specs.Reply.{Answers, Says, SaysReply, IsSureOfForm};
+ghost use Rattle.pb_cli.specs.Words.{gen_file};
+
+use crate::refusal::Refusal;
+use crate::reply::reply;
+use crate::status::Status;
+use pb_io::{Folder, OutFault, Sink, write_all};
+use std::alloc::Global;
+
+#[tactic(auto, using(crate::proofs::Replies::said))]
+/// Does what the words after the program's name say, and writes the answer or one status line.
+///
+/// `gen FILE` writes the C text of the protocol in FILE. `ReadFault` comes only where the folder's count of faults rose in
+/// this call, and never where a steady folder holds the file; `WriteFault` only where the sink's did, and then some first
+/// bytes of what belongs there were written. `Limit` comes exactly where the file has more than 1,048,576 bytes, and
+/// `Usage` exactly where the words are in no form.
+///
+/// `answers` gives word number `count` of a rank, from 0, by a seed, the rank and that number.
+pub fn pabble<F: Folder, O: Sink, A: Fn(u64, u32, u64) -> u32>(
+    alloc: Global,
+    words: &[String],
+    folder: &mut F,
+    out: &mut O,
+    answers: A,
+) -> Status
+    requires { A.IsAlwaysCallable answers }
+    ensures reply { SaysReply (gen_file (map string_bytes words.now)) (F.holds folder.old) result (O.taken out.old) (O.taken out.new) }
+    ensures read_fault { result ≡ Status.ReadFault → Rose (F.faults folder.old) (F.faults folder.new) }
+    ensures sure { result ≡ Status.ReadFault
+        → IsSureOfForm (gen_file (map string_bytes words.now)) (F.steady folder.old) (F.holds folder.old) → ⊥ }
+    ensures write_fault { result ≡ Status.WriteFault → Rose (O.faults out.old) (O.faults out.new) }
+{
+    let _answers = answers;
+    let answer = reply(alloc, words, folder);
+    say(out, answer)
+}
+
+/// Writes a text, or the status line of a refusal, and tells the status.
+fn say<O: Sink>(out: &mut O, answer: Result<Vec<u8>, Refusal>) -> Status
+    ensures said { Answers answer (λ status text. Says status text result (O.taken out.old) (O.taken out.new)) }
+    ensures read_fault { result ≡ Status.ReadFault → IsErrOf answer Refusal.ReadFault }
+    ensures write_fault { result ≡ Status.WriteFault → Rose (O.faults out.old) (O.faults out.new) }
+{
+    match answer {
+        Ok(text) => match write_all(out, &text) {
+            Ok(()) => Status::Done,
+            Err(OutFault::WriteFault) => Status::WriteFault,
+        },
+        Err(refusal) => match refusal.write_line(out) {
+            Ok(()) => refusal.status(),
+            Err(OutFault::WriteFault) => Status::WriteFault,
+        },
+    }
+}

@@ -1,0 +1,81 @@
+ghost use Rattle.std.specs.Prelude.{◌≡◌, ◌≤◌, ◌++◌, codes, OnOk, OnErr};
+ghost use Rattle.std.specs.Io.KnownBytes.{Appends};
+ghost use Rattle.pb_io.specs.Faults.{Rose};
+ghost use Rattle.pb_io.specs.Sinks.{AppendsFront};
+ghost use Rattle.pb_cli.specs.Lines.{line_at};
+
+use crate::parts::write_parts;
+use crate::status::Status;
+use itoa::Buffer;
+use pb_io::{OutFault, Sink, write_all};
+use pb_text::Place;
+use thiserror::Error;
+
+/// Why nothing but a status line is written.
+#[derive(Clone, Copy, Debug, PartialEq, Eq, Error)]
+pub enum Refusal {
+    /// The words are in no form.
+    #[error("Usage")]
+    Usage,
+    /// A file can't be read.
+    #[error("ReadFault")]
+    ReadFault,
+    /// A file has too many bytes.
+    #[error("FileBytes")]
+    FileBytes,
+    /// Memory ran out.
+    #[error("NoMemory")]
+    NoMemory,
+    /// The protocol has a form that isn't built yet.
+    #[error("NotBuilt")]
+    NotBuilt(Place),
+}
+
+impl Refusal {
+    ghost use Rattle.pb_cli.specs.Lines.{line_of, status_of};
+
+    /// The status that the program ends with. Takes no memory.
+    pub fn status(self) -> Status
+        ensures { result ≡ status_of self }
+    {
+        match self {
+            Refusal::Usage => Status::Usage,
+            Refusal::ReadFault => Status::ReadFault,
+            Refusal::FileBytes => Status::Limit,
+            Refusal::NoMemory => Status::NoMemory,
+            Refusal::NotBuilt(_) => Status::NotBuilt,
+        }
+    }
+
+    /// Appends the status line to the sink. Takes no memory.
+    ///
+    /// `WriteFault` comes only where the sink's count of faults rose in this call; then some first bytes were appended.
+    pub fn write_line<O: Sink>(self, out: &mut O) -> Result<(), OutFault>
+        ensures whole { OnOk result (Appends (O.taken out.old) (O.taken out.new) (line_of self)) }
+        ensures front { OnErr result (AppendsFront (O.taken out.old) (O.taken out.new) (line_of self)) }
+        ensures fault { OnErr result (Rose (O.faults out.old) (O.faults out.new)) }
+        ensures later { O.faults out.old ≤ O.faults out.new }
+    {
+        match self {
+            Refusal::Usage => write_all(out, b"pabble: usage\n"),
+            Refusal::ReadFault => write_all(out, b"pabble: read fault\n"),
+            Refusal::FileBytes => write_all(out, b"pabble: limit file bytes\n"),
+            Refusal::NoMemory => write_all(out, b"pabble: no memory\n"),
+            Refusal::NotBuilt(place) => write_at(out, b"pabble: not built", place),
+        }
+    }
+}
+
+/// Appends a status line that tells a place. Takes no memory.
+fn write_at<O: Sink>(out: &mut O, what: &[u8], place: Place) -> Result<(), OutFault>
+    ensures whole { OnOk result (Appends (O.taken out.old) (O.taken out.new) (line_at what.now place)) }
+    ensures front { OnErr result (AppendsFront (O.taken out.old) (O.taken out.new) (line_at what.now place)) }
+    ensures fault { OnErr result (Rose (O.faults out.old) (O.faults out.new)) }
+    ensures later { O.faults out.old ≤ O.faults out.new }
+{
+    let mut line = Buffer::new();
+    let mut col = Buffer::new();
+    let line = line.format(place.line).as_bytes();
+    let col = col.format(place.col).as_bytes();
+    write_parts(out, &[what, b" at ", line, b":", col, b"\n"])
+}

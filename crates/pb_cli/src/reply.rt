@@ -1,0 +1,58 @@
+ghost use Rattle.std.specs.Prelude.{Some, IsErrOf, map};
+ghost use Rattle.std.specs.String.{string_bytes};
+ghost use Rattle.pb_io.specs.Faults.{Rose};
+ghost use Rattle.pb_io.specs.Files.{IsSureOf};
+ghost use Rattle.pb_cli.specs.Reply.{Answers, IsReply, IsSureOfForm};
+ghost use Rattle.pb_cli.specs.Words.{gen_file};
+
+use crate::first::{FirstFault, first_form, print_form, read_file};
+use crate::refusal::Refusal;
+use crate::words::gen_file;
+use pb_io::{Folder, InFault, read_all};
+use pb_text::Place;
+use std::alloc::Global;
+
+/// The greatest number of bytes of a protocol file.
+const MOST_BYTES: u32 = 1_048_576;
+
+/// The place of a file's first byte.
+const START: Place = Place { line: 1, col: 1 };
+
+/// What the words ask for: the C text of the protocol in FILE, where they are `gen` and FILE.
+pub fn reply<F: Folder>(alloc: Global, words: &[String], folder: &mut F) -> Result<Vec<u8>, Refusal>
+    ensures reply { Answers result (IsReply (gen_file (map string_bytes words.now)) (F.holds folder.old)) }
+    ensures fault { IsErrOf result Refusal.ReadFault → Rose (F.faults folder.old) (F.faults folder.new) }
+    ensures sure { IsErrOf result Refusal.ReadFault
+        → IsSureOfForm (gen_file (map string_bytes words.now)) (F.steady folder.old) (F.holds folder.old) → ⊥ }
+{
+    match gen_file(words) {
+        None => Err(Refusal::Usage),
+        Some(file) => gen_text(alloc, folder, file),
+    }
+}
+
+/// The C text of the protocol in a file.
+fn gen_text<F: Folder>(alloc: Global, folder: &mut F, file: &str) -> Result<Vec<u8>, Refusal>
+    ensures reply { Answers result (IsReply (Some file.now) (F.holds folder.old)) }
+    ensures fault { IsErrOf result Refusal.ReadFault → Rose (F.faults folder.old) (F.faults folder.new) }
+    ensures sure { IsErrOf result Refusal.ReadFault → IsSureOf (F.steady folder.old) (F.holds folder.old) file.now → ⊥ }
+{
+    let bytes = match read_all(alloc, folder, file, MOST_BYTES) {
+        Ok(bytes) => bytes,
+        Err(InFault::ReadFault) => return Err(Refusal::ReadFault),
+        Err(InFault::TooLong) => return Err(Refusal::FileBytes),
+        Err(InFault::NoMemory) => return Err(Refusal::NoMemory),
+    };
+    match first_text(alloc, &bytes) {
+        Ok(text) => Ok(text),
+        Err(FirstFault::NotBuilt) => Err(Refusal::NotBuilt(START)),
+        Err(FirstFault::NoMemory) => Err(Refusal::NoMemory),
+    }
+}
+
+/// The C text of a protocol of the first form.
+fn first_text(alloc: Global, bytes: &[u8]) -> Result<Vec<u8>, FirstFault> {
+    let file = read_file(alloc, bytes)?;
+    let form = first_form(alloc, &file)?;
+    Ok(print_form(alloc, &form)?)
+}
