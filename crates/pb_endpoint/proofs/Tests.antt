@@ -1,11 +1,10 @@
 -- The rules on loops and choices as tests, and that they hold where the lists of breaches are empty.
-use Rattle.std.proofs.Common.{◌≡◌, ◌⊎◌, ℕ, zero, suc, ◌<◌, ◌==◌, Bool, true, false, ◌||◌, ◌&&◌, not, List, [], ◌∷◌, ◌++◌, map, refl, sym, ap, ap₂, ◌∙◌, subst, inl, inr, append_assoc, append-nil, arith, if◌then◌else◌}
+use Rattle.std.proofs.Common.{◌≡◌, ◌⊎◌, ℕ, zero, suc, ◌<◌, ◌==◌, Bool, true, false, ◌||◌, ◌&&◌, not, List, [], ◌∷◌, ◌++◌, refl, sym, ap, ap₂, ◌∙◌, subst, inl, inr, append_assoc, append-nil, arith, if◌then◌else◌}
 use Rattle.pb_core.specs.Flat.{Block, stop, message, compute, together, choice, looped, again, Branches, no_branch, branch, takes_part, takes_part_among}
 use Rattle.pb_core.specs.Run.{Env, at_rank}
 use Rattle.pb_core.specs.Outcomes.{Outcome, nothing_first, receives, other_first, again_first, firsts, firsts_among, only_receives, only_from, source_of, comes_from_one, labels_of, is_among, none_shared}
-use Rattle.pb_core.specs.Rules.{some_below, below, holds_again, deserted, deserted_among, misfits, misfits_among, receives_only, keeps_source, keeps_labels}
+use Rattle.pb_core.specs.Rules.{some_below, holds_again, deserted, deserted_among, misfits, misfits_among, receives_only, keeps_source, keeps_labels}
 use Rattle.std.proofs.lemmas.Bool.{eqb-true}
-use Rattle.pb_world.proofs.Lists.{eqb_cases}
 use Rattle.pb_endpoint.proofs.Kept.{Apart}
 use Rattle.pb_endpoint.proofs.Branches.{or_one, or_left, or_right}
 use Rattle.pb_endpoint.proofs.Moves.{labels_append, among_left, among_right}
@@ -73,19 +72,9 @@ none_both : {A : Type 0} (xs ys : List A) → xs ++ ys ≡ [] → (xs ≡ []) ×
 none_both [] ys h = (refl, h)
 none_both (x ∷ xs) ys h = cc
 
-none_mapped : {A B : Type 0} (f : A → B) (xs : List A) → map f xs ≡ [] → xs ≡ []
-none_mapped f [] h = refl
-none_mapped f (x ∷ xs) h = cc
-
 not_listed : {A : Type 0} (t : Bool) (x : A) → (if t then x ∷ [] else []) ≡ [] → t ≡ false
 not_listed true x h = cc
 not_listed false x h = refl
-
-none_below : (T : ℕ) (f : ℕ → Bool) → below T f ≡ [] → (r : ℕ) → r < T → f r ≡ false
-none_below zero f h r lt = absurd (omega arith)
-none_below (suc n) f h r lt =
-    let both = none_both (below n f) (if f n then n ∷ [] else []) h in
-    elim (eqb_cases r n) [ inl e ↦ subst (λ k. f k ≡ false) (sym e.0) (not_listed (f n) n both.1) | inr e ↦ none_below n f both.0 r (let ne = e.0 in omega arith) ]
 
 every_below : (T : ℕ) (f : ℕ → Bool) → ((r : ℕ) → r < T → f r ≡ true) → all_below T f ≡ true
 every_below zero f h = refl
@@ -133,35 +122,37 @@ passes false false f h = refl
 passes false true f h = h refl
 
 module _ (fits : List Outcome → List Outcome → Bool) (test : List Bool → ℕ → Branches → Bool) (says : (held : List Bool) (r : ℕ) (bs : Branches) → all_fit fits [] held r bs ≡ true → test held r bs ≡ true) (T : ℕ) where
+  abbrev NoMisfits : Env → Block → Type 0
+  NoMisfits env g = (r : ℕ) → r < T → misfits fits (at_rank r env) r g ≡ []
+
   mutual
-    pub choices_of : (env : Env) (g : Block) → misfits fits T env g ≡ [] → at_choices test T env g ≡ true
+    pub choices_of : (env : Env) (g : Block) → NoMisfits env g → at_choices test T env g ≡ true
     choices_of env stop h = refl
     choices_of env (message origin p q l g) h = choices_of env g h
     choices_of env (compute origin p k g) h = choices_of env g h
     choices_of env (together origin j g) h = choices_of env g h
     choices_of env (choice origin p k bs g) h =
         let told : ℕ → Bool = λ r. not (p == r) && takes_part_among (at_rank r env) r bs in
-        let both = none_both (misfits_among fits T env told (λ r. []) bs) (misfits fits T env g) h in
-        let each = choices_among env told (λ r. []) bs both.0 in
+        let each = choices_among env told (λ r. []) bs (λ r lt. (none_both (misfits_among fits (at_rank r env) r (told r) [] bs) (misfits fits (at_rank r env) r g) (h r lt)).0) in
         ap₂ (λ u v. u && v)
         (every_below T (λ r. (p == r) || (not (takes_part_among (at_rank r env) r bs) || test (at_rank r env) r bs)) (λ r lt. passes (p == r) (takes_part_among (at_rank r env) r bs) (test (at_rank r env) r bs) (λ e. says (at_rank r env) r bs (each.0 r lt e))))
-        (ap₂ (λ u v. u && v) each.1 (choices_of env g both.1))
+        (ap₂ (λ u v. u && v) each.1 (choices_of env g (λ r lt. (none_both (misfits_among fits (at_rank r env) r (told r) [] bs) (misfits fits (at_rank r env) r g) (h r lt)).1)))
     choices_of env (looped origin b g) h =
         let env' : Env = (λ r. takes_part (false ∷ at_rank r env) r b) ∷ env in
-        let both = none_both (misfits fits T env' b) (misfits fits T env g) h in
-        ap₂ (λ u v. u && v) (choices_of env' b both.0) (choices_of env g both.1)
+        ap₂ (λ u v. u && v) (choices_of env' b (λ r lt. (none_both (misfits fits (at_rank r env') r b) (misfits fits (at_rank r env) r g) (h r lt)).0))
+        (choices_of env g (λ r lt. (none_both (misfits fits (at_rank r env') r b) (misfits fits (at_rank r env) r g) (h r lt)).1))
     choices_of env (again n) h = refl
 
-    choices_among : (env : Env) (told : ℕ → Bool) (before : ℕ → List Outcome) (bs : Branches) → misfits_among fits T env told before bs ≡ [] → ((r : ℕ) → r < T → told r ≡ true → all_fit fits (before r) (at_rank r env) r bs ≡ true) × (at_choices_among test T env bs ≡ true)
+    choices_among : (env : Env) (told : ℕ → Bool) (before : ℕ → List Outcome) (bs : Branches) → ((r : ℕ) → r < T → misfits_among fits (at_rank r env) r (told r) (before r) bs ≡ []) → ((r : ℕ) → r < T → told r ≡ true → all_fit fits (before r) (at_rank r env) r bs ≡ true) × (at_choices_among test T env bs ≡ true)
     choices_among env told before no_branch h = ((λ r lt e. refl), refl)
     choices_among env told before (branch mark b bs) h =
-        let misfit : ℕ → Bool = λ r. told r && not (fits (before r) (firsts (at_rank r env) r b)) in
-        let first = none_both (map (λ r. record { mark = mark; rank = r }) (below T misfit)) _ h in
-        let both = none_both (misfits fits T env b) (misfits_among fits T env told (λ r. before r ++ firsts (at_rank r env) r b) bs) first.1 in
-        let rest = choices_among env told (λ r. before r ++ firsts (at_rank r env) r b) bs both.1 in
-        let none = none_mapped (λ r. record { mark = mark; rank = r }) (below T misfit) first.0 in (
-          (λ r lt e. ap₂ (λ u v. u && v) (told_fits (told r) _ (none_below T misfit none r lt) e) (rest.0 r lt e)),
-          ap₂ (λ u v. u && v) (choices_of env b both.0) rest.1,
+        let here : ℕ → List Outcome = λ r. firsts (at_rank r env) r b in
+        let misfit : ℕ → Bool = λ r. told r && not (fits (before r) (here r)) in
+        let first = λ (r : ℕ) (lt : r < T). none_both (if misfit r then mark ∷ [] else []) (misfits fits (at_rank r env) r b ++ misfits_among fits (at_rank r env) r (told r) (before r ++ here r) bs) (h r lt) in
+        let both = λ (r : ℕ) (lt : r < T). none_both (misfits fits (at_rank r env) r b) (misfits_among fits (at_rank r env) r (told r) (before r ++ here r) bs) (first r lt).1 in
+        let rest = choices_among env told (λ r. before r ++ here r) bs (λ r lt. (both r lt).1) in (
+          (λ r lt e. ap₂ (λ u v. u && v) (told_fits (told r) (fits (before r) (here r)) (not_listed (misfit r) mark (first r lt).0) e) (rest.0 r lt e)),
+          ap₂ (λ u v. u && v) (choices_of env b (λ r lt. (both r lt).0)) rest.1,
         )
 
 -- ---- what the tests say of a choice

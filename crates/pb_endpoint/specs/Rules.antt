@@ -1,5 +1,5 @@
 -- What a flat protocol keeps at one number of ranks, where its endpoints are to do it.
-use Rattle.std.specs.Prelude.{◌≡◌, ℕ, suc, ◌==◌, Bool, true, false, ◌||◌, ◌&&◌, not, [], nat_lt}
+use Rattle.std.specs.Prelude.{◌≡◌, ℕ, ◌<◌, suc, ◌==◌, Bool, true, false, ◌||◌, ◌&&◌, not, [], nat_lt}
 use Rattle.pb_core.specs.Flat.{Block, stop, message, compute, together, choice, looped, again, Branches, no_branch, branch, count, can_end, some_can_end}
 use Rattle.pb_core.specs.Run.{Setting}
 use Rattle.pb_core.specs.Rules.{deserted, misfits, receives_only, keeps_source, keeps_labels}
@@ -66,6 +66,6 @@ pub record Accepted (w : Setting) (protocol : Block) : Type 0 where
   pub formed : is_formed w.total 0 protocol ≡ true
   pub ends : ends_before protocol ≡ true
   pub peopled : deserted w.total [] protocol ≡ []
-  pub receives : misfits receives_only w.total [] protocol ≡ []
-  pub sources : misfits keeps_source w.total [] protocol ≡ []
-  pub labels : misfits keeps_labels w.total [] protocol ≡ []
+  pub receives : (r : ℕ) → r < w.total → misfits receives_only [] r protocol ≡ []
+  pub sources : (r : ℕ) → r < w.total → misfits keeps_source [] r protocol ≡ []
+  pub labels : (r : ℕ) → r < w.total → misfits keeps_labels [] r protocol ≡ []
