@@ -1,0 +1,9 @@
+pub mod Bodies
+pub mod Frame
+pub mod Functions
+pub mod Lines
+pub mod Rules
+pub mod Small
+pub mod Spelling
+pub mod Texts
+pub mod Trees

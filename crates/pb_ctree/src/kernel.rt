@@ -1,0 +1,23 @@
+use crate::Name;
+
+/// What a body in a C text is for.
+#[derive(Clone, Copy, Debug, PartialEq, Eq)]
+pub enum Kind {
+    /// What stands before the functions.
+    Prelude,
+    /// A compute kernel: `k_` and its name.
+    Compute,
+    /// A choice kernel: `c_` and its name.
+    Choice,
+    /// It makes the words of a label: `make_` and the label's name.
+    Make,
+    /// It takes the words of a label: `take_` and the label's name.
+    Take,
+}
+
+/// A body by its name. The prelude has none.
+#[derive(Clone, Copy, Debug, PartialEq, Eq)]
+pub struct KName {
+    pub kind: Kind,
+    pub name: Option<Name>,
+}

@@ -1,0 +1,15 @@
+//! The tree of a C text: an endpoint program with the numbers of its ranks, and the bodies of its kernels.
+#![tactic(auto)]
+
+mod body;
+mod kernel;
+mod tree;
+
+pub use body::{Bodies, Body};
+pub use kernel::{KName, Kind};
+pub use pb_affine::{Base, Guard, Guards, Lin, NRange};
+pub use pb_local::{
+    CoreKernel, CoreLabel, KernelKind, Local, Op, Payload, Peer, Relay, Role, Stmt, Test,
+};
+pub use pb_text::{Name, NoMemory};
+pub use tree::{CTree, Formula};
