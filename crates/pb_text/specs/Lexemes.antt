@@ -1,13 +1,12 @@
 -- What a text begins with: a token, a blank or a comment, or a fault.
-use Rattle.std.specs.Prelude.{ℕ, ◌+◌, ◌-◌, ◌*◌, Bool, ◌||◌, List, [], ◌∷◌, codes, take, drop, Option, None, Some, nat_eq, nat_le, if◌then◌else◌}
+use Rattle.std.specs.Prelude.{ℕ, ◌+◌, ◌-◌, ◌*◌, Bool, ◌||◌, not, List, [], ◌∷◌, codes, length, take, drop, Option, None, Some, nat_eq, nat_le, if◌then◌else◌}
 use Rattle.std.specs.Char.{is_ascii_alphabetic, is_ascii_alphanumeric, is_ascii_digit}
-use Rattle.std.specs.List.{prefix_len, position_or_len}
+use Rattle.std.specs.List.{prefix_len}
 use Rattle.pb_text.specs.Spellings.{key_of, mark_at, mark_spelling, begins_with}
 use Rattle.pb_text.specs.declared.token.TokenKind.{TokenKind}
 use Rattle.pb_text.specs.declared.token.TokenKind.TheVariants as kind
 use Rattle.pb_text.specs.declared.token.Key.{Key}
 use Rattle.pb_text.specs.declared.token.Mark.{Mark}
-use Rattle.std.specs.Prelude.{length}
 
 -- a byte that begins no token, a comment without an end, a number above 2,000,000,000, a name of more than 64 bytes
 pub data Fault : Type 0 where
@@ -37,16 +36,16 @@ goes_on_word byte = is_ascii_alphanumeric byte || nat_eq byte 95
 
 -- `//` up to the line's end
 abbrev pub line_comment : List ℕ → Lexeme
-line_comment text = gap (position_or_len (λ byte. nat_eq byte 10) text)
+line_comment text = gap (prefix_len (λ byte. not (nat_eq byte 10)) text)
+
+abbrev pub later : ℕ → Option ℕ → Option ℕ
+later n None = None
+later n (Some at) = Some (at + n)
 
 -- the number of bytes up to the next `*/`, these two with them
 abbrev pub close_of : List ℕ → Option ℕ
 close_of [] = None
-close_of (byte ∷ bytes) = if begins_with (codes "*/") (byte ∷ bytes) then Some 2 else one_later (close_of bytes)
-  where
-    one_later : Option ℕ → Option ℕ
-    one_later None = None
-    one_later (Some n) = Some (n + 1)
+close_of (byte ∷ bytes) = if begins_with (codes "*/") (byte ∷ bytes) then Some 2 else later 1 (close_of bytes)
 
 -- `/*` up to the next `*/` behind it
 abbrev pub closed : Option ℕ → Lexeme
@@ -83,14 +82,16 @@ mark_token (Some mark) = token (kind.Mark mark) (length (mark_spelling mark))
 abbrev pub mark : List ℕ → Lexeme
 mark text = mark_token (mark_at text)
 
--- what a text begins with
-unfoldable pub lexeme : List ℕ → Lexeme
-lexeme [] = nothing
-lexeme (byte ∷ bytes) =
-    let text = byte ∷ bytes in
+-- what a text begins with, whose first byte is given too
+abbrev pub lexeme_of : ℕ → List ℕ → Lexeme
+lexeme_of byte text =
     if is_blank byte then gap 1
     else if begins_with (codes "//") text then line_comment text
     else if begins_with (codes "/*") text then block_comment text
     else if begins_word byte then word text
     else if is_ascii_digit byte then number text
     else mark text
+
+unfoldable pub lexeme : List ℕ → Lexeme
+lexeme [] = nothing
+lexeme (byte ∷ bytes) = lexeme_of byte (byte ∷ bytes)

@@ -1,0 +1,6 @@
+pub mod Begun
+pub mod Closes
+pub mod Fronts
+pub mod Prefixes
+pub mod Steps
+pub mod Values

@@ -1,0 +1,48 @@
+ghost use Rattle.std.specs.Prelude.{◌≡◌, ◌≤◌, ◌<◌, true, length, slice_index, Some, None, nat_le, if◌then◌else◌};
+ghost use Rattle.std.specs.List.{prefix_len, All};
+ghost use Rattle.std.specs.Char.{is_ascii_digit};
+ghost use Rattle.pb_text.specs.Lexemes.{number, value_from};
+ghost use Rattle.pb_lex.specs.Seen.{lexeme_seen, FitsIn, IsSoundLexeme};
+
+use crate::lexeme::{Fault, Lexeme};
+use pb_text::TokenKind;
+
+// the greatest number of a text
+const MOST: u64 = 2_000_000_000;
+
+/// A number: digits, of which leading zeros count for nothing.
+#[tactic(auto, using(crate::proofs::Prefixes::prefix_passes))]
+pub fn number(text: &[u8]) -> Lexeme
+    requires some { 0 < length text.now }
+    requires begun { is_ascii_digit (slice_index text.now 0) ≡ true }
+    ensures seen { lexeme_seen result ≡ number text.now }
+    ensures fits { FitsIn result (length text.now) }
+    ensures sound { IsSoundLexeme result }
+{
+    let len = digits_len(text);
+    match value_of(&text[..len]) {
+        Some(value) => Lexeme::Token(TokenKind::Number(value), len),
+        None => Lexeme::Bad(Fault::NumberTooLarge),
+    }
+}
+
+fn digits_len(text: &[u8]) -> usize
+    ensures { result ≡ prefix_len is_ascii_digit text.now }
+{
+    text.iter().take_while(|byte| byte.is_ascii_digit()).count()
+}
+
+#[tactic(auto, using(crate::proofs::Values::too_large))]
+fn value_of(digits: &[u8]) -> Option<u32>
+    requires { All (λ byte. is_ascii_digit byte ≡ true) digits.now }
+    ensures { let value = value_from 0 digits.now in result ≡ (if nat_le value 2000000000 then Some value else None) }
+{
+    let mut value: u64 = 0;
+    for digit in digits {
+        value = 10 * value + u64::from(*digit - b'0');
+        if value > MOST {
+            return None;
+        }
+    }
+    Some(value as u32)
+}
