@@ -1,5 +1,5 @@
 -- Where a new constraint goes in the list.
-use Rattle.std.proofs.Common.{◌≡◌, ℕ, zero, suc, ◌+◌, ◌<◌, ◌≤◌, List, [], ◌∷◌, ◌++◌, set, take, length, ◌≤ℤ◌, ◌<ℤ◌, refl, sym, ap, ◌∙◌, subst, arith, true, false, ◌⊎◌, inl, inr, Bool, if◌then◌else◌, int_lt, nat_eq, ◌&&◌, ◌-ℤ◌, ℤ, ◌↔◌}
+use Rattle.std.proofs.Common.{◌≡◌, ℕ, zero, suc, ◌+◌, ◌<◌, ◌≤◌, List, [], ◌∷◌, ◌++◌, set, take, length, ◌≤ℤ◌, ◌<ℤ◌, refl, sym, ap, ◌∙◌, subst, arith, true, false, ◌⊎◌, inl, inr, Bool, if◌then◌else◌, int_lt, nat_eq, ◌&&◌, ◌||◌, ◌-ℤ◌, ℤ, ◌↔◌}
 use Rattle.std.proofs.lemmas.List.Elements.{All-nil, All-cons, All-head, All-tail}
 use Rattle.std.proofs.lemmas.List.{length-take-le, get_or-take, take_more_set, set-get_or}
 use Rattle.std.proofs.Math.Seq.{take-set-lt}
@@ -115,3 +115,37 @@ keeps_with s k xs = (there xs, λ p. back xs p.0 p.1) where
     cases true true more = All-cons (Keeps s) k rest own (All-tail (Keeps s) h rest all)
     cases true false more = all
     cases false less more = All-cons (Keeps s) h (with_constraint k rest) (All-head (Keeps s) h rest all) more
+
+-- For callers: the list grows by one at most, has the new pair, and keeps its pairs.
+pub with_length : (k : Constraint) (xs : List Constraint) → length (with_constraint k xs) ≤ length xs + 1
+with_length k [] = omega arith
+with_length k (h ∷ rest) = cases (is_on k.a k.b h) (int_lt k.c h.c) (with_length k rest) where
+  cases : (on less : Bool) → length (with_constraint k rest) ≤ length rest + 1 → length (if on then ((if less then k else h) ∷ rest) else (h ∷ with_constraint k rest)) ≤ length (h ∷ rest) + 1
+  cases true true more = omega arith
+  cases true false more = omega arith
+  cases false less more = omega arith
+
+on_itself : (k : Constraint) → is_on k.a k.b k ≡ true
+on_itself k = same k.a k.b where
+  same : (a b : ℕ) → (nat_eq a a && nat_eq b b) ≡ true
+  same a b = grind arith
+
+pub with_pair : (k : Constraint) (xs : List Constraint) → has_pair k.a k.b (with_constraint k xs) ≡ true
+with_pair k [] = rw (on_itself k) refl
+with_pair k (h ∷ rest) = cases (is_on k.a k.b h) refl (int_lt k.c h.c) (with_pair k rest) where
+  cases : (on : Bool) → is_on k.a k.b h ≡ on → (less : Bool) → has_pair k.a k.b (with_constraint k rest) ≡ true → has_pair k.a k.b (if on then ((if less then k else h) ∷ rest) else (h ∷ with_constraint k rest)) ≡ true
+  cases true e true more = rw (on_itself k) refl
+  cases true e false more = rw e refl
+  cases false e less more = rw e more
+
+pub with_others : (a b : ℕ) (k : Constraint) (xs : List Constraint) → has_pair a b xs ≡ true → has_pair a b (with_constraint k xs) ≡ true
+with_others a b k [] has = absurd (cc)
+with_others a b k (h ∷ rest) has = cases (is_on k.a k.b h) refl (int_lt k.c h.c) (is_on a b h) refl has (with_others a b k rest) where
+  same_pair : is_on k.a k.b h ≡ true → is_on a b k ≡ is_on a b h
+  same_pair e = let p = pair_is h.a k.a h.b k.b e in ap (λ x. nat_eq x a && nat_eq k.b b) (sym p.0) ∙ ap (λ y. nat_eq h.a a && nat_eq y b) (sym p.1)
+
+  cases : (on : Bool) → is_on k.a k.b h ≡ on → (less this : Bool) → is_on a b h ≡ this → (this || has_pair a b rest) ≡ true → (has_pair a b rest ≡ true → has_pair a b (with_constraint k rest) ≡ true) → has_pair a b (if on then ((if less then k else h) ∷ rest) else (h ∷ with_constraint k rest)) ≡ true
+  cases true e true this f has more = rw (same_pair e ∙ f) has
+  cases true e false this f has more = rw f has
+  cases false e less true f has more = rw f refl
+  cases false e less false f has more = rw f (more has)
