@@ -11,3 +11,6 @@ pub mod FuelGrammar
 pub mod Final
 pub mod Same
 pub mod SameRows
+pub mod Prints
+pub mod PrintsTokens
+pub mod PrintsGrammar

@@ -7,3 +7,5 @@ pub mod Laws
 pub mod Unexpected
 pub mod Reading
 pub mod Readers
+pub mod Bare
+pub mod Printed
