@@ -12,3 +12,10 @@ pub mod Accepted
 pub mod Starts
 pub mod OnceLaws
 pub mod Collected
+pub mod CoreEnds
+pub mod CoreFormed
+pub mod CoreDone
+pub mod Shapes
+pub mod FileProper
+pub mod FileDone
+mod Samples

@@ -68,11 +68,11 @@ labels_fit held r bs = all_fit keeps_labels [] held r bs
 
 -- ---- empty lists
 
-none_both : {A : Type 0} (xs ys : List A) → xs ++ ys ≡ [] → (xs ≡ []) × (ys ≡ [])
+pub none_both : {A : Type 0} (xs ys : List A) → xs ++ ys ≡ [] → (xs ≡ []) × (ys ≡ [])
 none_both [] ys h = (refl, h)
 none_both (x ∷ xs) ys h = cc
 
-not_listed : {A : Type 0} (t : Bool) (x : A) → (if t then x ∷ [] else []) ≡ [] → t ≡ false
+pub not_listed : {A : Type 0} (t : Bool) (x : A) → (if t then x ∷ [] else []) ≡ [] → t ≡ false
 not_listed true x h = cc
 not_listed false x h = refl
 

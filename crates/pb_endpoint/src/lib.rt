@@ -1,6 +1,8 @@
 //! From the rules of a flat protocol to the endpoint of each rank.
 #![tactic(auto)]
 
+ghost use Rattle.pb_endpoint.specs.Core.{CoreRanks};
+ghost use Rattle.pb_endpoint.specs.File.{FilesAreShaped, FileRanks};
 ghost use Rattle.pb_endpoint.specs.Once.{Bridge_once};
 ghost use Rattle.pb_endpoint.specs.Theorem.{Bridge};
 
@@ -13,4 +15,16 @@ pub fn bridge()
 /// On the way no rank goes back to a loop twice without an action between.
 pub fn once()
     ensures { Bridge_once }
+{}
+
+/// Where a core keeps the rules at one N, all ranks together do its sequential run, each by its endpoint, and stop only at
+/// its end.
+pub fn all_ranks()
+    ensures { CoreRanks }
+{}
+
+/// Where a file is accepted, all ranks together do its protocol for every N of its range, each by its endpoint.
+pub fn file_ranks()
+    ensures shape { FilesAreShaped }
+    ensures ranks { FileRanks }
 {}
