@@ -1,0 +1,13 @@
+-- What a program knows of the loops around, for one rank.
+use Rattle.std.specs.Prelude.{ℕ, Bool, List, [], ◌∷◌}
+use Rattle.pb_core.specs.Flat.{nth}
+use Rattle.pb_plain.specs.declared.held.Held.{Held, Held-F, fold-Held}
+use Rattle.pb_plain.specs.declared.held.Held.TheOpen as L
+
+abbrev pub held_layer : ℕ → Held-F (List Bool) → List Bool
+held_layer r L.Top = []
+held_layer r (L.Just b rest) = b ∷ rest.now
+held_layer r (L.Each table rest) = nth table.now r ∷ rest.now
+
+abbrev pub held_at : ℕ → Held → List Bool
+held_at r = fold-Held (List Bool) (held_layer r)
