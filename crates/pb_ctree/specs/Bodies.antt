@@ -1,5 +1,5 @@
 -- The bodies of kernels: whole lines, none of which is a marker.
-use Rattle.std.specs.Prelude.{ℕ, nat_eq, not, Bool, true, false, ◌&&◌, List, [], ◌∷◌, ◌++◌, codes, if◌then◌else◌}
+use Rattle.std.specs.Prelude.{ℕ, nat_eq, not, Bool, true, ◌&&◌, List, [], ◌∷◌, codes, if◌then◌else◌}
 use Rattle.std.specs.List.{starts_with}
 
 -- a marker begins so

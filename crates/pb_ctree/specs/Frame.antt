@@ -1,5 +1,5 @@
 -- The lines around the statements: the head, the kernels and main.
-use Rattle.std.specs.Prelude.{if◌then◌else◌, ℕ, ◌+◌, Bool, true, not, ◌&&◌, Option, Some, None, List, [], ◌∷◌, ◌++◌, codes, decimal, map, unwrap_or}
+use Rattle.std.specs.Prelude.{if◌then◌else◌, ℕ, ◌+◌, Bool, true, not, ◌&&◌, Option, Some, None, List, [], ◌∷◌, ◌++◌, codes, decimal, map}
 use Rattle.std.specs.Fmt.{signed_decimal}
 use Rattle.pb_affine.specs.declared.range.NRange.{NRange}
 use Rattle.pb_syntax.specs.declared.tree.Payload.{Payload}
@@ -16,7 +16,7 @@ use Rattle.pb_local.specs.Tree.{Program}
 use Rattle.pb_local.specs.WellMade.{outermost}
 use Rattle.pb_ctree.specs.Bodies.{is_marker, lines_of}
 use Rattle.pb_ctree.specs.Functions.{has_words}
-use Rattle.pb_ctree.specs.Lines.{Item, raw, Line, line}
+use Rattle.pb_ctree.specs.Lines.{raw, Line, line}
 use Rattle.pb_ctree.specs.Rules.{is_range, is_role, has_size, is_label_row, is_kernel_row, is_single}
 use Rattle.pb_ctree.specs.Small.{lin_text, sum_text}
 use Rattle.pb_ctree.specs.Spelling.{spelled_all}

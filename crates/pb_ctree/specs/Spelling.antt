@@ -1,5 +1,5 @@
 -- Which lines a statement has, one after the other, and the rule that each of them keeps.
-use Rattle.std.specs.Prelude.{ℕ, zero, suc, ◌+◌, ◌^◌, nat_eq, nat_lt, Bool, true, false, ◌&&◌, if◌then◌else◌, Option, Some, None, List, [], ◌∷◌, ◌++◌}
+use Rattle.std.specs.Prelude.{ℕ, zero, suc, ◌+◌, ◌^◌, nat_eq, nat_lt, Bool, true, false, ◌&&◌, if◌then◌else◌, Some, List, [], ◌∷◌, ◌++◌}
 use Rattle.std.specs.List.{list_any}
 use Rattle.pb_affine.specs.declared.guard.Guard.{Guard}
 use Rattle.pb_local.specs.declared.stmt.Peer.{Peer}
@@ -7,7 +7,7 @@ use Rattle.pb_local.specs.declared.stmt.Test.{Test}
 use Rattle.pb_local.specs.declared.stmt.Relay.{Relay}
 use Rattle.pb_local.specs.Tree.{Code, when, for_each, own, loop, again, choice, send, recv, run, barrier, broadcast, reduce, allreduce, Codes, nothing, more, Parts, no_part, part, Program}
 use Rattle.pb_local.specs.WellMade.{Scope, behind, in_loop, loops_at, loops_in}
-use Rattle.pb_ctree.specs.Lines.{Item, close, else_open, if_open, else_if_open, for_open, own_is, loop_open, goto, makes, root_makes, takes, root_takes, mpi_send, mpi_recv, mpi_barrier, mpi_bcast, mpi_reduce, mpi_allreduce, calls, chooses, probe, test_open, else_test_open, picks, aborts, pick_open, else_pick_open, Line, line}
+use Rattle.pb_ctree.specs.Lines.{close, else_open, if_open, else_if_open, for_open, own_is, loop_open, goto, makes, root_makes, takes, root_takes, mpi_send, mpi_recv, mpi_barrier, mpi_bcast, mpi_reduce, mpi_allreduce, calls, chooses, probe, test_open, else_test_open, picks, aborts, pick_open, else_pick_open, Line, line}
 use Rattle.pb_ctree.specs.Small.{outgoing, incoming, payload_of}
 use Rattle.pb_ctree.specs.Rules.{is_offset, is_guard, are_guards, is_peer, is_label, is_wordy, goes_with, computes, can_choose, is_chooser, comes_after, are_below, is_peer_of}
 

@@ -1,5 +1,5 @@
 -- Which bytes spell a C tree and its bodies, and which lines are the first of a spelling.
-use Rattle.std.specs.Prelude.{◌≡◌, ℕ, Bool, true, ◌&&◌, List, [], ◌∷◌, ◌++◌, length, map}
+use Rattle.std.specs.Prelude.{◌≡◌, ℕ, Bool, true, ◌&&◌, List, [], ◌∷◌, ◌++◌, length}
 use Rattle.pb_local.specs.Pieces as P
 use Rattle.pb_local.specs.Tree.{Program, program_of}
 use Rattle.pb_ctree.specs.declared.tree.CTree.{CTree}

@@ -1,9 +1,8 @@
 -- Which C trees are well made, and what their numbers say of the ranks.
-use Rattle.std.specs.Prelude.{◌≡◌, ℕ, ◌<◌, ℤ, pos, ◌+ℤ◌, ◌-ℤ◌, ◌*ℤ◌, ◌≤ℤ◌, ◌<ℤ◌, List, [], ◌∷◌, map, length, get_or}
-use Rattle.pb_local.specs.declared.tables.Role.{Role}
+use Rattle.std.specs.Prelude.{◌≡◌, ℕ, ◌<◌, ℤ, pos, ◌-ℤ◌, ◌≤ℤ◌, ◌<ℤ◌, List, map, length, get_or}
 use Rattle.pb_local.specs.Tree.{program_of}
-use Rattle.pb_local.specs.WellMade.{IsWellMade, IsInRange}
-use Rattle.pb_local.specs.Ranks.{Sum, at, no_ranks, ranks_of, bases_of, places_of, seats, total, seat_at}
+use Rattle.pb_local.specs.WellMade.{IsWellMade}
+use Rattle.pb_local.specs.Ranks.{Sum, at, ranks_of, bases_of, places_of, seats, total, seat_at}
 use Rattle.pb_ctree.specs.declared.tree.Formula.{Formula}
 use Rattle.pb_ctree.specs.declared.tree.CTree.{CTree}
 

@@ -1,6 +1,8 @@
-ghost use Rattle.std.specs.Prelude.{◌≡◌, ◌↔◌, IsTrue, IfSome, OnSome, IsSome};
+ghost use Rattle.std.specs.Prelude.{◌≡◌, ◌↔◌, IsTrue, IfSome, IfOk, IsSome};
 ghost use Rattle.pb_ctree.specs.Bodies.{is_body};
 
+use crate::{Kind, NoMemory};
+use std::alloc::Global;
 use std::marker::Model;
 
 /// The bytes of a kernel's body: whole lines, none of which begins with `/*@`.
@@ -21,7 +23,8 @@ impl Model for Body {
 }
 
 impl Body {
-    ghost use Rattle.pb_ctree.specs.Bodies.{is_body, is_rest};
+    ghost use Rattle.pb_ctree.specs.Bodies.{is_body};
+    ghost use Rattle.pb_ctree.specs.Functions.{default_of};
 
     /// The body of these bytes. None exactly where they aren't whole lines or a line begins with `/*@`; the bytes are
     /// then given up. Takes no memory.
@@ -34,6 +37,18 @@ impl Body {
         } else {
             None
         }
+    }
+
+    /// The body that stands where nothing else is given.
+    pub(crate) fn default_of(alloc: Global, kind: Kind) -> Result<Body, NoMemory>
+        ensures { IfOk result (λ body. body ≡ default_of kind) }
+    {
+        let mut bytes = Vec::new(alloc);
+        match kind {
+            Kind::Choice => bytes.extend_from_slice(b"  return 0;\n")?,
+            Kind::Prelude | Kind::Compute | Kind::Make | Kind::Take => {}
+        }
+        Ok(Body { bytes })
     }
 
     /// The bytes of its lines. Takes no memory.

@@ -3,10 +3,12 @@
 
 mod body;
 mod kernel;
+mod kernels;
 mod tree;
 
 pub use body::{Bodies, Body};
 pub use kernel::{KName, Kind};
+pub use kernels::{default_bodies, functions, has_words};
 pub use pb_affine::{Base, Guard, Guards, Lin, NRange};
 pub use pb_local::{
     CoreKernel, CoreLabel, KernelKind, Local, Op, Payload, Peer, Relay, Role, Stmt, Test,

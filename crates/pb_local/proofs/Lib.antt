@@ -1,3 +1,4 @@
+pub mod Copies
 pub mod Indents
 pub mod Layouts
 pub mod Lengths

@@ -1,6 +1,7 @@
 //! The endpoint program that a protocol projects to.
 #![tactic(auto)]
 
+mod copy;
 mod layout;
 mod lines;
 mod pieces;
