@@ -1,3 +1,4 @@
 pub mod Fronts
 pub mod Labels
+pub mod PrintedLemmas
 pub mod Replies

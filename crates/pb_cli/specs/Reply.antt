@@ -6,6 +6,7 @@ use Rattle.pb_text.specs.declared.place.Place.{Place}
 use Rattle.pb_io.specs.Files.{File, content_of, IsSureOf}
 use Rattle.pb_io.specs.Sinks.{AppendsFront}
 use Rattle.pb_cli.specs.Lines.{line_of, status_of}
+use Rattle.pb_cli.specs.Printed.{IsPrinted}
 use Rattle.pb_cli.specs.declared.refusal.Refusal.{Refusal}
 use Rattle.pb_cli.specs.declared.refusal.Refusal.TheVariants as refusal
 use Rattle.pb_cli.specs.declared.status.Status.{Status}
@@ -26,9 +27,9 @@ OnFile (Some name) None P = Unit {0}
 OnFile (Some name) (Some files) P = P (content_of files name)
 
 -- to the words and the files belong a status and the bytes that it comes with. Which of the files that are short enough
--- are built, and what the text on Done means, is left open, and so is when memory is wanting
+-- are built, and all of the text on Done but its first line, is left open, and so is when memory is wanting
 abbrev pub IsReply : Option (List ℕ) → Option (List File) → Status → List ℕ → Type 0
-IsReply form holds Done text = OnFile form holds (λ bytes. length bytes ≤ most_bytes)
+IsReply form holds Done text = OnFile form holds (λ bytes. length bytes ≤ most_bytes) × IsPrinted text
 IsReply form holds Usage text = (form ≡ None) × (text ≡ line_of refusal.Usage)
 IsReply form holds ReadFault text = IsSome form × (text ≡ line_of refusal.ReadFault)
 IsReply form holds Limit text = OnFile form holds (λ bytes. most_bytes < length bytes) × (text ≡ line_of refusal.FileBytes)

@@ -10,6 +10,8 @@ mod parts;
 mod refusal;
 mod reply;
 mod status;
+#[cfg(test)]
+mod tests;
 mod words;
 
 use call::pabble;

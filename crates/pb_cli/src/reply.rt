@@ -1,7 +1,8 @@
-ghost use Rattle.std.specs.Prelude.{Some, IsErrOf, map};
+ghost use Rattle.std.specs.Prelude.{Some, IfOk, IsErrOf, map};
 ghost use Rattle.std.specs.String.{string_bytes};
 ghost use Rattle.pb_io.specs.Faults.{Rose};
 ghost use Rattle.pb_io.specs.Files.{IsSureOf};
+ghost use Rattle.pb_cli.specs.Printed.{IsPrinted};
 ghost use Rattle.pb_cli.specs.Reply.{Answers, IsReply, IsSureOfForm};
 ghost use Rattle.pb_cli.specs.Words.{gen_file};
 
@@ -51,7 +52,9 @@ fn gen_text<F: Folder>(alloc: Global, folder: &mut F, file: &str) -> Result<Vec<
 }
 
 /// The C text of a protocol of the first form.
-fn first_text(alloc: Global, bytes: &[u8]) -> Result<Vec<u8>, FirstFault> {
+fn first_text(alloc: Global, bytes: &[u8]) -> Result<Vec<u8>, FirstFault>
+    ensures { IfOk result (λ text. IsPrinted text.items) }
+{
     let file = read_file(alloc, bytes)?;
     let form = first_form(alloc, &file)?;
     Ok(print_form(alloc, &form)?)

@@ -1,5 +1,8 @@
 //! The C text of a protocol of the first form, for MPI 3.1.
 
+ghost use Rattle.std.specs.Prelude.{IfOk};
+ghost use Rattle.pb_cli.specs.Printed.{IsPrinted};
+
 use super::form::{Form, Message};
 use pb_affine::{Base, Lin, NRange};
 use pb_text::{Name, NoMemory, push_number};
@@ -51,10 +54,10 @@ const CLOSE: &str = "  MPI_Finalize();
 ";
 
 /// The C text of the protocol.
-pub fn print_form(alloc: Global, form: &Form) -> Result<Vec<u8>, NoMemory> {
-    let mut text = Text {
-        bytes: Vec::new(alloc),
-    };
+pub fn print_form(alloc: Global, form: &Form) -> Result<Vec<u8>, NoMemory>
+    ensures { IfOk result (λ text. IsPrinted text.items) }
+{
+    let mut text = Text::new(alloc)?;
     text.head(form)?;
     text.main(form)?;
     for message in &form.messages {
@@ -77,12 +80,18 @@ enum Piece<'a> {
 #[derive(Drop)]
 struct Text {
     bytes: Vec<u8>,
+    ghost begun: { IsPrinted bytes.items },
 }
 
 impl Text {
+    /// The line that tells the format.
+    fn new(alloc: Global) -> Result<Text, NoMemory> {
+        let bytes = Vec::from_slice(alloc, b"/* pabble 1 */\n")?;
+        Ok(Text { bytes })
+    }
+
     /// The comments of the head, and the role's function.
     fn head(&mut self, form: &Form) -> Result<(), NoMemory> {
-        self.words("/* pabble 1 */\n")?;
         self.line(&[
             Piece::Words("/* protocol "),
             Piece::Name(&form.protocol),
@@ -196,8 +205,8 @@ impl Text {
         for piece in pieces {
             match piece {
                 Piece::Words(words) => self.words(words)?,
-                Piece::Name(name) => self.bytes.extend_from_slice(name.bytes())?,
-                Piece::Number(number) => push_number(&mut self.bytes, i64::from(*number))?,
+                Piece::Name(name) => self.put(name.bytes())?,
+                Piece::Number(number) => self.number(i64::from(*number))?,
                 Piece::Lin(lin) => self.lin(*lin)?,
             }
         }
@@ -207,7 +216,7 @@ impl Text {
     /// A number, `N`, `N + 1` or `N - 1`. An offset 0 isn't written.
     fn lin(&mut self, lin: Lin) -> Result<(), NoMemory> {
         let base = match lin.base {
-            Base::Fixed => return push_number(&mut self.bytes, i64::from(lin.off)),
+            Base::Fixed => return self.number(i64::from(lin.off)),
             Base::Param => "N",
             Base::Var => "i",
         };
@@ -216,10 +225,21 @@ impl Text {
             return Ok(());
         }
         self.words(if lin.off < 0 { " - " } else { " + " })?;
-        push_number(&mut self.bytes, i64::from(lin.off).abs())
+        self.number(i64::from(lin.off).abs())
     }
 
     fn words(&mut self, words: &str) -> Result<(), NoMemory> {
-        Ok(self.bytes.extend_from_slice(words.as_bytes())?)
+        self.put(words.as_bytes())
+    }
+
+    #[tactic(auto, using(crate::proofs::PrintedLemmas::printed_more))]
+    fn number(&mut self, number: i64) -> Result<(), NoMemory> {
+        push_number(&mut self.bytes, number)
+    }
+
+    #[tactic(auto, using(crate::proofs::PrintedLemmas::printed_more))]
+    fn put(&mut self, bytes: &[u8]) -> Result<(), NoMemory> {
+        self.bytes.extend_from_slice(bytes)?;
+        Ok(())
     }
 }

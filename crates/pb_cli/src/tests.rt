@@ -1,0 +1,308 @@
+ghost use Rattle.std.specs.Prelude.{◌≡◌};
+
+use crate::call::pabble;
+use crate::status::Status;
+use crate::word;
+use pb_io::{MemFile, MemFolder, MemSink, SureFolder, SureSink};
+use std::alloc::{AllocError, Global};
+use std::test::Fail;
+
+/// One message from the first rank to the last.
+const FIRST: &str = "const N = 2..max;
+global protocol P(role W[0..N-1]) {
+  A() from W[0] to W[N-1];
+}
+";
+
+/// Its C text.
+const FIRST_TEXT: &str = "/* pabble 1 */
+/* protocol P */
+/* N 2 to max */
+/* role W 0 to N - 1 */
+/* label A () */
+#include <mpi.h>
+#include <stdint.h>
+static int32_t is[1024], ir[1024];
+static uint32_t us[1024], ur[1024];
+/*@ prelude */
+/*@ end */
+static int32_t r_W(int32_t N, int32_t x)
+{
+  return x + 0 * N + 0;
+}
+int main(int argc, char **argv)
+{
+  int size, rank;
+  int32_t N, R, I, a, i;
+  MPI_Status st;
+  MPI_Init(&argc, &argv);
+  MPI_Comm_size(MPI_COMM_WORLD, &size);
+  MPI_Comm_rank(MPI_COMM_WORLD, &rank);
+  N = (size - 0) / 1;
+  R = 0;
+  I = 0;
+  a = 0;
+  i = 0;
+  if (N < 2 || 1 * N + 0 != size) {
+    MPI_Abort(MPI_COMM_WORLD, 2);
+  }
+  if (rank >= 0 * N + 0) {
+    R = 0;
+    I = rank - (0 * N + 0);
+  }
+  if (R == 0 && I == 0) {
+    MPI_Send(us, 0, MPI_UINT32_T, r_W(N, N - 1), 0, MPI_COMM_WORLD);
+  }
+  if (R == 0 && I == N - 1) {
+    MPI_Recv(ur, 0, MPI_UINT32_T, r_W(N, 0), 0, MPI_COMM_WORLD, MPI_STATUS_IGNORE);
+  }
+  MPI_Finalize();
+  return 0;
+}
+";
+
+/// Two labels, an upper end, and every form of an end.
+const SECOND: &str = "const C = 03 .. 9 ;global protocol Q_1(role _r[0..C-1]){B()from _r to _r[2];
+A() from _r[C-2] to _r[00];\tB() from _r[C-1] to _r [ 1 ]\r;}";
+
+/// A file named `p` with this text.
+fn files(alloc: Global, text: &str) -> Result<Vec<MemFile>, AllocError> {
+    let mut files = Vec::new(alloc);
+    files.push(MemFile {
+        name: String::from_str(alloc, "p")?,
+        bytes: Vec::from_slice(alloc, text.as_bytes())?,
+    })?;
+    Ok(files)
+}
+
+fn strings(alloc: Global, words: &[&str]) -> Result<Vec<String>, AllocError> {
+    let mut strings = Vec::new(alloc);
+    for word in words {
+        strings.push(String::from_str(alloc, word)?)?;
+    }
+    Ok(strings)
+}
+
+/// The status of `gen p` where p has this text, and what was written.
+fn generated(alloc: Global, text: &str) -> Result<(Status, Vec<u8>), Fail> {
+    let words = strings(alloc, &["gen", "p"])?;
+    let mut folder = MemFolder::new(files(alloc, text)?, Vec::new(alloc));
+    let mut out = MemSink::new(alloc, 8192, 8192, Vec::new(alloc))?;
+    let status = pabble(alloc, &words, &mut folder, &mut out, word);
+    Ok((status, Vec::from_slice(alloc, out.taken())?))
+}
+
+#[test]
+fn gen_writes_the_text(rt: HostRuntime) -> Result<(), Fail> {
+    let (status, text) = generated(rt.alloc(), FIRST)?;
+    assert_eq!(rt; status, Status::Done);
+    assert_eq!(rt; text.as_slice(), FIRST_TEXT.as_bytes());
+    Ok(())
+}
+
+#[test]
+fn gen_writes_each_form_of_an_end(rt: HostRuntime) -> Result<(), Fail> {
+    let (status, bytes) = generated(rt.alloc(), SECOND)?;
+    assert_eq!(rt; status, Status::Done);
+    let text = std::str::from_utf8(&bytes)?;
+    for lines in [
+        "/* protocol Q_1 */\n/* N 3 to 9 */\n/* role _r 0 to N - 1 */\n/* label B () */\n/* label A () */\n#include <mpi.h>\n",
+        "\nstatic int32_t r__r(int32_t N, int32_t x)\n",
+        "\n  if (N < 3 || N > 9 || 1 * N + 0 != size) {\n",
+        "\n  if (R == 0 && I == 0) {\n    MPI_Send(us, 0, MPI_UINT32_T, r__r(N, 2), 0, MPI_COMM_WORLD);\n  }\n",
+        "\n  if (R == 0 && I == N - 2) {\n    MPI_Send(us, 0, MPI_UINT32_T, r__r(N, 0), 1, MPI_COMM_WORLD);\n  }\n",
+        "\n  if (R == 0 && I == N - 1) {\n    MPI_Send(us, 0, MPI_UINT32_T, r__r(N, 1), 0, MPI_COMM_WORLD);\n  }\n",
+    ] {
+        assert!(rt; text.contains(lines), "{lines}");
+    }
+    Ok(())
+}
+
+#[test]
+fn gen_of_one_value_of_n(rt: HostRuntime) -> Result<(), Fail> {
+    let file = "const N = 3..3;global protocol P(role W[0..N-1]){}";
+    let (status, bytes) = generated(rt.alloc(), file)?;
+    assert_eq!(rt; status, Status::Done);
+    let text = std::str::from_utf8(&bytes)?;
+    for lines in [
+        "\n/* N 3 to 3 */\n/* role W 0 to N - 1 */\n#include <mpi.h>\n",
+        "\n  N = 3;\n  R = 0;\n",
+        "\n  if (N < 3 || N > 3 || 1 * N + 0 != size) {\n",
+    ] {
+        assert!(rt; text.contains(lines), "{lines}");
+    }
+    Ok(())
+}
+
+#[test]
+fn other_forms_are_not_built(rt: HostRuntime) -> Result<(), Fail> {
+    for (range, roles, body) in [
+        // Other forms.
+        ("2..max", "role W[0..N-1], role V", ""),
+        ("2..max", "role W[1..N]", ""),
+        ("2..max", "role W", ""),
+        ("2..max", "role W[0..N-1]", "A(int32) from W[0] to W[1];"),
+        (
+            "2..max",
+            "role W[0..N-1]",
+            "A() from W[i:0..N-2] to W[i+1];",
+        ),
+        ("2..max", "role W[0..N-1]", "barrier;"),
+        (
+            "2..max",
+            "role W[0..N-1]",
+            "A() from W[0] to W[1]; // to there",
+        ),
+        // Names.
+        ("2..max", "role P[0..N-1]", ""),
+        ("2..max", "role W[0..N-1]", "W() from W[0] to W[1];"),
+        ("2..max", "role W[0..N-1]", "A() from V[0] to W[1];"),
+        ("2..max", "role W[0..N-1]", "A() from W[M-1] to W[1];"),
+        ("2..max", "role max[0..N-1]", ""),
+        // The range, the indices, and ends that meet.
+        ("0..max", "role W[0..N-1]", ""),
+        ("4..3", "role W[0..N-1]", ""),
+        ("100001..max", "role W[0..N-1]", ""),
+        ("2..2000000001", "role W[0..N-1]", ""),
+        ("2..max", "role W[0..N-1]", "A() from W[0] to W[2];"),
+        ("2..max", "role W[0..N-1]", "A() from W[0] to W[N];"),
+        ("2..max", "role W[0..N-1]", "A() from W[0] to W[N-3];"),
+        ("1..max", "role W[0..N-1]", "A() from W[0] to W[N-1];"),
+        ("5..9", "role W[0..N-1]", "A() from W[N-5] to W[4];"),
+    ] {
+        let text = format!(in rt.alloc();
+            "const N = {range};global protocol P({roles}){{{body}}}"
+        )?;
+        let (status, line) = generated(rt.alloc(), text.as_str())?;
+        assert_eq!(rt; status, Status::NotBuilt, "{text}");
+        assert_eq!(rt;
+            line.as_slice(),
+            b"pabble: not built at 1:1\n".as_slice(),
+            "{text}"
+        );
+    }
+    Ok(())
+}
+
+#[test]
+fn words_in_no_form(rt: HostRuntime) -> Result<(), Fail> {
+    let forms: [&[&str]; 7] = [
+        &[],
+        &["gen"],
+        &["gen", "-p"],
+        &["gen", "-"],
+        &["gen", "p", "q"],
+        &["check", "p"],
+        &["-", "p"],
+    ];
+    for form in forms {
+        let words = strings(rt.alloc(), form)?;
+        let mut folder = MemFolder::new(files(rt.alloc(), FIRST)?, Vec::new(rt.alloc()));
+        let mut out = MemSink::new(rt.alloc(), 64, 1, Vec::new(rt.alloc()))?;
+        let status = pabble(rt.alloc(), &words, &mut folder, &mut out, word);
+        assert_eq!(rt; status, Status::Usage);
+        assert_eq!(rt; out.taken(), b"pabble: usage\n".as_slice());
+    }
+    Ok(())
+}
+
+#[test]
+fn each_failing_read_is_a_read_fault(rt: HostRuntime) -> Result<(), Fail> {
+    let words = strings(rt.alloc(), &["gen", "p"])?;
+    for (failing, expected) in [
+        (0, Status::ReadFault),
+        (1, Status::ReadFault),
+        (2, Status::ReadFault),
+        (3, Status::Done),
+    ] {
+        let fails = [failing].to_vec(rt.alloc())?;
+        let mut folder = MemFolder::new(files(rt.alloc(), FIRST)?, fails);
+        let mut out = MemSink::new(rt.alloc(), 8192, 8192, Vec::new(rt.alloc()))?;
+        let status = pabble(rt.alloc(), &words, &mut folder, &mut out, word);
+        assert_eq!(rt; status, expected, "call {failing}");
+        let is_line = out.taken() == b"pabble: read fault\n".as_slice();
+        assert_eq!(rt; is_line, expected == Status::ReadFault, "call {failing}");
+    }
+    Ok(())
+}
+
+#[test]
+fn a_failing_write_leaves_a_front(rt: HostRuntime) -> Result<(), Fail> {
+    let words = strings(rt.alloc(), &["gen", "p"])?;
+    // The room, the most of a piece, the piece that fails, and how many bytes are taken.
+    for (room, most, failing, expected) in [
+        (8192, 8192, 0, 0),
+        (10, 8192, 99, 10),
+        (8192, 1, 99, 99),
+        (8192, 1, 8192, FIRST_TEXT.len()),
+    ] {
+        assert!(rt; 1 <= most);
+        let fails = [failing].to_vec(rt.alloc())?;
+        let mut folder = MemFolder::new(files(rt.alloc(), FIRST)?, Vec::new(rt.alloc()));
+        let mut out = MemSink::new(rt.alloc(), room, most, fails)?;
+        let status = pabble(rt.alloc(), &words, &mut folder, &mut out, word);
+        let is_whole = expected == FIRST_TEXT.len();
+        assert_eq!(rt; status == Status::Done, is_whole, "{room} {most} {failing}");
+        assert_eq!(rt;
+            status == Status::WriteFault,
+            !is_whole,
+            "{room} {most} {failing}"
+        );
+        assert_eq!(rt; out.taken().len(), expected, "{room} {most} {failing}");
+        assert!(rt;
+            FIRST_TEXT.as_bytes().starts_with(out.taken()),
+            "{room} {most} {failing}"
+        );
+    }
+    Ok(())
+}
+
+#[test]
+fn a_file_may_have_1048576_bytes(rt: HostRuntime) -> Result<(), Fail> {
+    for (blanks, expected) in [(1_048_576, Status::Done), (1_048_577, Status::Limit)] {
+        let mut text = Vec::from_slice(rt.alloc(), FIRST.as_bytes())?;
+        text.resize(blanks, b' ')?;
+        let (status, written) = generated(rt.alloc(), std::str::from_utf8(&text)?)?;
+        assert_eq!(rt; status, expected);
+        let is_line = written.as_slice() == b"pabble: limit file bytes\n".as_slice();
+        assert_eq!(rt; is_line, expected == Status::Limit);
+    }
+    Ok(())
+}
+
+/// The status over a folder and a sink that never fail.
+fn sure(alloc: Global, words: &[String], folder: &mut SureFolder, out: &mut SureSink) -> Status
+    ensures read { result ≡ Status.ReadFault → ⊥ }
+    ensures write { result ≡ Status.WriteFault → ⊥ }
+{
+    pabble(alloc, words, folder, out, word)
+}
+
+#[test]
+fn sure_ones_have_no_fault(rt: HostRuntime) -> Result<(), Fail> {
+    let mut folder = SureFolder::new(files(rt.alloc(), FIRST)?);
+    for (file, expected, count) in [
+        ("p", Status::Done, FIRST_TEXT.len()),
+        ("q", Status::NotBuilt, 25),
+    ] {
+        let words = strings(rt.alloc(), &["gen", file])?;
+        let mut out = SureSink::new();
+        let status = sure(rt.alloc(), &words, &mut folder, &mut out);
+        assert_eq!(rt; status, expected);
+        assert_eq!(rt; out.count(), count as u64);
+    }
+    Ok(())
+}
+
+/// The first words that the generator's authors print for the seed 42 and the stream 54.
+#[test]
+fn words_are_those_of_the_generator(rt: HostRuntime) {
+    for (count, expected) in [
+        (0, 0xa15c02b7),
+        (1, 0x7b47f409),
+        (4, 0xbfa4784b),
+        (5, 0xcbed606e),
+    ] {
+        assert_eq!(rt; word(42, 54, count), expected);
+    }
+}
