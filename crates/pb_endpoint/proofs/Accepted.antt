@@ -9,9 +9,9 @@ use Rattle.pb_world.proofs.Sequential.{internal_self, message_sender, message_re
 use Rattle.pb_world.proofs.Theorem.{all_ranks}
 use Rattle.pb_core.specs.Flat.{Block, stop, message, compute, together, choice, looped, again, Branches, no_branch, branch, nth, takes_part, takes_part_among, count, branch_at}
 use Rattle.pb_core.specs.Outcomes.{firsts_among, source_of}
-use Rattle.pb_core.specs.Run.{Setting, Depends, Opener, Top, Chosen, Body, Frame, Env, at_rank, env_over, env_of, live, back, back_over, move, State, branch_now, words_now, taken_at, emit, next, is_over_at}
+use Rattle.pb_core.specs.Run.{first_state, Setting, Depends, Opener, Top, Chosen, Body, Frame, Env, at_rank, env_over, env_of, live, back, back_over, move, State, branch_now, words_now, taken_at, emit, next, is_over_at}
 use Rattle.pb_endpoint.proofs.Kept.{Keeps}
-use Rattle.pb_endpoint.specs.Theorem.{first_state, family, Bridge}
+use Rattle.pb_endpoint.specs.Theorem.{family, EndpointsDo}
 use Rattle.pb_endpoint.proofs.Clean.{involved, Clean, Stack_keeps}
 use Rattle.pb_endpoint.proofs.Stacks.{or_no, bool_cases, live_env}
 use Rattle.pb_endpoint.proofs.Branches.{or_one, or_left, or_right, receives_in, part_first}
@@ -274,7 +274,7 @@ module _ (w : Setting) (protocol : Block) where
         depends
         (λ q g. ends_or_acts q (subst (λ x. Inv x.stack) g.2.2 (inv_after g.2.1 (first_state w protocol g.2.0) (inv_first g.2.0))))
 
-pub bridge_is : Bridge
+pub bridge_is : EndpointsDo
 bridge_is w protocol depends accepted =
     let obeys = obeyed w protocol accepted in
     (laws_kept w protocol obeys depends, all_ranks (family w protocol) (laws_kept w protocol obeys depends))

@@ -14,7 +14,7 @@ use Rattle.pb_endpoint.specs.Endpoint.{Code, done, send, receive, run, enter, le
 use Rattle.pb_endpoint.specs.Endpoint as E
 use Rattle.pb_core.specs.Outcomes.{is_among}
 use Rattle.pb_endpoint.specs.Theorem.{family}
-use Rattle.pb_endpoint.specs.Once.{is_at_again, once_family, Bridge_once}
+use Rattle.pb_endpoint.specs.Once.{is_at_again, once_family, EndpointsDoOnce}
 use Rattle.pb_endpoint.proofs.Kept.{Obeys}
 use Rattle.pb_endpoint.proofs.Stacks.{bool_cases}
 use Rattle.pb_endpoint.proofs.Branches.{or_one, or_left, or_right}
@@ -241,7 +241,7 @@ module _ (w : Setting) (protocol : Block) (obeys : Obeys w.total protocol) where
   laws_once : Laws (family w protocol) → Laws (once_family w protocol)
   laws_once = laws_on (family w protocol) (once is_at_again machine) (λ r. once_start (endpoint protocol r)) (λ r lt s ends f. follows_once is_at_again machine (is_allowed w r) Inv (keeps_once (is_allowed w r)) false (inv_start r lt) f)
 
-pub once_is : Bridge_once
+pub once_is : EndpointsDoOnce
 once_is w protocol depends accepted =
     let laws = laws_once w protocol (obeyed w protocol accepted) (bridge_is w protocol depends accepted).0 in
     (laws, all_ranks (once_family w protocol) laws)

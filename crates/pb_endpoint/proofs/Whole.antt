@@ -9,11 +9,11 @@ use Rattle.pb_world.proofs.Sequential.{internal_other}
 use Rattle.pb_world.proofs.Local.{Leads, there, leads_on, leads_follows, UsesAll, none}
 use Rattle.pb_world.proofs.Shadow.{More, Moves, acts, asks, shadow_laws}
 use Rattle.pb_core.specs.Flat.{Block, stop, message, compute, together, choice, looped, again, takes_part, takes_part_among, branch_at}
-use Rattle.pb_core.specs.Run.{Setting, Depends, Opener, Chosen, Frame, at_rank, env_over, env_of, live, State, is_allowed, branch_now, taken_at, emit, next, is_over_at}
+use Rattle.pb_core.specs.Run.{first_state, Setting, Depends, Opener, Chosen, Frame, at_rank, env_over, env_of, live, State, is_allowed, branch_now, taken_at, emit, next, is_over_at}
 use Rattle.pb_endpoint.proofs.Kept.{Receives_first, Keeps}
 use Rattle.pb_core.specs.Outcomes.{firsts, firsts_among, source_of, labels_of, is_among}
 use Rattle.pb_endpoint.specs.Endpoint.{Part, code, machine, body_of, shadow}
-use Rattle.pb_endpoint.specs.Theorem.{first_state, family}
+use Rattle.pb_endpoint.specs.Theorem.{family}
 use Rattle.pb_endpoint.proofs.Clean.{involved, Clean, Stack_keeps}
 use Rattle.pb_endpoint.proofs.Stacks.{or_no, bool_cases, move_dead}
 use Rattle.pb_endpoint.proofs.Branches.{or_right, receives_in, part_first}

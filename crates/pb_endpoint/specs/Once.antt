@@ -30,5 +30,5 @@ abbrev pub once_family : Setting → Block → Family (Once (List Part))
 once_family w protocol = on_machine (family w protocol) (once is_at_again machine) (λ r. once_start (endpoint protocol r))
 
 -- the endpoints keep the law also on this machine
-abbrev pub Bridge_once : Type 0
-Bridge_once = (w : Setting) (protocol : Block) → Depends w → Accepted w protocol → Laws (once_family w protocol) × AllRanks (once_family w protocol)
+abbrev pub EndpointsDoOnce : Type 0
+EndpointsDoOnce = (w : Setting) (protocol : Block) → Depends w → Accepted w protocol → Laws (once_family w protocol) × AllRanks (once_family w protocol)

@@ -3,18 +3,18 @@
 
 ghost use Rattle.pb_endpoint.specs.Core.{CoreRanks};
 ghost use Rattle.pb_endpoint.specs.File.{FilesAreShaped, FileRanks};
-ghost use Rattle.pb_endpoint.specs.Once.{Bridge_once};
-ghost use Rattle.pb_endpoint.specs.Theorem.{Bridge};
+ghost use Rattle.pb_endpoint.specs.Once.{EndpointsDoOnce};
+ghost use Rattle.pb_endpoint.specs.Theorem.{EndpointsDo};
 
 /// Where a flat protocol keeps the rules, the endpoints of its ranks follow its sequential run, go on where it goes on
 /// for them, and do it together in whatever order their events come.
 pub fn bridge()
-    ensures { Bridge }
+    ensures { EndpointsDo }
 {}
 
 /// On the way no rank goes back to a loop twice without an action between.
 pub fn once()
-    ensures { Bridge_once }
+    ensures { EndpointsDoOnce }
 {}
 
 /// Where a core keeps the rules at one N, all ranks together do its sequential run, each by its endpoint, and stop only at
