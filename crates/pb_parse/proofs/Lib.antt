@@ -1,3 +1,4 @@
 pub mod Repeat
 pub mod Counting
 pub mod Together
+pub mod Texts

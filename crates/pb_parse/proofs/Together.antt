@@ -91,6 +91,7 @@ none_passes ts limit place within p =
 -- what is a file within the limits is parsed, unless memory runs out
 pub only : (end : Place) (ts : List Token) (result : Result FileTree ParseFault) → IsParsed end ts result → (file : PlainFile) → IsFile ts file → AreWithin ts → Gives file result
 only end ts (Ok f) p file h within = one_tree ts (plain_file f) file p.0 h
+only end ts (Err (fault.Lex error)) p file h within = absurd p
 only end ts (Err fault.NoMemory) p file h within = tt
 only end ts (Err (fault.Unexpected place)) (inl p) file h within = absurd (p.stops.there (stops_front ts file h p.token p.rest p.stops))
 only end ts (Err (fault.Unexpected place)) (inr p) file h within = absurd (p.0.ends.no_file file h)

@@ -1,10 +1,15 @@
 -- What a parser of all the tokens of a text answers. The earliest token counts, and at one token the grammar comes before
 -- the limits.
-use Rattle.std.specs.Prelude.{◌≡◌, ◌⊎◌, List, [], ◌∷◌, ◌++◌, Some, Result, Ok, Err}
+use Rattle.std.specs.Prelude.{◌≡◌, ◌⊎◌, ℕ, List, [], ◌∷◌, ◌++◌, Some, Result, Ok, Err}
 use Rattle.pb_text.specs.declared.place.Place.{Place}
 use Rattle.pb_text.specs.declared.quantity.Quantity.{Quantity}
 use Rattle.pb_text.specs.declared.quantity.Quantity.TheVariants as quantity
 use Rattle.pb_text.specs.declared.token.Token.{Token}
+use Rattle.pb_text.specs.Places.{first_place, place_after}
+use Rattle.pb_text.specs.Tokens.{IsText}
+use Rattle.pb_lex.specs.Seen.{IsFirstError}
+use Rattle.pb_lex.specs.declared.error.LexFault.{LexFault}
+use Rattle.pb_lex.specs.declared.error.LexFault.TheVariants as lexical
 use Rattle.pb_syntax.specs.declared.tree.FileTree.{FileTree}
 use Rattle.pb_syntax.specs.Tree.{PlainFile}
 use Rattle.pb_syntax.specs.Plain.{plain_file}
@@ -39,6 +44,7 @@ pub record Passes (ts : List Token) (limit : Quantity) (place : Place) : Type 0 
   pub at : place ≡ token.place
 
 abbrev pub IsFault : Place → List Token → ParseFault → Type 0
+IsFault end ts (fault.Lex error) = ⊥
 IsFault end ts (fault.Unexpected place) = IsUnexpected ts place ⊎ (IsTooEarly ts × (place ≡ end))
 IsFault end ts (fault.TooDeep place) = Passes ts quantity.Nesting place
 IsFault end ts (fault.TooMany limit place) = (limit ≡ quantity.Nesting → ⊥) × Passes ts limit place
@@ -47,6 +53,24 @@ IsFault end ts fault.NoMemory = Unit {0}
 abbrev pub IsParsed : Place → List Token → Result FileTree ParseFault → Type 0
 IsParsed end ts (Ok f) = IsFile ts (plain_file f) × AreWithin ts
 IsParsed end ts (Err e) = IsFault end ts e
+
+-- What a parser of the bytes answers: the first lexical fault, or what parsing the tokens gives.
+abbrev pub OfTokens : List ℕ → (List Token → Type 0) → Type 0
+OfTokens bytes gives = (tokens : List Token) × IsText bytes tokens × gives tokens
+
+abbrev pub IsTextFault : List ℕ → ParseFault → Type 0
+IsTextFault bytes (fault.Lex error) = IsFirstError bytes error
+IsTextFault bytes fault.NoMemory = Unit {0}
+IsTextFault bytes other = OfTokens bytes (λ tokens. IsFault (place_after first_place bytes) tokens other)
+
+abbrev pub IsParsedText : List ℕ → Result FileTree ParseFault → Type 0
+IsParsedText bytes (Ok f) = OfTokens bytes (λ tokens. IsFile tokens (plain_file f) × AreWithin tokens)
+IsParsedText bytes (Err e) = IsTextFault bytes e
+
+-- the fault of a lexical one
+abbrev pub lex_fault : LexFault → ParseFault
+lex_fault (lexical.Bad error) = fault.Lex error
+lex_fault lexical.NoMemory = fault.NoMemory
 
 -- it gives this tree, unless memory runs out
 abbrev pub Gives : PlainFile → Result FileTree ParseFault → Type 0

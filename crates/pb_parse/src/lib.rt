@@ -16,4 +16,5 @@ mod simple;
 mod verdict;
 
 pub use fault::ParseFault;
-pub use verdict::parse_tokens;
+pub use pb_lex::LexError;
+pub use verdict::{parse, parse_tokens};

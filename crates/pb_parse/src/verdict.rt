@@ -1,15 +1,41 @@
-ghost use Rattle.std.specs.Prelude.{◌≡◌, ◌<◌, take, drop, length};
+ghost use Rattle.std.specs.Prelude.{◌≡◌, ◌<◌, ◌≤◌, List, take, drop, length};
+ghost use Rattle.pb_text.specs.declared.token.Token.{Token};
+ghost use Rattle.pb_text.specs.Tokens.{IsText};
 ghost use Rattle.pb_syntax.specs.Tree.{PlainFile};
 ghost use Rattle.pb_syntax.specs.Grammar.{IsFile};
 ghost use Rattle.pb_parse.specs.Limits.{AreWithin, NextPasses, counts};
-ghost use Rattle.pb_parse.specs.Parsed.{IsParsed, Gives, passes_fault, stop_fault};
+ghost use Rattle.pb_parse.specs.Parsed.{IsParsed, IsParsedText, Gives, passes_fault, stop_fault};
 
 use crate::cursor::{Cursor, Stop};
 use crate::fault::ParseFault;
 use crate::limits::first_passed;
+use pb_lex::{end_place, lex};
 use pb_syntax::FileTree;
 use pb_text::{Place, Quantity, Token};
 use std::alloc::Global;
+
+/// The tree of a protocol file.
+///
+/// The bytes are at most 67,108,864. There is a tree exactly where the bytes are a text of the grammar within the limits,
+/// and `ParseFault` says which fault comes where there is none.
+#[tactic(auto, using(crate::proofs::Texts::only_text))]
+pub fn parse(alloc: Global, bytes: &[u8]) -> Result<FileTree, ParseFault>
+    requires { length bytes.now ≤ 67108864 }
+    ensures parsed { IsParsedText bytes.now result }
+    // Each file within the limits is parsed, unless memory runs out.
+    ensures only { (tokens : List Token) (file : PlainFile) → IsText bytes.now tokens → IsFile tokens file → AreWithin tokens → Gives file result }
+{
+    text_verdict(alloc, bytes)
+}
+
+#[tactic(auto, using(crate::proofs::Texts::refused_text, crate::proofs::Texts::parsed_text))]
+fn text_verdict(alloc: Global, bytes: &[u8]) -> Result<FileTree, ParseFault>
+    requires { length bytes.now ≤ 67108864 }
+    ensures { IsParsedText bytes.now result }
+{
+    let tokens = lex(alloc, bytes)?;
+    parse_tokens(alloc, &tokens, end_place(bytes))
+}
 
 /// The tree of the tokens of a whole text. `end` is the place behind its last byte.
 #[tactic(auto, using(crate::proofs::Together::only))]

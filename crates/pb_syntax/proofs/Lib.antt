@@ -14,3 +14,7 @@ pub mod SameRows
 pub mod Prints
 pub mod PrintsTokens
 pub mod PrintsGrammar
+pub mod Relex
+pub mod Written
+pub mod PrintedBare
+pub mod PrintedText

@@ -9,3 +9,4 @@ pub mod Reading
 pub mod Readers
 pub mod Bare
 pub mod Printed
+pub mod Layout

@@ -9,6 +9,7 @@ ghost use Rattle.pb_syntax.specs.Grammar.{lin, role, payload, plain_end, any_end
 ghost use Rattle.pb_syntax.specs.Rows.{lin_row, role_row, payload_row, plain_end_row, any_end_row};
 
 mod core_label;
+mod layout;
 mod tree;
 
 pub use core_label::{CoreKernel, CoreLabel, KernelKind};
