@@ -17,6 +17,6 @@ pub close_next : (bytes : List ℕ) (at : ℕ) → at < length bytes → begins_
     → later at (close_of (drop at bytes)) ≡ later (at + 1) (close_of (drop (at + 1) bytes))
 close_next bytes at there miss =
     let cons : drop at bytes ≡ get_or bytes at 0 ∷ drop (at + 1) bytes =
-      drop-cons bytes at 0 there ∙ ap (λ k. get_or bytes at 0 ∷ drop k bytes) (sym (add-one at)) in
+    drop-cons bytes at 0 there ∙ ap (λ k. get_or bytes at 0 ∷ drop k bytes) (sym (add-one at)) in
     subst (λ (l : List ℕ). later at (close_of l) ≡ later (at + 1) (close_of (drop (at + 1) bytes))) (sym cons)
-      (step (get_or bytes at 0) (drop (at + 1) bytes) at (subst (λ (l : List ℕ). begins_with (codes "*/") l ≡ false) cons miss))
+    (step (get_or bytes at 0) (drop (at + 1) bytes) at (subst (λ (l : List ℕ). begins_with (codes "*/") l ≡ false) cons miss))

@@ -23,12 +23,12 @@ pub read_on : (what : Lexeme) (place : Place) (bytes text : List ℕ) (old new :
     → SoFar bytes (place_after place (take len text)) (drop len text) new
 read_on (lexemes.Gap n) place bytes text old new len seen reads before =
     λ end rest tokens way. subst (λ (l : List Token). Lexes end rest first_place bytes (l ++ tokens)) (sym reads.1)
-      (before end rest tokens (skip len (sym seen ∙ ap gap (sym reads.0)) way))
+    (before end rest tokens (skip len (sym seen ∙ ap gap (sym reads.0)) way))
 read_on (lexemes.Token kind n) place bytes text old new len seen reads before =
     let item : Token = record { kind = kind; place = place } in
     λ end rest tokens way. subst (λ (l : List Token). Lexes end rest first_place bytes (l ++ tokens)) (sym reads.1)
-      (subst (Lexes end rest first_place bytes) (sym (append_assoc old (item ∷ []) tokens))
-        (before end rest (item ∷ tokens) (read kind len (sym seen ∙ ap (token kind) (sym reads.0)) way)))
+    (subst (Lexes end rest first_place bytes) (sym (append_assoc old (item ∷ []) tokens))
+    (before end rest (item ∷ tokens) (read kind len (sym seen ∙ ap (token kind) (sym reads.0)) way)))
 read_on (lexemes.Bad fault) place bytes text old new len seen reads before = absurd reads
 
 pub read_sound : (what : Lexeme) (place : Place) (old new : List Token) (len : ℕ)

@@ -12,5 +12,5 @@ pub too_large : (digits : List ℕ) (n at : ℕ) → at < length digits → valu
     → 2000000000 < 10 * n + (get_or digits at 0 - 48) → nat_le (value_from 0 digits) 2000000000 ≡ false
 too_large digits n at there so_far large =
     let next : value_from 0 digits ≡ value_from (10 * n + (get_or digits at 0 - 48)) (drop (suc at) digits) =
-      so_far ∙ ap (value_from n) (drop-cons digits at 0 there) in
+    so_far ∙ ap (value_from n) (drop-cons digits at 0 there) in
     lt-leb (value_from 0 digits) 2000000000 (omega (arith, next, grows (10 * n + (get_or digits at 0 - 48)) (drop (suc at) digits)))

@@ -1,5 +1,5 @@
 -- The crate's types in the words of the grammar.
-use Rattle.std.specs.Prelude.{◌≡◌, ℕ, ◌<◌, ◌≤◌, List, [], ◌∷◌, ◌++◌}
+use Rattle.std.specs.Prelude.{◌≡◌, ℕ, ◌<◌, ◌≤◌, ◌⊎◌, List, [], ◌∷◌, ◌++◌}
 use Rattle.pb_text.specs.Lexemes.{Fault, bad_byte, open_comment, number_too_large, name_too_long, gap, token, bad}
 use Rattle.pb_text.specs.Lexemes as grammar
 use Rattle.pb_text.specs.Tokens.{IsFirstFault, IsSoundKind}
@@ -65,3 +65,15 @@ IsFirstError bytes (errors.NameTooLong place) = IsFirstFault bytes name_too_long
 abbrev pub IsRefusal : List ℕ → LexFault → Type 0
 IsRefusal bytes (outcomes.Bad error) = IsFirstError bytes error
 IsRefusal bytes outcomes.NoMemory = Unit {0}
+
+abbrev pub IsNoMemory : LexFault → Type 0
+IsNoMemory fault = fault ≡ outcomes.NoMemory
+
+abbrev pub error_at : Fault → Place → LexError
+error_at bad_byte place = errors.BadByte place
+error_at open_comment place = errors.OpenComment place
+error_at number_too_large place = errors.NumberTooLarge place
+error_at name_too_long place = errors.NameTooLong place
+
+abbrev pub IsErrorOrNoMemory : Fault → Place → LexFault → Type 0
+IsErrorOrNoMemory why place fault = (fault ≡ outcomes.Bad (error_at why place)) ⊎ IsNoMemory fault

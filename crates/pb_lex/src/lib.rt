@@ -3,14 +3,18 @@
 
 mod comment;
 mod error;
+mod law;
 mod lexeme;
 mod mark;
 mod number;
 mod place;
+#[cfg(test)]
+mod tests;
 mod text;
 mod word;
 
 pub use error::{LexError, LexFault};
+pub use law::one_reading;
 pub use pb_text::{Key, Mark, Name, NoMemory, Place, Token, TokenKind};
 pub use place::end_place;
 pub use text::lex;

@@ -1,7 +1,10 @@
-ghost use Rattle.std.specs.Prelude.{◌≡◌, ◌≤◌, ◌∷◌, ◌++◌, length, IfOk, IfErr};
+ghost use Rattle.std.specs.Prelude.{◌≡◌, ◌≤◌, ◌∷◌, ◌++◌, length, List, IfOk, IfErr, MatchResult};
 ghost use Rattle.std.specs.List.{All};
-ghost use Rattle.pb_text.specs.Tokens.{IsText, IsSoundToken};
-ghost use Rattle.pb_lex.specs.Seen.{error_of, IsRefusal, IsStop, Reads};
+ghost use Rattle.pb_text.specs.Tokens.{IsFirstFault, IsText, IsSoundToken};
+ghost use Rattle.pb_text.specs.Lexemes.{Fault as Kind};
+ghost use Rattle.pb_text.specs.declared.place.Place.{Place as Where};
+ghost use Rattle.pb_text.specs.declared.token.Token.{Token as Item};
+ghost use Rattle.pb_lex.specs.Seen.{error_of, IsErrorOrNoMemory, IsNoMemory, IsRefusal, IsStop, Reads};
 
 use crate::lexeme::{Fault, Lexeme, lexeme_of};
 use crate::place::{FIRST, place_after};
@@ -18,6 +21,8 @@ pub fn lex(alloc: Global, bytes: &[u8]) -> Result<Vec<Token>, LexFault>
     ensures text { IfOk result (λ tokens. IsText bytes.now tokens.items) }
     ensures sound { IfOk result (λ tokens. All IsSoundToken tokens.items) }
     ensures refused { IfErr result (IsRefusal bytes.now) }
+    ensures only_text { (tokens : List Item) → IsText bytes.now tokens → MatchResult result (λ found. found.items ≡ tokens) IsNoMemory }
+    ensures only_fault { (why : Kind) (place : Where) → IsFirstFault bytes.now why place → MatchResult result (λ _. ⊥) (IsErrorOrNoMemory why place) }
 {
     let mut tokens = Vec::new(alloc);
     let mut place = FIRST;

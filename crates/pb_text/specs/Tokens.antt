@@ -35,3 +35,18 @@ IsSoundKind (kind.Mark mark) = Unit {0}
 
 abbrev pub IsSoundToken : Token → Type 0
 IsSoundToken t = IsSoundKind t.kind
+
+-- a text has one list of tokens
+abbrev pub OneText : Type 0
+OneText = (bytes : List ℕ) (tokens others : List Token) → IsText bytes tokens → IsText bytes others → tokens ≡ others
+
+-- bytes have one first fault, at one place
+abbrev pub OneFault : Type 0
+OneFault =
+    (bytes : List ℕ) (fault other : Fault) (place elsewhere : Place)
+      → IsFirstFault bytes fault place → IsFirstFault bytes other elsewhere → (fault ≡ other) × (place ≡ elsewhere)
+
+-- a text has no fault
+abbrev pub TextOrFault : Type 0
+TextOrFault =
+    (bytes : List ℕ) (tokens : List Token) (fault : Fault) (place : Place) → IsText bytes tokens → IsFirstFault bytes fault place → ⊥

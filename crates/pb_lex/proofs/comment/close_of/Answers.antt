@@ -9,4 +9,4 @@ pub loop-at-preserved : goal.loop-at-preserved
 loop-at-preserved c =
     let bytes = c.args.bytes.now in
     c.loop-at.invariant ∙ close_next bytes c.loop-at.at (omega arith)
-      (subst (λ (l : List ℕ). begins_with (codes "*/") l ≡ false) (rest_is bytes c.loop-at.at) (sym c.if-starts_with.ensures.value))
+    (subst (λ (l : List ℕ). begins_with (codes "*/") l ≡ false) (rest_is bytes c.loop-at.at) (sym c.if-starts_with.ensures.value))
