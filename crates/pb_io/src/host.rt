@@ -1,4 +1,4 @@
-ghost use Rattle.std.specs.Prelude.{None, false};
+ghost use Rattle.std.specs.Prelude.{◌≡◌, None, false};
 
 use crate::calls::count_up;
 use crate::{Failed, Folder, Sink};
@@ -16,7 +16,9 @@ pub struct HostFolder<'a, R: Files> {
 
 impl<'a, R: Files> HostFolder<'a, R> {
     /// The files that the runtime reaches, none of them open.
-    pub fn new(rt: &'a R) -> HostFolder<'a, R> {
+    pub fn new(rt: &'a R) -> HostFolder<'a, R>
+        ensures { ⟦<HostFolder<'a, R> as Folder>⟧.faults result ≡ 0 }
+    {
         HostFolder {
             rt,
             file: None,
@@ -72,7 +74,9 @@ pub struct HostSink<W: Write + Drop> {
 
 impl<W: Write + Drop> HostSink<W> {
     /// What is written goes to this writer, as `std::io::writer(&rt)` for the standard output.
-    pub fn new(to: W) -> HostSink<W> {
+    pub fn new(to: W) -> HostSink<W>
+        ensures { ⟦<HostSink<W> as Sink>⟧.faults result ≡ 0 }
+    {
         HostSink { to, faults: 0 }
     }
 }
