@@ -7,3 +7,4 @@ pub mod Spans
 pub mod Live
 pub mod Search
 pub mod Roles
+pub mod Tested

@@ -15,6 +15,8 @@ mod fault;
 mod region;
 mod roles;
 mod spans;
+#[cfg(test)]
+mod tests;
 
 pub use bad::Bad;
 pub use cases::Cases;
