@@ -1,14 +1,16 @@
 -- The numbers of a well-made tree give each rank its role and index.
 use Rattle.std.proofs.Common.{◌≡◌, ℕ, suc, ◌<◌, ℤ, pos, ◌+ℤ◌, ◌-ℤ◌, ◌<ℤ◌, List, [], ◌∷◌, map, length, ap, sym, ◌∙◌, arith, subst, zero-add}
-use Rattle.std.specs.Prelude.{All}
+use Rattle.std.specs.Prelude.{All, IfOk, Result, Ok, Err}
 use Rattle.std.proofs.lemmas.Int.{ints}
 use Rattle.std.proofs.lemmas.List.{length-map}
 use Rattle.std.proofs.Math.ListN.{get_or-map}
 use lib.IntN.{zero-*ℤ}
 use Rattle.pb_affine.specs.declared.range.NRange.{NRange}
 use Rattle.pb_local.specs.declared.tables.Role.{Role}
-use Rattle.pb_local.specs.Ranks.{Sum, at, no_ranks, bases_of, places_of, seats, seat_at, total, Seat}
-use Rattle.pb_local.specs.WellMade.{IsRole, IsInRange}
+use Rattle.pb_local.specs.Ranks.{Sum, at, ranks_of, no_ranks, bases_of, places_of, seats, seat_at, total, Seat}
+use Rattle.pb_local.specs.Tree.{Program, program_of}
+use Rattle.pb_local.specs.WellMade.{IsRole, IsInRange, IsWellMade}
+use Rattle.pb_ctree.specs.Sums.{HasSmallEnds}
 use Rattle.pb_ctree.specs.declared.tree.Formula.{Formula}
 use Rattle.pb_ctree.specs.declared.tree.CTree.{CTree}
 use Rattle.pb_ctree.specs.Trees.{sum_of, value_at, formula_at, IsTree, IsLastBase, NumbersRanks}
@@ -61,3 +63,28 @@ numbers_ranks tree n is within =
       role = λ r less. last_base tree.bases.items (places_of roles) roles (pos n) r (seat_at r (seats roles (pos n))) is.bases (found roles 0 no_ranks (pos n) r fine less);
       index = λ r less. index_is tree.places.items (bases_of roles) roles (pos n) r (seat_at r (seats roles (pos n))) is.places (found roles 0 no_ranks (pos n) r fine less);
     }
+
+-- a well-made program's roles have small ends
+pub small_ends : (p : Program) → IsWellMade p → All HasSmallEnds p.roles
+small_ends p made k d less = record { low = (made.roles.each k d less).low; high = (made.roles.each k d less).high }
+
+pub tree_made : (p : Program) (tree : CTree) → IsWellMade p → program_of tree.local ≡ p → sum_of tree.size ≡ ranks_of p.roles → map sum_of tree.bases.items ≡ bases_of p.roles → map sum_of tree.places.items ≡ places_of p.roles → IsTree tree
+tree_made p tree made same size bases places =
+    let roles_are : p.roles ≡ tree.local.roles.items = ap (λ (x : Program). x.roles) (sym same) in
+    let P : Program → Type 0 = λ x. IsWellMade x in
+    record {
+      made = subst P (sym same) made;
+      size = size ∙ ap ranks_of roles_are;
+      bases = bases ∙ ap bases_of roles_are;
+      places = places ∙ ap places_of roles_are;
+    }
+
+pub numbers_all : (p : Program) (tree : CTree) → program_of tree.local ≡ p → IsTree tree → (n : ℕ) → IsInRange p.range n → NumbersRanks tree (pos n)
+numbers_all p tree same is n within =
+    let range_is : p.range ≡ tree.local.range = ap (λ (x : Program). x.range) (sym same) in
+    let P : NRange → Type 0 = λ x. IsInRange x n in
+    numbers_ranks tree n is (subst P range_is within)
+
+pub all_numbered : {E : Type 0} (p : Program) (r : Result CTree E) → IfOk r (λ tree. program_of tree.local ≡ p) → IfOk r IsTree → IfOk r (λ tree. (n : ℕ) → IsInRange p.range n → NumbersRanks tree (pos n))
+all_numbered p (Ok tree) same is = numbers_all p tree same is
+all_numbered p (Err e) same is = tt

@@ -1,3 +1,5 @@
 pub mod Emitted
 pub mod Numbers
+pub mod Rooms
+pub mod Rounds
 mod Worked

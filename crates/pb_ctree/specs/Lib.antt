@@ -5,5 +5,6 @@ pub mod Lines
 pub mod Rules
 pub mod Small
 pub mod Spelling
+pub mod Sums
 pub mod Texts
 pub mod Trees

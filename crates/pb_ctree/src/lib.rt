@@ -2,11 +2,13 @@
 #![tactic(auto)]
 
 mod body;
+mod emitting;
 mod kernel;
 mod kernels;
 mod tree;
 
 pub use body::{Bodies, Body};
+pub use emitting::emit;
 pub use kernel::{KName, Kind};
 pub use kernels::{default_bodies, functions, has_words};
 pub use pb_affine::{Base, Guard, Guards, Lin, NRange};
