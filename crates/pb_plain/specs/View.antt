@@ -1,6 +1,8 @@
 -- The flat protocol that a value of the program stands for.
-use Rattle.std.specs.Prelude.{ℕ, List, [], ◌∷◌}
+use Rattle.std.specs.Prelude.{ℕ, ℤ, pos, List, [], ◌∷◌, map}
+use Rattle.pb_affine.specs.Values.{value, range}
 use Rattle.pb_world.specs.Actions as W
+use Rattle.pb_core.specs.declared.protocol.CoreRole.{CoreRole}
 use Rattle.pb_core.specs.Ranks as R
 use Rattle.pb_core.specs.Tree as T
 use Rattle.pb_core.specs.Flat as F
@@ -59,3 +61,11 @@ view = fold-Flat F.Branches F.Block branches_layer flat_layer
 
 abbrev pub view_branches : Branches → F.Branches
 view_branches = fold-Branches F.Branches F.Block branches_layer flat_layer
+
+-- the seats of a role with these indices
+abbrev pub seats_of_role : ℕ → List ℤ → List R.Seat
+seats_of_role role indices = map (λ x. record { role = role; index = x }) indices
+
+-- the seats of a role with this number at N = n
+abbrev pub seats_of : ℕ → CoreRole → ℤ → List R.Seat
+seats_of number r n = seats_of_role number (range (value r.low n (pos 0)) (value r.high n (pos 0)))

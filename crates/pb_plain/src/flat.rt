@@ -11,7 +11,7 @@ pub struct Mark {
 /// A role's number and an index, in the role's range or not.
 #[derive(Clone, Copy, Debug, PartialEq, Eq)]
 pub struct Seat {
-    pub role: u32,
+    pub role: u64,
     pub index: i64,
 }
 

@@ -2,11 +2,24 @@
 //! that it breaks, and its sequential run. They follow the definitions step by step, and fast code is tested against them.
 #![tactic(auto)]
 
+mod fault;
 mod flat;
 mod held;
+mod numbers;
+mod opens;
+mod outcomes;
+mod ranks;
+mod site;
 mod takes;
 
+pub use fault::PlainFault;
 pub use flat::{Asked, Branches, Collective, Ends, Flat, Mark, Origin, Seat};
 pub use held::Held;
+pub use numbers::{range, value};
+pub use opens::Opens;
+pub use outcomes::{Outcome, firsts, firsts_among};
 pub use pb_core::{Core, Op, Place};
+pub use pb_text::NoMemory;
+pub use ranks::{number_in, seats};
+pub use site::Site;
 pub use takes::{can_end, some_can_end, takes_part, takes_part_among};
