@@ -22,12 +22,7 @@ pub enum Outcome {
 
 /// What the rank finds first in the block, inside these loops; a set as the list of its members.
 #[cycle(firsts)]
-pub fn firsts(
-    alloc: Global,
-    block: &Flat,
-    held: &Held,
-    rank: u64,
-) -> Result<Vec<Outcome>, NoMemory>
+pub fn firsts(alloc: Global, block: &Flat, held: &Held, rank: u64) -> Result<Vec<Outcome>, NoMemory>
     ensures { IfOk result (λ v. map outcome_of v.items ≡ firsts (held_at rank held.now) rank (view block.now)) }
 {
     match block {
@@ -62,7 +57,10 @@ pub fn firsts(
         }
         Flat::Together { .. } => one(alloc, Outcome::Other),
         Flat::Choice {
-            at, branches, rest, ..
+            at,
+            branches,
+            rest,
+            ..
         } => {
             if *at == rank {
                 one(alloc, Outcome::Other)
@@ -123,11 +121,7 @@ fn one(alloc: Global, outcome: Outcome) -> Result<Vec<Outcome>, NoMemory>
 }
 
 /// The outcomes, with those of the rest in place of nothing.
-fn or_then(
-    alloc: Global,
-    outcomes: &[Outcome],
-    rest: &[Outcome],
-) -> Result<Vec<Outcome>, NoMemory>
+fn or_then(alloc: Global, outcomes: &[Outcome], rest: &[Outcome]) -> Result<Vec<Outcome>, NoMemory>
     ensures { IfOk result (λ v. map outcome_of v.items ≡ or_then (map outcome_of outcomes.now) (map outcome_of rest.now)) }
 {
     let mut list = Vec::new(alloc);

@@ -45,11 +45,12 @@ pub fn takes_part(block: &Flat, held: &Held, rank: u64) -> bool
         Flat::Compute { at, rest, .. } => *at == rank || takes_part(rest, held, rank),
         Flat::Together { .. } => true,
         Flat::Choice {
-            at, branches, rest, ..
+            at,
+            branches,
+            rest,
+            ..
         } => {
-            *at == rank
-                || takes_part_among(branches, held, rank)
-                || takes_part(rest, held, rank)
+            *at == rank || takes_part_among(branches, held, rank) || takes_part(rest, held, rank)
         }
         Flat::Looped { body, rest, .. } => {
             takes_part(body, &Held::Just(false, &*held), rank) || takes_part(rest, held, rank)

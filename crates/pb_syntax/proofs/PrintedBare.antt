@@ -53,15 +53,15 @@ mutual
   statement_bare (message label payload from to) b =
       let start : Kinds = key keys.From (payload_tokens payload (word label.name b)) in
       ap (λ (k : Kinds). mark marks.Semicolon (end_tokens (bare_end to) (key keys.To k))) (end_bare from (key keys.From (payload_tokens payload (word label.name b))))
-        ∙ ap (mark marks.Semicolon) (end_bare to (key keys.To (end_tokens from (key keys.From (payload_tokens payload (word label.name b))))))
+      ∙ ap (mark marks.Semicolon) (end_bare to (key keys.To (end_tokens from (key keys.From (payload_tokens payload (word label.name b))))))
   statement_bare (foreach place var over at items) b =
       ap (λ (k : Kinds). mark marks.RightBrace (statements_tokens (bare_statements items) (mark marks.LeftBrace (mark marks.RightParen k)))) (range_bare over (mark marks.Colon (word var.name (mark marks.LeftParen (key keys.Foreach b)))))
-        ∙ ap (mark marks.RightBrace) (statements_bare items (mark marks.LeftBrace (mark marks.RightParen (range_tokens over (mark marks.Colon (word var.name (mark marks.LeftParen (key keys.Foreach b))))))))
+      ∙ ap (mark marks.RightBrace) (statements_bare items (mark marks.LeftBrace (mark marks.RightParen (range_tokens over (mark marks.Colon (word var.name (mark marks.LeftParen (key keys.Foreach b))))))))
   statement_bare (loop place name at body) b = ap (mark marks.RightBrace) (statements_bare body (mark marks.LeftBrace (word name.name (key keys.Rec b))))
   statement_bare (again place name) b = refl
   statement_bare (choice place kernel who branches) b =
       ap (branches_tokens (bare_branches branches)) (end_bare who (key keys.At (word kernel.name (key keys.Choice b))))
-        ∙ branches_bare branches (end_tokens who (key keys.At (word kernel.name (key keys.Choice b))))
+      ∙ branches_bare branches (end_tokens who (key keys.At (word kernel.name (key keys.Choice b))))
   statement_bare (compute place kernel who) b = ap (mark marks.Semicolon) (end_bare who (key keys.At (word kernel.name (key keys.Compute b))))
   statement_bare (barrier place) b = refl
   statement_bare (broadcast place label payload from) b = ap (mark marks.Semicolon) (end_bare from (key keys.From (payload_tokens payload (word label.name (key keys.Broadcast b)))))
@@ -76,13 +76,13 @@ mutual
   branches_bare no_branch b = refl
   branches_bare (branch at body rest) b =
       ap (λ (k : Kinds). or_tokens (bare_branches rest) (mark marks.RightBrace k)) (statements_bare body (mark marks.LeftBrace b))
-        ∙ ors_bare rest (mark marks.RightBrace (statements_tokens body (mark marks.LeftBrace b)))
+      ∙ ors_bare rest (mark marks.RightBrace (statements_tokens body (mark marks.LeftBrace b)))
 
   ors_bare : (bs : PlainBranches) (b : Kinds) → or_tokens (bare_branches bs) b ≡ or_tokens bs b
   ors_bare no_branch b = refl
   ors_bare (branch at body rest) b =
       ap (λ (k : Kinds). or_tokens (bare_branches rest) (mark marks.RightBrace k)) (statements_bare body (mark marks.LeftBrace (key keys.Or b)))
-        ∙ ors_bare rest (mark marks.RightBrace (statements_tokens body (mark marks.LeftBrace (key keys.Or b))))
+      ∙ ors_bare rest (mark marks.RightBrace (statements_tokens body (mark marks.LeftBrace (key keys.Or b))))
 
 head_bare : (f : PlainFile) → head_tokens (bare_file f) [] ≡ head_tokens f []
 head_bare f = ap (mark marks.RightParen) (roles_bare f.roles _)
@@ -90,7 +90,7 @@ head_bare f = ap (mark marks.RightParen) (roles_bare f.roles _)
 file_bare : (f : PlainFile) → file_tokens (bare_file f) ≡ file_tokens f
 file_bare f =
     ap (λ (k : Kinds). block_tokens (bare_file f).body k) (head_bare f)
-      ∙ ap (mark marks.RightBrace) (statements_bare f.body.list (mark marks.LeftBrace (head_tokens f [])))
+    ∙ ap (mark marks.RightBrace) (statements_bare f.body.list (mark marks.LeftBrace (head_tokens f [])))
 
 pub alike_tokens : (f g : PlainFile) → bare_file f ≡ bare_file g → file_tokens f ≡ file_tokens g
 alike_tokens f g e = sym (file_bare f) ∙ ap file_tokens e ∙ file_bare g

@@ -169,8 +169,8 @@ count_front g = inl (inr refl)
 pub carried_prints : {p : TokenKind → Type 0} → Prints p (λ (c : Payload). c) (λ before. before) carried_tokens carried carried
 carried_prints =
     share_prints _ _ _ _ _ _
-      (flat_prints _ _ _ _ _ _ (key_prints keys.Int32 >>= λ k k2 ke. first_prints _ _ _ _ (count_front _) (count_front _) (count_prints >>= λ n m e. done_prints _ _ (λ before. refl) (ap pay.Int32 e)))
-      or_prints flat_prints _ _ _ _ _ _ (key_prints keys.Uint32 >>= λ k k2 ke. first_prints _ _ _ _ (count_front _) (count_front _) (count_prints >>= λ n m e. done_prints _ _ (λ before. refl) (ap pay.Uint32 e))))
+    (flat_prints _ _ _ _ _ _ (key_prints keys.Int32 >>= λ k k2 ke. first_prints _ _ _ _ (count_front _) (count_front _) (count_prints >>= λ n m e. done_prints _ _ (λ before. refl) (ap pay.Int32 e)))
+    or_prints flat_prints _ _ _ _ _ _ (key_prints keys.Uint32 >>= λ k k2 ke. first_prints _ _ _ _ (count_front _) (count_front _) (count_prints >>= λ n m e. done_prints _ _ (λ before. refl) (ap pay.Uint32 e))))
     or_prints (done_prints _ _ (λ before. refl) refl)
 
 pub payload_prints : {p : TokenKind → Type 0} → Prints p (λ (c : Payload). c) (λ before. before) payload_tokens payload payload
@@ -217,10 +217,10 @@ last_mark_prints m x y shows alike = first_prints _ _ _ _ (mark_front m _) (mark
 any_index_prints : {p : TokenKind → Type 0} → Prints p bare_index (λ before. before) index_tokens any_index any_index
 any_index_prints =
     (mark_prints marks.LeftBracket >>= λ a a2 ae. share_prints _ _ _ _ _ _
-      (flat_prints _ _ _ _ _ _ (number_prints >>= λ n n2 ne. last_mark_prints marks.RightBracket _ _ (λ before. refl) (ap (λ (v : Numeral). index.At (record { base = None; off = pos v.value; place = nowhere })) ne))
-      or_prints flat_prints _ _ _ _ _ _ (name_prints >>= λ s t e. share_prints _ _ _ _ _ _
-        (flat_prints _ _ _ _ _ _ (mark_prints marks.Colon >>= λ c c2 ce. flat_prints _ _ _ _ _ _ (range_prints >>= λ r r2 re. last_mark_prints marks.RightBracket _ _ (λ before. refl) (cc (e, re))))
-        or_prints flat_prints _ _ _ _ _ _ (offset_prints >>= λ o o2 oe. last_mark_prints marks.RightBracket _ _ (λ before. refl) (cc (e, oe)))))))
+    (flat_prints _ _ _ _ _ _ (number_prints >>= λ n n2 ne. last_mark_prints marks.RightBracket _ _ (λ before. refl) (ap (λ (v : Numeral). index.At (record { base = None; off = pos v.value; place = nowhere })) ne))
+    or_prints flat_prints _ _ _ _ _ _ (name_prints >>= λ s t e. share_prints _ _ _ _ _ _
+    (flat_prints _ _ _ _ _ _ (mark_prints marks.Colon >>= λ c c2 ce. flat_prints _ _ _ _ _ _ (range_prints >>= λ r r2 re. last_mark_prints marks.RightBracket _ _ (λ before. refl) (cc (e, re))))
+    or_prints flat_prints _ _ _ _ _ _ (offset_prints >>= λ o o2 oe. last_mark_prints marks.RightBracket _ _ (λ before. refl) (cc (e, oe)))))))
     or_prints (done_prints _ _ (λ before. refl) refl)
 
 any_end_prints : {p : TokenKind → Type 0} → Prints p bare_end (λ before. before) end_tokens any_end any_end

@@ -44,7 +44,7 @@ OneText = (bytes : List ℕ) (tokens others : List Token) → IsText bytes token
 abbrev pub OneFault : Type 0
 OneFault =
     (bytes : List ℕ) (fault other : Fault) (place elsewhere : Place)
-      → IsFirstFault bytes fault place → IsFirstFault bytes other elsewhere → (fault ≡ other) × (place ≡ elsewhere)
+    → IsFirstFault bytes fault place → IsFirstFault bytes other elsewhere → (fault ≡ other) × (place ≡ elsewhere)
 
 -- a text has no fault
 abbrev pub TextOrFault : Type 0
