@@ -1,4 +1,4 @@
 pub mod Fronts
-pub mod Labels
+pub mod Messages
 pub mod PrintedLemmas
 pub mod Replies

@@ -2,4 +2,5 @@ pub mod Codes
 pub mod Lines
 pub mod Printed
 pub mod Reply
+pub mod Rules
 pub mod Words

@@ -10,7 +10,6 @@ use crate::status::Status;
 use pb_io::{Folder, OutFault, Sink, write_all};
 use std::alloc::Global;
 
-#[tactic(auto, using(crate::proofs::Replies::said))]
 /// Does what the words after the program's name say, and writes the answer or one status line.
 ///
 /// `gen FILE` writes the C text of the protocol in FILE. `ReadFault` comes only where the folder's count of faults rose in
@@ -19,6 +18,7 @@ use std::alloc::Global;
 /// `Usage` exactly where the words are in no form.
 ///
 /// `answers` gives word number `count` of a rank, from 0, by a seed, the rank and that number.
+#[tactic(auto, using(crate::proofs::Replies::said))]
 pub fn pabble<F: Folder, O: Sink, A: Fn(u64, u32, u64) -> u32>(
     alloc: Global,
     words: &[String],

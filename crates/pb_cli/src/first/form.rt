@@ -1,5 +1,8 @@
 //! The files of the first form that keep the rules.
 
+ghost use Rattle.std.specs.Prelude.{◌≡◌, ℕ, pos, All, IfOk, IsTrue};
+ghost use Rattle.pb_cli.specs.Rules.{AreApart, IsIn, IsIndex, KeepsRules};
+
 use super::FirstFault;
 use pb_affine::{Base, Lin, NRange};
 use pb_syntax::{End, FileTree, High, IndexText, LinText, Payload, RoleText, Statement};
@@ -43,8 +46,10 @@ pub struct Message {
 
 /// The form of a file. `NotBuilt` where the file has another form, more than 4,000 statements, or breaks a rule for some
 /// N of its range.
-#[tactic(auto, using(crate::proofs::Labels::length_interned))]
-pub fn first_form(alloc: Global, file: &FileTree) -> Result<Form, FirstFault> {
+#[tactic(auto, using(crate::proofs::Messages::length_interned))]
+pub fn first_form(alloc: Global, file: &FileTree) -> Result<Form, FirstFault>
+    ensures { IfOk result (λ form. All (λ message. KeepsRules form.range message.from message.to) form.messages.items) }
+{
     let range = range_of(file)?;
     let declared = Declared::of(file)?;
     if file.body.list.len() > MOST_STATEMENTS {
@@ -169,13 +174,17 @@ impl Declared {
 }
 
 /// Whether for every N of the range both ends are indices of the role, and differ.
-fn keeps_rules(range: NRange, from: Lin, to: Lin) -> bool {
+fn keeps_rules(range: NRange, from: Lin, to: Lin) -> bool
+    ensures { IsTrue result → KeepsRules range from to }
+{
     is_index(range, from) && is_index(range, to) && are_apart(range, from, to)
 }
 
 /// Whether the lin is one of 0 to N - 1 for every N of the range. As N grows, N + off moves with N - 1 and away from 0,
 /// and a fixed number stays, so the least N decides.
-fn is_index(range: NRange, lin: Lin) -> bool {
+fn is_index(range: NRange, lin: Lin) -> bool
+    ensures { IsTrue result → IsIndex range lin }
+{
     let off = i64::from(lin.off);
     let low = i64::from(range.low);
     match lin.base {
@@ -186,7 +195,9 @@ fn is_index(range: NRange, lin: Lin) -> bool {
 }
 
 /// Whether two lins differ for every N of the range. A fixed number meets N + off at one N at most.
-fn are_apart(range: NRange, a: Lin, b: Lin) -> bool {
+fn are_apart(range: NRange, a: Lin, b: Lin) -> bool
+    ensures { IsTrue result → AreApart range a b }
+{
     let ahead = i64::from(a.off) - i64::from(b.off);
     match (a.base, b.base) {
         (Base::Fixed, Base::Fixed) | (Base::Param, Base::Param) => ahead != 0,
@@ -197,7 +208,9 @@ fn are_apart(range: NRange, a: Lin, b: Lin) -> bool {
 }
 
 /// Whether a number is one of the range.
-fn has(range: NRange, n: i64) -> bool {
+fn has(range: NRange, n: i64) -> bool
+    ensures { (m : ℕ) → n ≡ pos m → IsIn range m → IsTrue result }
+{
     let is_below = match range.high {
         None => true,
         Some(high) => n <= i64::from(high),
