@@ -1,0 +1,4 @@
+pub mod Least
+pub mod Meanings
+pub mod Steps
+pub mod Whole

@@ -1,0 +1,13 @@
+//! The first N and index at which two guards hold of one rank and two lins differ there.
+//!
+//! The range of N, the guards' ends and the difference are put into one system of constraints on differences, between
+//! 0, N and the index; its least solution is the answer. Nothing here takes memory.
+#![tactic(auto)]
+
+mod apart;
+mod facts;
+mod term;
+#[cfg(test)]
+mod tests;
+
+pub use apart::first_apart;
