@@ -1,8 +1,10 @@
 pub mod Begun
 pub mod Closes
 pub mod Fronts
+pub mod Naming
 pub mod Prefixes
 pub mod Refusals
 pub mod Steps
 pub mod Values
 pub mod Ways
+pub mod Whole

@@ -1,5 +1,5 @@
 -- What a refusal says of the bytes.
-use Rattle.std.proofs.Common.{◌≡◌, ℕ, ◌⊎◌, List, refl, sym, ap, ◌∙◌, inl, inr}
+use Rattle.std.proofs.Common.{◌≡◌, ℕ, List, refl, ap, ◌∙◌, inl, inr}
 use Rattle.pb_text.specs.Lexemes.{Fault, bad_byte, open_comment, number_too_large, name_too_long}
 use Rattle.pb_text.specs.Tokens.{IsText, IsFirstFault}
 use Rattle.pb_text.specs.declared.place.Place.{Place}

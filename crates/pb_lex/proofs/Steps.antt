@@ -1,10 +1,10 @@
 -- The tokens so far, a lexeme on.
-use Rattle.std.proofs.Common.{◌≡◌, ℕ, ◌<◌, ◌≤◌, List, [], ◌∷◌, ◌++◌, length, take, drop, refl, sym, ap, subst, ◌∙◌, append_assoc}
+use Rattle.std.proofs.Common.{◌≡◌, ℕ, List, [], ◌∷◌, ◌++◌, take, drop, sym, ap, subst, ◌∙◌, append_assoc}
 use Rattle.std.specs.List.{All}
 use Rattle.std.proofs.lemmas.List.Elements.{All-push}
 use Rattle.pb_text.specs.Places.{first_place, place_after}
 use Rattle.pb_text.specs.Lexemes.{lexeme, gap, token}
-use Rattle.pb_text.specs.Tokens.{Lexes, skip, read, done, IsFirstFault, IsSoundKind, IsSoundToken}
+use Rattle.pb_text.specs.Tokens.{Lexes, skip, read, done, IsSoundToken}
 use Rattle.pb_text.specs.declared.place.Place.{Place}
 use Rattle.pb_text.specs.declared.token.Token.{Token}
 use Rattle.pb_lex.specs.declared.lexeme.Lexeme.{Lexeme}

@@ -1,8 +1,8 @@
 -- A text is read in one way.
 use Rattle.std.proofs.Common.{◌≡◌, ℕ, List, [], ◌∷◌, take, drop, refl, sym, ap, subst, ◌∙◌}
-use Rattle.pb_text.specs.Places.{first_place, place_after}
+use Rattle.pb_text.specs.Places.{place_after}
 use Rattle.pb_text.specs.Lexemes.{Lexeme, nothing, gap, token, bad, Fault, lexeme}
-use Rattle.pb_text.specs.Tokens.{Lexes, done, skip, read, IsText, IsFirstFault, OneText, OneFault, TextOrFault}
+use Rattle.pb_text.specs.Tokens.{Lexes, done, skip, read, OneText, OneFault, TextOrFault}
 use Rattle.pb_text.specs.declared.place.Place.{Place}
 use Rattle.pb_text.specs.declared.token.Token.{Token}
 use Rattle.pb_text.specs.declared.token.TokenKind.{TokenKind}

@@ -1,7 +1,8 @@
 -- The tokens of a text, and its first lexical fault.
-use Rattle.std.specs.Prelude.{◌≡◌, ℕ, ◌≤◌, ◌<◌, List, [], ◌∷◌, ◌++◌, take, drop, length, Option, None, Some}
+use Rattle.std.specs.Prelude.{◌≡◌, ℕ, ◌≤◌, ◌<◌, ◌⊎◌, List, [], ◌∷◌, take, drop, length, slice_index, true, None}
+use Rattle.std.specs.List.{All}
 use Rattle.pb_text.specs.Places.{first_place, place_after}
-use Rattle.pb_text.specs.Lexemes.{Lexeme, gap, token, bad, Fault, lexeme}
+use Rattle.pb_text.specs.Lexemes.{gap, token, bad, Fault, lexeme, begins_word, goes_on_word}
 use Rattle.pb_text.specs.Spellings.{key_of}
 use Rattle.pb_text.specs.declared.place.Place.{Place}
 use Rattle.pb_text.specs.declared.token.Token.{Token}
@@ -26,9 +27,17 @@ abbrev pub IsFirstFault : List ℕ → Fault → Place → Type 0
 IsFirstFault bytes fault place =
     (rest : List ℕ) × (tokens : List Token) × Lexes place rest first_place bytes tokens × (lexeme rest ≡ bad fault)
 
--- a name has 1 to 64 bytes and is no keyword, and a number is at most 2,000,000,000
+-- a letter or `_`, then letters, digits and `_`, 64 bytes at most, and no keyword
+pub record IsName (name : List ℕ) : Type 0 where
+  pub some : 0 < length name
+  pub few : length name ≤ 64
+  pub begins : begins_word (slice_index name 0) ≡ true
+  pub goes_on : All (λ byte. goes_on_word byte ≡ true) name
+  pub own : key_of name ≡ None
+
+-- a name is one of the grammar, and a number is at most 2,000,000,000
 abbrev pub IsSoundKind : TokenKind → Type 0
-IsSoundKind (kind.Word name) = (0 < length name) × (length name ≤ 64) × (key_of name ≡ None)
+IsSoundKind (kind.Word name) = IsName name
 IsSoundKind (kind.Key key) = Unit {0}
 IsSoundKind (kind.Number n) = n ≤ 2000000000
 IsSoundKind (kind.Mark mark) = Unit {0}
@@ -50,3 +59,8 @@ OneFault =
 abbrev pub TextOrFault : Type 0
 TextOrFault =
     (bytes : List ℕ) (tokens : List Token) (fault : Fault) (place : Place) → IsText bytes tokens → IsFirstFault bytes fault place → ⊥
+
+-- bytes without a fault are a text
+abbrev pub Readable : Type 0
+Readable =
+    (bytes : List ℕ) → ((tokens : List Token) × IsText bytes tokens) ⊎ ((fault : Fault) × (place : Place) × IsFirstFault bytes fault place)

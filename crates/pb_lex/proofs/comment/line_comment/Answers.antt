@@ -1,4 +1,4 @@
-use Rattle.std.proofs.Common.{◌≡◌, ◌<◌, ◌≤◌, ℕ, length, not, nat_eq, get_or, true, ap, subst, sym, arith, lit<}
+use Rattle.std.proofs.Common.{◌≡◌, ◌≤◌, ℕ, length, not, nat_eq, get_or, ap, arith, lit<}
 use Rattle.std.specs.Prelude.{codes}
 use Rattle.pb_lex.proofs.Fronts.{front_within, front_first}
 use Rattle.pb_lex.proofs.Prefixes.{prefix_some, prefix_within}

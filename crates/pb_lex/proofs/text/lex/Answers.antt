@@ -1,4 +1,4 @@
-use Rattle.std.proofs.Common.{◌≡◌, ◌≤◌, ◌<◌, ◌+◌, ◌-◌, ◌++◌, List, ℕ, [], length, take, drop, sym, subst, ap, ◌∙◌, arith, rules, append-nil}
+use Rattle.std.proofs.Common.{◌≡◌, ◌+◌, ◌-◌, List, ℕ, [], take, drop, sym, subst, ap, ◌∙◌, arith, rules, append-nil}
 use Rattle.std.proofs.lemmas.List.{drop-drop, drop_all}
 use Rattle.std.proofs.lemmas.Result.{err_from_is_err_and}
 use Rattle.pb_text.specs.Lexemes.{lexeme}

@@ -1,4 +1,4 @@
-use Rattle.std.proofs.Common.{◌≡◌, ◌≤◌, ◌-◌, ◌++◌, List, ℕ, length, drop}
+use Rattle.std.proofs.Common.{◌≤◌, ◌-◌, length, drop}
 use Rattle.std.specs.List.{All}
 use Rattle.pb_text.specs.Tokens.{IsSoundToken}
 use Rattle.pb_lex.proofs.Steps.{SoFar}
