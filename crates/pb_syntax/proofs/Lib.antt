@@ -18,3 +18,5 @@ pub mod Relex
 pub mod Written
 pub mod PrintedBare
 pub mod PrintedText
+pub mod Branches
+pub mod Indents

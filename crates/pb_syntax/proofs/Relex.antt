@@ -243,14 +243,10 @@ gap_if : (c : Bool) (a b : Gap) → (c ≡ true → IsGap a) → (c ≡ false �
 gap_if true a b h g = h refl
 gap_if false a b h g = g refl
 
-some_spaced : (brace first second rest : Bool) → second ≡ true → first ≡ true → (brace || ((first && (second || rest)) || rest)) ≡ true
-some_spaced true first second rest e f = refl
-some_spaced false first second rest e f = rw (e, f) refl
-
 spaced_words : (a b : TokenKind) → is_wordy a ≡ true → is_wordy b ≡ true → is_spaced a b ≡ true
 spaced_words a b e f = by (is_mark marks.LeftBrace b)
   where
-    by : (brace : Bool) → (brace || ((is_wordy b && (is_wordy a || closes a)) || ((is_mark marks.Comma a || (is_mark marks.Equals a || is_mark marks.Equals b)) || (is_key keys.Foreach a && is_mark marks.LeftParen b)))) ≡ true
+    by : (brace : Bool) → (((((brace || (is_wordy b && (is_wordy a || closes a))) || is_mark marks.Comma a) || is_mark marks.Equals a) || is_mark marks.Equals b) || (is_key keys.Foreach a && is_mark marks.LeftParen b)) ≡ true
     by true = refl
     by false = rw (e, f) refl
 

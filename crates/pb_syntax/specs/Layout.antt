@@ -21,14 +21,14 @@ is_wordy (kind.Word w) = true
 is_wordy (kind.Number n) = true
 
 abbrev pub ends_line : TokenKind → Bool
-ends_line a = is_mark Semicolon a || (is_mark LeftBrace a || is_mark RightBrace a)
+ends_line a = (is_mark Semicolon a || is_mark LeftBrace a) || is_mark RightBrace a
 
 abbrev pub closes : TokenKind → Bool
 closes a = is_mark RightParen a || is_mark RightBracket a
 
 abbrev pub is_spaced : TokenKind → TokenKind → Bool
 is_spaced a b =
-    is_mark LeftBrace b || ((is_wordy b && (is_wordy a || closes a)) || ((is_mark Comma a || (is_mark Equals a || is_mark Equals b)) || (is_key Foreach a && is_mark LeftParen b)))
+    ((((is_mark LeftBrace b || (is_wordy b && (is_wordy a || closes a))) || is_mark Comma a) || is_mark Equals a) || is_mark Equals b) || (is_key Foreach a && is_mark LeftParen b)
 
 -- Behind `;`, `{` and `}` begins a line, but for `} or`. A space stands before `{`, between two words, behind `)` and
 -- `]` before a word, behind a comma, around `=`, and in `foreach (`.

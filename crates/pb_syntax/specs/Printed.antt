@@ -112,18 +112,38 @@ index_tokens (index.Bind var over) before = (mark LeftBracket >> bracketed_token
 abbrev pub end_tokens : End → Kinds → Kinds
 end_tokens e = word e.role.name >> index_tokens e.index
 
+abbrev pub message_tokens : Spot → Payload → End → End → Kinds → Kinds
+message_tokens label payload from to = word label.name >> payload_tokens payload >> key keys.From >> end_tokens from >> key keys.To >> end_tokens to >> mark Semicolon
+
+-- up to the items
+abbrev pub foreach_tokens : Spot → RangeText → Kinds → Kinds
+foreach_tokens var over = key keys.Foreach >> mark LeftParen >> word var.name >> mark Colon >> range_tokens over >> mark RightParen
+
+-- a keyword, a kernel and where it runs
+abbrev pub kernel_tokens : Key → Spot → End → Kinds → Kinds
+kernel_tokens k kernel who = key k >> word kernel.name >> key keys.At >> end_tokens who
+
+abbrev pub broadcast_tokens : Spot → Payload → End → Kinds → Kinds
+broadcast_tokens label payload from = key keys.Broadcast >> word label.name >> payload_tokens payload >> key keys.From >> end_tokens from >> mark Semicolon
+
+abbrev pub reduce_tokens : Spot → Payload → Op → End → Kinds → Kinds
+reduce_tokens label payload op to = key keys.Reduce >> word label.name >> payload_tokens payload >> key keys.With >> op_tokens op >> key keys.To >> end_tokens to >> mark Semicolon
+
+abbrev pub allreduce_tokens : Spot → Payload → Op → Kinds → Kinds
+allreduce_tokens label payload op = key keys.Allreduce >> word label.name >> payload_tokens payload >> key keys.With >> op_tokens op >> mark Semicolon
+
 abbrev mutual
   pub statement_tokens : PlainStatement → Kinds → Kinds
-  statement_tokens (message label payload from to) before = (word label.name >> payload_tokens payload >> key keys.From >> end_tokens from >> key keys.To >> end_tokens to >> mark Semicolon) before
-  statement_tokens (foreach place var over at items) before = mark RightBrace (statements_tokens items ((key keys.Foreach >> mark LeftParen >> word var.name >> mark Colon >> range_tokens over >> mark RightParen >> mark LeftBrace) before))
+  statement_tokens (message label payload from to) before = message_tokens label payload from to before
+  statement_tokens (foreach place var over at items) before = mark RightBrace (statements_tokens items (mark LeftBrace (foreach_tokens var over before)))
   statement_tokens (loop place name at body) before = mark RightBrace (statements_tokens body ((key keys.Rec >> word name.name >> mark LeftBrace) before))
   statement_tokens (again place name) before = (key keys.Continue >> word name.name >> mark Semicolon) before
-  statement_tokens (choice place kernel who branches) before = branches_tokens branches ((key keys.Choice >> word kernel.name >> key keys.At >> end_tokens who) before)
-  statement_tokens (compute place kernel who) before = (key keys.Compute >> word kernel.name >> key keys.At >> end_tokens who >> mark Semicolon) before
+  statement_tokens (choice place kernel who branches) before = branches_tokens branches (kernel_tokens keys.Choice kernel who before)
+  statement_tokens (compute place kernel who) before = mark Semicolon (kernel_tokens keys.Compute kernel who before)
   statement_tokens (barrier place) before = (key keys.Barrier >> mark Semicolon) before
-  statement_tokens (broadcast place label payload from) before = (key keys.Broadcast >> word label.name >> payload_tokens payload >> key keys.From >> end_tokens from >> mark Semicolon) before
-  statement_tokens (reduce place label payload op to) before = (key keys.Reduce >> word label.name >> payload_tokens payload >> key keys.With >> op_tokens op >> key keys.To >> end_tokens to >> mark Semicolon) before
-  statement_tokens (allreduce place label payload op) before = (key keys.Allreduce >> word label.name >> payload_tokens payload >> key keys.With >> op_tokens op >> mark Semicolon) before
+  statement_tokens (broadcast place label payload from) before = broadcast_tokens label payload from before
+  statement_tokens (reduce place label payload op to) before = reduce_tokens label payload op to before
+  statement_tokens (allreduce place label payload op) before = allreduce_tokens label payload op before
 
   pub statements_tokens : PlainStatements → Kinds → Kinds
   statements_tokens nothing before = before
@@ -138,11 +158,18 @@ abbrev mutual
   or_tokens no_branch before = before
   or_tokens (branch at body rest) before = or_tokens rest (mark RightBrace (statements_tokens body ((key keys.Or >> mark LeftBrace) before)))
 
+-- before the branch of a number
+abbrev pub or_at : ℕ → Kinds → Kinds
+or_at n before = if n == 0 then before else key keys.Or before
+
 abbrev pub block_tokens : PlainBlock → Kinds → Kinds
 block_tokens b before = mark RightBrace (statements_tokens b.list (mark LeftBrace before))
 
+abbrev pub constant_tokens : PlainFile → Kinds → Kinds
+constant_tokens f = key keys.Const >> word f.constant.name >> mark Equals >> number f.low >> mark Dots >> high_tokens f.high >> mark Semicolon
+
 abbrev pub head_tokens : PlainFile → Kinds → Kinds
-head_tokens f = key keys.Const >> word f.constant.name >> mark Equals >> number f.low >> mark Dots >> high_tokens f.high >> mark Semicolon >> key keys.Global >> key keys.Protocol >> word f.protocol.name >> mark LeftParen >> roles_tokens f.roles >> mark RightParen
+head_tokens f = constant_tokens f >> key keys.Global >> key keys.Protocol >> word f.protocol.name >> mark LeftParen >> roles_tokens f.roles >> mark RightParen
 
 abbrev pub file_tokens : PlainFile → Kinds
 file_tokens f = (head_tokens f >> block_tokens f.body) []

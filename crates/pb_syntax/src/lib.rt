@@ -10,10 +10,14 @@ ghost use Rattle.pb_syntax.specs.Rows.{lin_row, role_row, payload_row, plain_end
 
 mod core_label;
 mod layout;
+mod print;
+mod statements;
+mod tokens;
 mod tree;
 
 pub use core_label::{CoreKernel, CoreLabel, KernelKind};
 pub use pb_text::{Name, NoMemory, Place, Spot};
+pub use print::print_file;
 pub use tree::{
     Block, End, FileTree, High, IndexText, LinText, Op, Payload, RangeText, RoleText, Statement,
 };
