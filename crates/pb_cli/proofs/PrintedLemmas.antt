@@ -1,7 +1,7 @@
 -- A printed text that grows.
-use Rattle.std.proofs.Common.{◌≡◌, ℕ, ◌≤◌, List, ◌++◌, length, take, ap, ◌∙◌, arith, length-append}
+use Rattle.std.proofs.Common.{◌≡◌, ℕ, ◌≤◌, List, ◌++◌, length, take, ap, ◌∙◌, arith}
 use Rattle.std.proofs.lemmas.List.{take-append-le, length-take}
-use Rattle.pb_cli.specs.Printed.{IsPrinted, format_line}
+use Rattle.pb_cli.specs.Printed.{IsPrinted}
 
 pub printed_more : (text more : List ℕ) → IsPrinted text → IsPrinted (text ++ more)
 printed_more text more begun =

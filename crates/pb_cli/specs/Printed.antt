@@ -1,5 +1,5 @@
 -- The bytes with which a printed C text begins.
-use Rattle.std.specs.Prelude.{◌≡◌, ℕ, List, length, take, codes}
+use Rattle.std.specs.Prelude.{◌≡◌, ℕ, List, take, codes}
 
 -- the line that tells the format
 abbrev pub format_line : List ℕ

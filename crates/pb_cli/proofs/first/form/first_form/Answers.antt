@@ -1,4 +1,4 @@
-use Rattle.std.proofs.Common.{rules, arith}
+use Rattle.std.proofs.Common.{rules}
 use Rattle.pb_cli.proofs.Messages.{kept_more, length_interned}
 use Rattle.pb_cli.proofs.first.form.first_form.Goals as goal
 
