@@ -1,0 +1,5 @@
+pub mod Files
+pub mod Marks
+pub mod Merges
+pub mod Names
+pub mod Outcomes
