@@ -1,4 +1,10 @@
+pub mod Alone
+pub mod Collectives
+pub mod Computed
+pub mod Family
 pub mod Layout
+pub mod Machine
+pub mod MachineLaws
 pub mod Names
 pub mod Pieces
 pub mod Ranks

@@ -2,6 +2,7 @@
 #![tactic(auto)]
 
 mod copy;
+mod laws;
 mod layout;
 mod lines;
 mod pieces;
@@ -9,6 +10,9 @@ mod small;
 mod stmt;
 mod tables;
 
+pub use laws::{
+    counts_within, ends_when_finished, follows_alone, keeps_rank, lost_or_undefined, names_ranks,
+};
 pub use layout::print_local;
 pub use pb_affine::{Base, Guard, Guards, Lin, NRange};
 pub use pb_syntax::{CoreKernel, CoreLabel, KernelKind, Op, Payload};
