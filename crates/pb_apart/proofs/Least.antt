@@ -1,17 +1,17 @@
 -- What the least solution says of the ranks, and what the answers for less and for more say together.
-use Rattle.std.proofs.Common.{◌≡◌, ◌↔◌, ℕ, zero, suc, ◌<◌, ℤ, pos, ◌+ℤ◌, ◌≤ℤ◌, ◌⊎◌, inl, inr, Option, Some, None, List, true, false, Bool, not, ◌&&◌, ◌||◌, if◌then◌else◌, nat_eq, int_lt, MatchOption, refl, sym, ◌∙◌, subst, arith}
+use Rattle.std.proofs.Common.{◌≡◌, ◌↔◌, ℕ, zero, suc, ◌<◌, ℤ, pos, ◌+ℤ◌, ◌≤ℤ◌, ◌⊎◌, inl, inr, Option, Some, None, List, true, false, Bool, not, ◌&&◌, ◌||◌, if◌then◌else◌, nat_eq, int_lt, int_le, negsuc, MatchOption, refl, sym, ◌∙◌, subst, arith}
 use Rattle.std.specs.Ordering.{int_eq}
 use Rattle.std.proofs.lemmas.Int.{ints}
 use Rattle.std.proofs.lemmas.Bool.Decides.{nat_tests}
 use Rattle.pb_affine.specs.declared.lin.Lin.{Lin}
 use Rattle.pb_affine.specs.declared.guard.Guard.{Guard}
 use Rattle.pb_affine.specs.declared.range.NRange.{NRange}
-use Rattle.pb_affine.specs.Values.{value, holds, is_at_least, is_at_most, is_from_on, is_up_to}
+use Rattle.pb_affine.specs.Values.{value, base_value, shifted, holds, is_at_least, is_at_most, is_from_on, is_up_to}
 use Rattle.pb_cases.specs.declared.bad.Bad.{Bad}
 use Rattle.pb_cases.specs.Breakpoints.{IsInRange}
 use Rattle.pb_cases.specs.Regions.{is_before, IsFirst, IsNowhere}
 use Rattle.pb_diff.specs.Systems.{Differences, Satisfies, IsLeastSolution, IsUnsolvable, number}
-use Rattle.pb_apart.specs.Apart.{is_apart, is_below, IsPlace, lesser}
+use Rattle.pb_apart.specs.Apart.{is_apart, is_apart_other, is_below, under, over, IsPlace, lesser}
 
 -- the numbers 0, n and j
 point : ℤ → ℤ → ℕ → ℤ
@@ -147,32 +147,42 @@ later_n m n x y h = grind (arith, ints)
 later_tie : (m n : ℤ) (x y : ℤ) → (int_lt m n || (int_eq m n && int_lt x y)) ≡ false → m ≤ℤ n → y ≤ℤ x
 later_tie m n x y h le = grind (arith, ints)
 
-abbrev pub IsAnswer : NRange → ℕ → (ℤ → ℕ → ℤ → Bool) → Option Bad → Type 0
-IsAnswer range role region o = MatchOption o (IsNowhere range region) (λ bad. (bad.role ≡ role) × IsFirst range region bad.n bad.role bad.index)
+abbrev pub IsAnswer : NRange → (ℤ → ℕ → ℤ → Bool) → Option Bad → Type 0
+IsAnswer range region o = MatchOption o (IsNowhere range region) (λ bad. IsFirst range region bad.n bad.role bad.index)
 
-pub both_apart : (range : NRange) (g h : Guard) (p q : Lin) (a b : Option Bad) → IsAnswer range g.role (is_below g h p q) a → IsAnswer range g.role (is_below g h q p) b → MatchOption (lesser a b) (IsNowhere range (is_apart g h p q)) (λ bad. IsFirst range (is_apart g h p q) bad.n bad.role bad.index)
-both_apart range g h p q a b in_a in_b = cases a b in_a in_b where
-  split : (m : ℤ) (r : ℕ) (z : ℤ) → is_apart g h p q m r z ≡ true → (is_below g h p q m r z ≡ true) ⊎ (is_below g h q p m r z ≡ true)
-  split m r z t = apart_split (holds g m (pos 0) r z && holds h m (pos 0) r z) (value p m z) (value q m z) t
+-- a region of one role that is one or the other of two
+pub record IsUnion (role : ℕ) (A B C : ℤ → ℕ → ℤ → Bool) : Type 0 where
+  pub split : (m : ℤ) (r : ℕ) (z : ℤ) → C m r z ≡ true → (A m r z ≡ true) ⊎ (B m r z ≡ true)
+  pub left : (m : ℤ) (r : ℕ) (z : ℤ) → A m r z ≡ true → C m r z ≡ true
+  pub right : (m : ℤ) (r : ℕ) (z : ℤ) → B m r z ≡ true → C m r z ≡ true
+  pub own : (m : ℤ) (r : ℕ) (z : ℤ) → C m r z ≡ true → r ≡ role
 
-  turned : (m : ℤ) (r : ℕ) (z : ℤ) → is_apart g h p q m r z ≡ true → (is_below g h q p m r z ≡ true) ⊎ (is_below g h p q m r z ≡ true)
-  turned m r z t = elim (split m r z t) [ inl x ↦ inr x | inr y ↦ inl y ]
+pub lesser_answers : (range : NRange) (role : ℕ) (A B C : ℤ → ℕ → ℤ → Bool) (a b : Option Bad) → IsUnion role A B C → IsAnswer range A a → IsAnswer range B b → IsAnswer range C (lesser a b)
+lesser_answers range role A B C a b u in_a in_b = cases a b in_a in_b where
+  turned : (m : ℤ) (r : ℕ) (z : ℤ) → C m r z ≡ true → (B m r z ≡ true) ⊎ (A m r z ≡ true)
+  turned m r z t = elim (u.split m r z t) [ inl x ↦ inr x | inr y ↦ inl y ]
 
-  less : (m : ℤ) (r : ℕ) (z : ℤ) → is_below g h p q m r z ≡ true → is_apart g h p q m r z ≡ true
-  less m r z t = less_apart (holds g m (pos 0) r z && holds h m (pos 0) r z) (value p m z) (value q m z) t
+  by_test : (x y : Bad) (t : Bool) → (int_lt x.n y.n || (int_eq x.n y.n && int_lt x.index y.index)) ≡ t → x.role ≡ y.role → IsFirst range A x.n x.role x.index → IsFirst range B y.n y.role y.index → IsAnswer range C (if t then Some x else Some y)
+  by_test x y true e same f k = prefer range A B C x y u.split u.left same f k (earlier_n x.n y.n x.index y.index e) (earlier_tie x.n y.n x.index y.index e)
+  by_test x y false e same f k = prefer range B A C y x turned u.right (sym same) k f (later_n x.n y.n x.index y.index e) (later_tie x.n y.n x.index y.index e)
 
-  more : (m : ℤ) (r : ℕ) (z : ℤ) → is_below g h q p m r z ≡ true → is_apart g h p q m r z ≡ true
-  more m r z t = more_apart (holds g m (pos 0) r z && holds h m (pos 0) r z) (value p m z) (value q m z) t
+  cases : (a b : Option Bad) → IsAnswer range A a → IsAnswer range B b → IsAnswer range C (lesser a b)
+  cases None None f k = record { none = λ n r x n_in t. elim (u.split n r x t) [ inl l ↦ f.none n r x n_in l | inr m ↦ k.none n r x n_in m ] }
+  cases None (Some y) f k = alone range B A C y.n y.role y.index turned u.right f k
+  cases (Some x) None f k = alone range A B C x.n x.role x.index u.split u.left k f
+  cases (Some x) (Some y) f k =
+      let x_own : x.role ≡ role = u.own x.n x.role x.index (u.left x.n x.role x.index f.there) in
+      let y_own : y.role ≡ role = u.own y.n y.role y.index (u.right y.n y.role y.index k.there) in
+      by_test x y (int_lt x.n y.n || (int_eq x.n y.n && int_lt x.index y.index)) refl (x_own ∙ sym y_own) f k
 
-  by_test : (x y : Bad) (t : Bool) → (int_lt x.n y.n || (int_eq x.n y.n && int_lt x.index y.index)) ≡ t → x.role ≡ y.role → IsFirst range (is_below g h p q) x.n x.role x.index → IsFirst range (is_below g h q p) y.n y.role y.index → MatchOption (if t then Some x else Some y) (IsNowhere range (is_apart g h p q)) (λ bad. IsFirst range (is_apart g h p q) bad.n bad.role bad.index)
-  by_test x y true e same f k = prefer range (is_below g h p q) (is_below g h q p) (is_apart g h p q) x y split less same f k (earlier_n x.n y.n x.index y.index e) (earlier_tie x.n y.n x.index y.index e)
-  by_test x y false e same f k = prefer range (is_below g h q p) (is_below g h p q) (is_apart g h p q) y x turned more (sym same) k f (later_n x.n y.n x.index y.index e) (later_tie x.n y.n x.index y.index e)
-
-  cases : (a b : Option Bad) → IsAnswer range g.role (is_below g h p q) a → IsAnswer range g.role (is_below g h q p) b → MatchOption (lesser a b) (IsNowhere range (is_apart g h p q)) (λ bad. IsFirst range (is_apart g h p q) bad.n bad.role bad.index)
-  cases None None f k = record { none = λ n r x n_in t. elim (split n r x t) [ inl l ↦ f.none n r x n_in l | inr m ↦ k.none n r x n_in m ] }
-  cases None (Some y) f k = alone range (is_below g h q p) (is_below g h p q) (is_apart g h p q) y.n y.role y.index turned more f k.1
-  cases (Some x) None f k = alone range (is_below g h p q) (is_below g h q p) (is_apart g h p q) x.n x.role x.index split less k f.1
-  cases (Some x) (Some y) f k = by_test x y (int_lt x.n y.n || (int_eq x.n y.n && int_lt x.index y.index)) refl (f.0 ∙ sym k.0) f.1 k.1
+-- to differ is to be less or to be more
+pub apart_union : (g h : Guard) (p q : Lin) → IsUnion g.role (is_below g h p q) (is_below g h q p) (is_apart g h p q)
+apart_union g h p q = record {
+  split = λ m r z t. apart_split (holds g m (pos 0) r z && holds h m (pos 0) r z) (value p m z) (value q m z) t;
+  left = λ m r z t. less_apart (holds g m (pos 0) r z && holds h m (pos 0) r z) (value p m z) (value q m z) t;
+  right = λ m r z t. more_apart (holds g m (pos 0) r z && holds h m (pos 0) r z) (value p m z) (value q m z) t;
+  own = λ m r z t. role_of g m z r (three (holds g m (pos 0) r z) (holds h m (pos 0) r z) (not (int_eq (value p m z) (value q m z))) t).0;
+}
 
 -- guards of two roles hold of no rank together
 pub other_role : (range : NRange) (g h : Guard) (p q : Lin) → (g.role ≡ h.role → ⊥) → IsNowhere range (is_apart g h p q)
@@ -180,4 +190,69 @@ other_role range g h p q differ = record {
   none = λ n r x n_in t.
       let all = three (holds g n (pos 0) r x) (holds h n (pos 0) r x) (not (int_eq (value p n x) (value q n x))) t in
       differ (sym (role_of g n x r all.0) ∙ role_of h n x r all.1);
+}
+
+-- an index other than a lin's value is below it or above it
+under_holds : (g : Guard) (but : Lin) (n x : ℤ) (r : ℕ) → r ≡ g.role → (x +ℤ pos 1) ≤ℤ value but n (pos 0) → holds (under g but) n (pos 0) r x ≡ true
+under_holds g but n x r same le = five_there r g.role (int_le x (value (shifted but (negsuc 0)) n (pos 0))) same (le_under but.off (base_value but.base n (pos 0)) x le) where
+  le_under : (off b x : ℤ) → (x +ℤ pos 1) ≤ℤ (off +ℤ b) → int_le x ((off +ℤ negsuc 0) +ℤ b) ≡ true
+  le_under off b x le = grind (arith, ints)
+
+  five_there : (r s : ℕ) (p : Bool) → r ≡ s → p ≡ true → (nat_eq r s && true && p && true && true) ≡ true
+  five_there r s p e h = rw (nat_is r s e, h) refl where
+    nat_is : (r s : ℕ) → r ≡ s → nat_eq r s ≡ true
+    nat_is r s e = grind (arith, nat_tests)
+
+over_holds : (g : Guard) (but : Lin) (n x : ℤ) (r : ℕ) → r ≡ g.role → (value but n (pos 0) +ℤ pos 1) ≤ℤ x → holds (over g but) n (pos 0) r x ≡ true
+over_holds g but n x r same le = five_there r g.role (int_le (value (shifted but (pos 1)) n (pos 0)) x) same (le_over but.off (base_value but.base n (pos 0)) x le) where
+  le_over : (off b x : ℤ) → ((off +ℤ b) +ℤ pos 1) ≤ℤ x → int_le ((off +ℤ pos 1) +ℤ b) x ≡ true
+  le_over off b x le = grind (arith, ints)
+
+  five_there : (r s : ℕ) (p : Bool) → r ≡ s → p ≡ true → (nat_eq r s && p && true && true && true) ≡ true
+  five_there r s p e h = rw (nat_is r s e, h) refl where
+    nat_is : (r s : ℕ) → r ≡ s → nat_eq r s ≡ true
+    nat_is r s e = grind (arith, nat_tests)
+
+third : (r p : Bool) → (r && true && p && true && true) ≡ true → p ≡ true
+third true true h = refl
+third true false h = absurd (cc)
+third false p h = absurd (cc)
+
+second : (r p : Bool) → (r && p && true && true && true) ≡ true → p ≡ true
+second true true h = refl
+second true false h = absurd (cc)
+second false p h = absurd (cc)
+
+under_other : (g : Guard) (but : Lin) (n x : ℤ) (r : ℕ) → holds (under g but) n (pos 0) r x ≡ true → not (int_eq x (value but n (pos 0))) ≡ true
+under_other g but n x r h = differ but.off (base_value but.base n (pos 0)) x (third (nat_eq r g.role) (int_le x (value (shifted but (negsuc 0)) n (pos 0))) h) where
+  differ : (off b x : ℤ) → int_le x ((off +ℤ negsuc 0) +ℤ b) ≡ true → not (int_eq x (off +ℤ b)) ≡ true
+  differ off b x h = grind (arith, ints)
+
+over_other : (g : Guard) (but : Lin) (n x : ℤ) (r : ℕ) → holds (over g but) n (pos 0) r x ≡ true → not (int_eq x (value but n (pos 0))) ≡ true
+over_other g but n x r h = differ but.off (base_value but.base n (pos 0)) x (second (nat_eq r g.role) (int_le (value (shifted but (pos 1)) n (pos 0)) x) h) where
+  differ : (off b x : ℤ) → int_le ((off +ℤ pos 1) +ℤ b) x ≡ true → not (int_eq x (off +ℤ b)) ≡ true
+  differ off b x h = grind (arith, ints)
+
+above_or_below : (x v : ℤ) → not (int_eq x v) ≡ true → ((x +ℤ pos 1) ≤ℤ v) ⊎ ((v +ℤ pos 1) ≤ℤ x)
+above_or_below x v h = grind (arith, ints)
+
+and_three : (p q r : Bool) → p ≡ true → q ≡ true → r ≡ true → ((p && q) && r) ≡ true
+and_three p q r a b c = rw (a, b, c) refl
+
+pub other_union : (g : Guard) (but p q : Lin) → IsUnion g.role (is_apart g (under g but) p q) (is_apart g (over g but) p q) (is_apart_other g but p q)
+other_union g but p q = record {
+  split = λ m r z t.
+      let all = three (holds g m (pos 0) r z) (not (int_eq z (value but m (pos 0)))) (not (int_eq (value p m z) (value q m z))) t in
+      let own : r ≡ g.role = role_of g m z r all.0 in
+      elim (above_or_below z (value but m (pos 0)) all.1) [
+        | inl le ↦ inl (and_three (holds g m (pos 0) r z) (holds (under g but) m (pos 0) r z) (not (int_eq (value p m z) (value q m z))) all.0 (under_holds g but m z r own le) all.2)
+        | inr le ↦ inr (and_three (holds g m (pos 0) r z) (holds (over g but) m (pos 0) r z) (not (int_eq (value p m z) (value q m z))) all.0 (over_holds g but m z r own le) all.2)
+      ];
+  left = λ m r z t.
+      let all = three (holds g m (pos 0) r z) (holds (under g but) m (pos 0) r z) (not (int_eq (value p m z) (value q m z))) t in
+      and_three (holds g m (pos 0) r z) (not (int_eq z (value but m (pos 0)))) (not (int_eq (value p m z) (value q m z))) all.0 (under_other g but m z r all.1) all.2;
+  right = λ m r z t.
+      let all = three (holds g m (pos 0) r z) (holds (over g but) m (pos 0) r z) (not (int_eq (value p m z) (value q m z))) t in
+      and_three (holds g m (pos 0) r z) (not (int_eq z (value but m (pos 0)))) (not (int_eq (value p m z) (value q m z))) all.0 (over_other g but m z r all.1) all.2;
+  own = λ m r z t. role_of g m z r (three (holds g m (pos 0) r z) (not (int_eq z (value but m (pos 0)))) (not (int_eq (value p m z) (value q m z))) t).0;
 }

@@ -1,10 +1,10 @@
 -- The ranks at which two lins differ.
-use Rattle.std.specs.Prelude.{◌≡◌, ℕ, ℤ, pos, ◌+ℤ◌, ◌≤ℤ◌, Bool, true, not, ◌&&◌, ◌||◌, int_lt, if◌then◌else◌, Option, Some, None}
+use Rattle.std.specs.Prelude.{◌≡◌, ℕ, ℤ, pos, negsuc, ◌+ℤ◌, ◌≤ℤ◌, Bool, true, not, ◌&&◌, ◌||◌, int_lt, if◌then◌else◌, Option, Some, None}
 use Rattle.std.specs.Ordering.{int_eq}
 use Rattle.pb_affine.specs.declared.lin.Lin.{Lin}
 use Rattle.pb_affine.specs.declared.guard.Guard.{Guard}
 use Rattle.pb_affine.specs.declared.range.NRange.{NRange}
-use Rattle.pb_affine.specs.Values.{value, holds}
+use Rattle.pb_affine.specs.Values.{value, holds, shifted}
 use Rattle.pb_cases.specs.declared.bad.Bad.{Bad}
 use Rattle.pb_cases.specs.Breakpoints.{IsInRange}
 
@@ -12,7 +12,18 @@ use Rattle.pb_cases.specs.Breakpoints.{IsInRange}
 abbrev pub is_apart : Guard → Guard → Lin → Lin → ℤ → ℕ → ℤ → Bool
 is_apart g h p q n role index = (holds g n (pos 0) role index && holds h n (pos 0) role index) && not (int_eq (value p n index) (value q n index))
 
--- the same, with the first lin less than the second
+-- the guard holds of the rank, whose index isn't the value of `but`, and the lins differ there
+abbrev pub is_apart_other : Guard → Lin → Lin → Lin → ℤ → ℕ → ℤ → Bool
+is_apart_other g but p q n role index = (holds g n (pos 0) role index && not (int_eq index (value but n (pos 0)))) && not (int_eq (value p n index) (value q n index))
+
+-- the ranks of the guard's role whose index is below the value of `but`, and those above it
+abbrev pub under : Guard → Lin → Guard
+under g but = record { role = g.role; low = None; high = Some (shifted but (negsuc 0)); from = None; to = None }
+
+abbrev pub over : Guard → Lin → Guard
+over g but = record { role = g.role; low = Some (shifted but (pos 1)); high = None; from = None; to = None }
+
+-- of the ranks of `is_apart` those where the first lin is less than the second than the second
 abbrev pub is_below : Guard → Guard → Lin → Lin → ℤ → ℕ → ℤ → Bool
 is_below g h p q n role index = (holds g n (pos 0) role index && holds h n (pos 0) role index) && int_lt (value p n index) (value q n index)
 

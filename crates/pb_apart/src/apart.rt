@@ -1,8 +1,8 @@
-ghost use Rattle.std.specs.Prelude.{◌≡◌, ◌≤◌, ◌<◌, ℕ, ℤ, pos, length, true, Some, MatchOption, IsSome, ◌↔◌};
+ghost use Rattle.std.specs.Prelude.{◌≡◌, ◌≤◌, ◌<◌, ℕ, ℤ, pos, negsuc, ◌+ℤ◌, length, true, Some, MatchOption, IsSome, ◌↔◌};
 ghost use Rattle.pb_affine.specs.Values.{IsSmall, IsSmallGuard};
 ghost use Rattle.pb_cases.specs.Regions.{IsFirst, IsNowhere};
 ghost use Rattle.pb_diff.specs.Systems.{IsBoundedBelow, Satisfies};
-ghost use Rattle.pb_apart.specs.Apart.{is_apart, is_below, IsPlace, lesser};
+ghost use Rattle.pb_apart.specs.Apart.{is_apart, is_apart_other, is_below, under, over, IsPlace, lesser};
 
 use crate::facts::{below, from_least, in_range, under_guard};
 use pb_affine::{Guard, Lin, NRange};
@@ -37,7 +37,7 @@ fn first_below(range: NRange, g: &Guard, low: Lin, h: &Guard, p: Lin, q: Lin) ->
     requires role { h.now.role ≡ g.now.role }
     requires p { IsSmall p.off }
     requires q { IsSmall q.off }
-    ensures { MatchOption result (IsNowhere range (is_below g.now h.now p q)) (λ bad. (bad.role ≡ g.now.role) × IsFirst range (is_below g.now h.now p q) bad.n bad.role bad.index) }
+    ensures { MatchOption result (IsNowhere range (is_below g.now h.now p q)) (λ bad. IsFirst range (is_below g.now h.now p q) bad.n bad.role bad.index) }
 {
     let system = system_of(range, g, low, h, p, q);
     match system.least() {
@@ -83,5 +83,55 @@ pub fn first_apart(range: NRange, g: &Guard, h: &Guard, p: Lin, q: Lin) -> Optio
             lesser(less, more)
         }
         _ => None,
+    }
+}
+
+/// As `first_apart`, with the guard `g` alone, of the ranks whose index isn't the value of `but` at N; None exactly where
+/// there is none. Takes no memory.
+pub fn first_apart_other(range: NRange, g: &Guard, but: Lin, p: Lin, q: Lin) -> Option<Bad>
+    requires g { IsSmallGuard g.now }
+    requires low { IsSome g.now.low }
+    requires below { IsSmall (but.off +ℤ negsuc 0) }
+    requires above { IsSmall (but.off +ℤ pos 1) }
+    requires p { IsSmall p.off }
+    requires q { IsSmall q.off }
+    ensures { MatchOption result (IsNowhere range (is_apart_other g.now but p q)) (λ bad. IsFirst range (is_apart_other g.now but p q) bad.n bad.role bad.index) }
+{
+    let under = guard_under(g, but);
+    let over = guard_over(g, but);
+    let less = first_apart(range, g, &under, p, q);
+    let more = first_apart(range, g, &over, p, q);
+    lesser(less, more)
+}
+
+/// The ranks of the guard's role whose index is below the lin's value.
+fn guard_under(g: &Guard, but: Lin) -> Guard
+    requires { IsSmall (but.off +ℤ negsuc 0) }
+    ensures is { result ≡ under g.now but }
+    ensures small { IsSmallGuard result }
+{
+    let high = but.shift(-1);
+    Guard {
+        role: g.role,
+        low: None,
+        high: Some(high),
+        from: None,
+        to: None,
+    }
+}
+
+/// The ranks of the guard's role whose index is above the lin's value.
+fn guard_over(g: &Guard, but: Lin) -> Guard
+    requires { IsSmall (but.off +ℤ pos 1) }
+    ensures is { result ≡ over g.now but }
+    ensures small { IsSmallGuard result }
+{
+    let low = but.shift(1);
+    Guard {
+        role: g.role,
+        low: Some(low),
+        high: None,
+        from: None,
+        to: None,
     }
 }

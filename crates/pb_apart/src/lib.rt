@@ -10,4 +10,4 @@ mod term;
 #[cfg(test)]
 mod tests;
 
-pub use apart::first_apart;
+pub use apart::{first_apart, first_apart_other};

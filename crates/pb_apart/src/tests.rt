@@ -1,11 +1,13 @@
-ghost use Rattle.std.specs.Prelude.{IsSome};
+ghost use Rattle.std.specs.Prelude.{IsSome, ◌+ℤ◌, pos, negsuc};
 ghost use Rattle.pb_affine.specs.Values.{IsSmall, IsSmallGuard};
 
-use crate::first_apart;
+use crate::{first_apart, first_apart_other};
 use pb_affine::{Base, Guard, Lin, NRange};
 
 fn lin_of(base: Base, off: i8) -> Lin
-    ensures { IsSmall result.off }
+    ensures small { IsSmall result.off }
+    ensures below { IsSmall (result.off +ℤ negsuc 0) }
+    ensures above { IsSmall (result.off +ℤ pos 1) }
 {
     Lin {
         base,
@@ -201,4 +203,47 @@ fn rows(rt: HostRuntime) {
             "row {i}"
         );
     }
+}
+
+/// The N and the index at which `p` and `q` first differ under the guard, at another index than `but`.
+fn apart_other(
+    range: NRange,
+    g: Ends,
+    but: (Base, i8),
+    p: (Base, i8),
+    q: (Base, i8),
+) -> Option<(i64, i64)> {
+    let g = guard_of(3, g);
+    let but = lin_of(but.0, but.1);
+    let p = lin_of(p.0, p.1);
+    let q = lin_of(q.0, q.1);
+    first_apart_other(range, &g, but, p, q).map(|bad| (bad.n, bad.index))
+}
+
+#[test]
+fn all_but_one(rt: HostRuntime) {
+    let first = (Base::Fixed, 0);
+    let last = (Base::Param, -1);
+    let own = (Base::Var, 0);
+    let range = NRange { low: 3, high: None };
+    let role = Ends {
+        low: first,
+        high: last,
+        from: None,
+    };
+    let at_first = Ends {
+        low: first,
+        high: first,
+        from: None,
+    };
+    // the first rank, where index and 0 are one, and the next
+    assert_eq!(rt; apart_other(range, role, last, own, first), Some((3, 1)));
+    // all ranks but the next, up to N - 1
+    assert_eq!(rt;
+        apart_other(range, role, (Base::Fixed, 1), own, first),
+        Some((3, 2))
+    );
+    // the one rank that would do is left out
+    assert_eq!(rt; apart_other(range, at_first, first, own, last), None);
+    assert_eq!(rt; apart_other(range, at_first, last, own, last), Some((3, 0)));
 }

@@ -1,4 +1,4 @@
-use Rattle.std.proofs.Common.{rules, refl, sym, pos, get_or, SFits, w64, to_z-of_z}
+use Rattle.std.proofs.Common.{rules, sym, pos, get_or, SFits, w64, to_z-of_z}
 use Rattle.pb_apart.proofs.Least.{none_below, least_below}
 use Rattle.pb_apart.proofs.apart.first_below.Goals as goal
 
@@ -9,4 +9,4 @@ pub returns-in-Some : goal.returns-in-Some
 returns-in-Some c =
     let n_fits : SFits w64 (get_or c.in-Some.numbers 1 (pos 0)) = search rules in
     let index_fits : SFits w64 (get_or c.in-Some.numbers 2 (pos 0)) = search rules in
-    (refl, simp to_z-of_z (least_below c.args.range c.args.g.now c.args.h.now c.args.p c.args.q c.system_of-system.result c.in-Some.numbers (sym c.system_of-system.ensures.vars) c.requires.role c.system_of-system.ensures.solutions c.in-Some.ensures))
+    simp to_z-of_z (least_below c.args.range c.args.g.now c.args.h.now c.args.p c.args.q c.system_of-system.result c.in-Some.numbers (sym c.system_of-system.ensures.vars) c.requires.role c.system_of-system.ensures.solutions c.in-Some.ensures)
