@@ -1,3 +1,5 @@
 pub mod View
 pub mod Loops
 pub mod Finds
+pub mod Ends
+pub mod Alone

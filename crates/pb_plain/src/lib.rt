@@ -2,24 +2,37 @@
 //! that it breaks, and its sequential run. They follow the definitions step by step, and fast code is tested against them.
 #![tactic(auto)]
 
+mod build;
+mod end_rule;
 mod fault;
 mod flat;
 mod held;
 mod numbers;
 mod opens;
 mod outcomes;
+mod parts;
 mod ranks;
 mod site;
 mod takes;
+mod tell_rule;
+mod told;
 
+pub use build::{flat_block, flat_of, flat_stmt};
+pub use end_rule::{EndRule, add_breaks};
 pub use fault::PlainFault;
 pub use flat::{Asked, Branches, Collective, Ends, Flat, Mark, Origin, Seat};
 pub use held::Held;
 pub use numbers::{range, value};
 pub use opens::Opens;
 pub use outcomes::{Outcome, firsts, firsts_among};
+pub use parts::takes_part_within;
 pub use pb_core::{Core, Op, Place};
 pub use pb_text::NoMemory;
 pub use ranks::{number_in, seats};
-pub use site::Site;
+pub use site::{Site, asked, from_one, from_two, mark, rank_of};
 pub use takes::{can_end, some_can_end, takes_part, takes_part_among};
+pub use tell_rule::TellRule;
+pub use told::misfits;
+
+#[cfg(test)]
+mod tests;

@@ -56,7 +56,8 @@ pub fn number_in(seat: &Seat, seats: &[Seat]) -> u64
     seats.len() as u64
 }
 
-fn is_same(a: &Seat, b: &Seat) -> bool
+/// Whether the seats are the same.
+pub fn is_same(a: &Seat, b: &Seat) -> bool
     ensures { result ≡ seat_eq (seat_of a.now) (seat_of b.now) }
 {
     a.role == b.role && a.index == b.index
