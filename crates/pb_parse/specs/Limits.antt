@@ -135,10 +135,10 @@ NonePasses c (t ∷ ts) = (passed c t ≡ None) × NonePasses (counts_next c t) 
 abbrev pub AreWithin : List Token → Type 0
 AreWithin ts = NonePasses at_start ts
 
--- What steps of counting return: the limit that was passed, or none, and then the new counts.
-abbrev pub Within : Result (Unit {0}) Quantity → Option Quantity → Type 0
-Within (Ok u) limit = limit ≡ None
-Within (Err q) limit = limit ≡ Some q
+-- What a test of a limit and a step of counting return: the limit that is passed, or none, and then the new counts.
+abbrev pub Refuses : Result (Unit {0}) Quantity → Option Quantity → Type 0
+Refuses (Ok u) limit = limit ≡ None
+Refuses (Err q) limit = limit ≡ Some q
 
 abbrev pub Steps : Result (Unit {0}) Quantity → Counts → Option Quantity → Counts → Type 0
 Steps (Ok u) new limit after = (limit ≡ None) × (new ≡ after)

@@ -14,6 +14,8 @@ use Rattle.pb_syntax.specs.declared.tree.FileTree.{FileTree}
 use Rattle.pb_syntax.specs.Tree.{PlainFile}
 use Rattle.pb_syntax.specs.Plain.{plain_file}
 use Rattle.pb_syntax.specs.Grammar.{IsFile, IsFront}
+use Rattle.pb_syntax.specs.Bare.{bare_file}
+use Rattle.pb_syntax.specs.Laws.{IsTextOf}
 use Rattle.pb_syntax.specs.Unexpected.{StopsBefore, EndsEarly}
 use Rattle.pb_parse.specs.Limits.{AreWithin, passed, counts}
 use Rattle.pb_parse.specs.declared.fault.ParseFault.{ParseFault}
@@ -87,3 +89,7 @@ passes_fault limit place = fault.TooMany limit place
 abbrev pub stop_fault : Quantity → Place → List Token → ParseFault
 stop_fault limit place [] = passes_fault limit place
 stop_fault limit place (t ∷ ts) = fault.Unexpected t.place
+
+-- What a text of a tree is parsed to is that tree, places aside.
+abbrev pub ReadsBack : Type 0
+ReadsBack = (f : PlainFile) (bytes : List ℕ) (g : FileTree) → IsTextOf bytes f → IsParsedText bytes (Ok g) → bare_file f ≡ bare_file (plain_file g)

@@ -5,6 +5,8 @@
 //! form, so a recursion never goes below 65 open braces.
 #![tactic(auto)]
 
+ghost use Rattle.pb_parse.specs.Parsed.{ReadsBack};
+
 mod blocks;
 mod cursor;
 mod ends;
@@ -17,4 +19,12 @@ mod verdict;
 
 pub use fault::ParseFault;
 pub use pb_lex::LexError;
-pub use verdict::{parse, parse_tokens};
+pub use verdict::parse;
+
+/// The tree that a text of a tree is parsed to, such as what `print_file` wrote, is that tree, places aside.
+pub fn reads_back()
+    ensures { ReadsBack }
+{}
+
+#[cfg(test)]
+mod tests;

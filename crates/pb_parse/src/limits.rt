@@ -1,5 +1,5 @@
 ghost use Rattle.std.specs.Prelude.{◌≡◌, ◌≤◌, Option};
-ghost use Rattle.pb_parse.specs.Limits.{sort_of, mark_sort, key_sort, behind_next, at_start, above, number_passed, sort_passed, passed, counted, counts_next, Steps, Within, IsFirstPassed};
+ghost use Rattle.pb_parse.specs.Limits.{sort_of, mark_sort, key_sort, behind_next, at_start, above, number_passed, sort_passed, passed, counted, counts_next, Steps, Refuses, IsFirstPassed};
 ghost use Rattle.pb_parse.specs.declared.limits.Sort.TheVariants.{LeftBrace, Role, Or, Choice, Statement};
 
 use pb_text::{Key, Mark, Quantity, Token, TokenKind};
@@ -261,7 +261,7 @@ impl Counts {
 }
 
 fn at_most(most: u32, n: u32, quantity: Quantity) -> Result<(), Quantity>
-    ensures { Within result (above most n quantity) }
+    ensures { Refuses result (above most n quantity) }
 {
     if n > most {
         return Err(quantity);

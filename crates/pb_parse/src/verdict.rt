@@ -39,7 +39,11 @@ fn text_verdict(alloc: Global, bytes: &[u8]) -> Result<FileTree, ParseFault>
 
 /// The tree of the tokens of a whole text. `end` is the place behind its last byte.
 #[tactic(auto, using(crate::proofs::Together::only))]
-pub fn parse_tokens(alloc: Global, tokens: &[Token], end: Place) -> Result<FileTree, ParseFault>
+pub(crate) fn parse_tokens(
+    alloc: Global,
+    tokens: &[Token],
+    end: Place,
+) -> Result<FileTree, ParseFault>
     ensures parsed { IsParsed end tokens.now result }
     // Each file within the limits is parsed, unless memory runs out.
     ensures only { (file : PlainFile) → IsFile tokens.now file → AreWithin tokens.now → Gives file result }

@@ -1,7 +1,8 @@
-//! The tree of a protocol file, the grammar that gives it, and the tables of labels and kernels.
+//! The tree of a protocol file, the grammar that gives it, its printed layout, and the tables of labels and kernels.
 //!
 //! `specs/` has the grammar: `Form` (texts and fronts), `Grammar` (each form), `Rows` (the same forms as alternatives)
-//! and `Unexpected` (where a list of tokens stops to be a file). `Readers` reads each form from left to right.
+//! and `Unexpected` (where a list of tokens stops to be a file). `Readers` reads each form from left to right. `Printed`
+//! has the tokens of a tree, and `Layout` what stands between them. `Laws` says what holds of all that.
 #![tactic(auto)]
 
 ghost use Rattle.pb_syntax.specs.Laws.{FrontsBegin, OneTree, Same};
