@@ -1,4 +1,5 @@
 pub mod Distinct
+pub mod Formats
 pub mod Lines
 pub mod Steps
 pub mod Whole

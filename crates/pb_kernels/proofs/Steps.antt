@@ -17,7 +17,7 @@ pub rest_is : (bytes : List ℕ) (at : ℕ) → take (length bytes - at) (drop a
 rest_is bytes at = ap (λ n. take n (drop at bytes)) (sym (length-drop at bytes)) ∙ take-length (drop at bytes)
 
 -- a line that was read
-read_on : (n : ℕ) (line : List ℕ) (rest : List (List ℕ)) (old new : Reading) → step n line old ≡ Ok new
+pub read_on : (n : ℕ) (line : List ℕ) (rest : List (List ℕ)) (old new : Reading) → step n line old ≡ Ok new
     → read_from n (line ∷ rest) old ≡ read_from (one_more n) rest new
 unfolding read_from
 read_on n line rest old new e = ap (then_read (read_from (one_more n) rest)) e

@@ -1,4 +1,5 @@
 pub mod Files
+pub mod Format
 pub mod Marks
 pub mod Merges
 pub mod Names
