@@ -28,7 +28,15 @@ pub fn takes_part_in(
         seats: ranks,
         n,
     };
-    takes_part_within(alloc, &core.body, number, &Opens::Top, &Held::Top, &site, rank)
+    takes_part_within(
+        alloc,
+        &core.body,
+        number,
+        &Opens::Top,
+        &Held::Top,
+        &site,
+        rank,
+    )
 }
 
 /// What the rank finds first in the block with this number at N = n. The ranks are all ranks at n. Nothing is listed where the
@@ -50,7 +58,25 @@ pub fn firsts_in(
         n,
     };
     let mut list = Vec::new(alloc);
-    add_firsts_if(alloc, &core.body, number, &Opens::Top, &Held::Top, &site, rank, &mut list)?;
-    add_firsts_within(alloc, &core.body, number, &Opens::Top, &Held::Top, &site, rank, &mut list)?;
+    add_firsts_if(
+        alloc,
+        &core.body,
+        number,
+        &Opens::Top,
+        &Held::Top,
+        &site,
+        rank,
+        &mut list,
+    )?;
+    add_firsts_within(
+        alloc,
+        &core.body,
+        number,
+        &Opens::Top,
+        &Held::Top,
+        &site,
+        rank,
+        &mut list,
+    )?;
     Ok(list)
 }

@@ -6,7 +6,6 @@ ghost use Rattle.pb_plain.specs.Alone.{takes_part_alone, takes_part_at};
 ghost use Rattle.pb_plain.specs.Loops.{ids_of, held_at};
 ghost use Rattle.pb_plain.specs.View.{seat_of};
 
-
 use crate::{Flat, Held, Opens, PlainFault, Site, flat_block, flat_stmt, takes_part};
 use pb_core::{CoreBlock, CoreKind, CoreStmt};
 use std::alloc::Global;
@@ -55,7 +54,15 @@ fn takes_part_at(
         CoreKind::Loop { id, body } => {
             let is_in = is_in_body(alloc, body, *id, opens, held, site, rank)?;
             let inside = Opens::Loop(*id, &*opens);
-            takes_part_within(alloc, body, number, &inside, &Held::Just(is_in, &*held), site, rank)
+            takes_part_within(
+                alloc,
+                body,
+                number,
+                &inside,
+                &Held::Just(is_in, &*held),
+                site,
+                rank,
+            )
         }
         CoreKind::Choice { branches, .. } => {
             for branch in branches {
