@@ -1,5 +1,5 @@
-//! Slow, plain programs that compute what a core means at one N: its flat protocol, who takes part, first outcomes, the rules
-//! that it breaks, and its sequential run. They follow the definitions step by step, and fast code is tested against them.
+//! Slow, plain programs that compute what a core means at one N: its ranks, its flat protocol, who takes part, what can end,
+//! first outcomes, and where it breaks rules. They follow the definitions step by step, and fast code is tested against them.
 #![tactic(auto)]
 
 mod build;
