@@ -18,5 +18,9 @@ pub use pb_affine::{Base, Guard, Guards, Lin, NRange};
 pub use pb_syntax::{CoreKernel, CoreLabel, KernelKind, Op, Payload};
 pub use pb_text::{Name, NoMemory};
 pub use pieces::{push_indent, push_pieces};
+pub use small::is_same_lin;
 pub use stmt::{Peer, Relay, Stmt, Test};
 pub use tables::{Local, Role};
+
+#[cfg(test)]
+mod tests;

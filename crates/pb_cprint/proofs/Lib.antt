@@ -1,0 +1,9 @@
+pub mod Blocks
+pub mod Bodied
+pub mod Frames
+pub mod Lengths
+pub mod Plains
+pub mod Samples
+pub mod Steps
+pub mod Texts
+pub mod Trees

@@ -1,0 +1,20 @@
+use Rattle.std.proofs.Common.{◌∷◌, []}
+use Rattle.std.specs.Prelude.{codes, decimal}
+use Rattle.std.specs.Fmt.{signed_decimal}
+use Rattle.pb_ctree.specs.Frame.{high_text, payload_text, element_text, kernel_letter, kernel_type, above_text}
+use Rattle.pb_ctree.specs.Small.{lin_text, sum_text}
+use Rattle.pb_ctree.specs.Trees.{sum_of}
+use Rattle.pb_cprint.specs.Framed.{kernel_line}
+use Rattle.pb_cprint.proofs.Steps.{done, step, steps, line_of, flat_line}
+use Rattle.pb_cprint.proofs.frame.push_kernel_head.Goals as goal
+
+pub returns : goal.returns
+unfolding kernel_line
+returns c =
+    flat_line ((kernel_type c.args.kernel.now.kind) ∷ (kernel_letter c.args.kernel.now.kind) ∷ (c.args.kernel.now.name) ∷ (codes "(int32_t N, int32_t role, int32_t index)") ∷ []) c.args.out.now.items c.push_pieces.new.out.items c.push.new.self.items
+    (step c.args.out.now.items c.push_type.new.out.items c.push_pieces.new.out.items (kernel_type c.args.kernel.now.kind) ((kernel_letter c.args.kernel.now.kind) ∷ (c.args.kernel.now.name) ∷ (codes "(int32_t N, int32_t role, int32_t index)") ∷ []) c.in_ok-push_type.ensures
+    (step c.push_type.new.out.items c.push_letter.new.out.items c.push_pieces.new.out.items (kernel_letter c.args.kernel.now.kind) ((c.args.kernel.now.name) ∷ (codes "(int32_t N, int32_t role, int32_t index)") ∷ []) c.in_ok-push_letter.ensures
+    (step c.push_letter.new.out.items c.push_name.new.out.items c.push_pieces.new.out.items (c.args.kernel.now.name) ((codes "(int32_t N, int32_t role, int32_t index)") ∷ []) c.in_ok-push_name.ensures
+    (steps c.push_name.new.out.items c.push_pieces.new.out.items c.push_pieces.new.out.items ((codes "(int32_t N, int32_t role, int32_t index)") ∷ []) [] c.in_ok-push_pieces.ensures
+    (done c.push_pieces.new.out.items)))))
+    c.in_ok-push.ensures.items

@@ -1,0 +1,21 @@
+use Rattle.std.proofs.Common.{◌∷◌, []}
+use Rattle.std.specs.Prelude.{codes, decimal}
+use Rattle.std.specs.Fmt.{signed_decimal}
+use Rattle.pb_ctree.specs.Frame.{high_text, payload_text, element_text, kernel_letter, kernel_type, above_text}
+use Rattle.pb_ctree.specs.Small.{lin_text, sum_text}
+use Rattle.pb_ctree.specs.Trees.{sum_of}
+use Rattle.pb_cprint.specs.Framed.{label_line}
+use Rattle.pb_cprint.proofs.Steps.{done, step, steps, line_of, flat_line}
+use Rattle.pb_cprint.proofs.frame.push_label.Goals as goal
+
+pub returns : goal.returns
+unfolding label_line
+returns c =
+    flat_line ((codes "/* label ") ∷ (c.args.label.now.name) ∷ (codes " ") ∷ (payload_text c.args.label.now.payload) ∷ (codes " */") ∷ []) c.args.out.now.items c.push_pieces-3.new.out.items c.push.new.self.items
+    (steps c.args.out.now.items c.push_pieces.new.out.items c.push_pieces-3.new.out.items ((codes "/* label ") ∷ []) ((c.args.label.now.name) ∷ (codes " ") ∷ (payload_text c.args.label.now.payload) ∷ (codes " */") ∷ []) c.in_ok-push_pieces.ensures
+    (step c.push_pieces.new.out.items c.push_name.new.out.items c.push_pieces-3.new.out.items (c.args.label.now.name) ((codes " ") ∷ (payload_text c.args.label.now.payload) ∷ (codes " */") ∷ []) c.in_ok-push_name.ensures
+    (steps c.push_name.new.out.items c.push_pieces-2.new.out.items c.push_pieces-3.new.out.items ((codes " ") ∷ []) ((payload_text c.args.label.now.payload) ∷ (codes " */") ∷ []) c.in_ok-push_pieces-2.ensures
+    (step c.push_pieces-2.new.out.items c.push_payload.new.out.items c.push_pieces-3.new.out.items (payload_text c.args.label.now.payload) ((codes " */") ∷ []) c.in_ok-push_payload.ensures
+    (steps c.push_payload.new.out.items c.push_pieces-3.new.out.items c.push_pieces-3.new.out.items ((codes " */") ∷ []) [] c.in_ok-push_pieces-3.ensures
+    (done c.push_pieces-3.new.out.items))))))
+    c.in_ok-push.ensures.items

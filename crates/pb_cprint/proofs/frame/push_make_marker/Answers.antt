@@ -1,0 +1,20 @@
+use Rattle.std.proofs.Common.{◌∷◌, []}
+use Rattle.std.specs.Prelude.{codes, decimal}
+use Rattle.std.specs.Fmt.{signed_decimal}
+use Rattle.pb_ctree.specs.Frame.{high_text, payload_text, element_text, kernel_letter, kernel_type, above_text}
+use Rattle.pb_ctree.specs.Small.{lin_text, sum_text}
+use Rattle.pb_ctree.specs.Trees.{sum_of}
+use Rattle.pb_cprint.specs.Framed.{make_marker}
+use Rattle.pb_cprint.proofs.Steps.{done, step, steps, line_of, flat_line}
+use Rattle.pb_cprint.proofs.frame.push_make_marker.Goals as goal
+
+pub returns : goal.returns
+unfolding make_marker
+returns c =
+    flat_line ((codes "/*@ kernel ") ∷ (codes "make_") ∷ (c.args.label.now.name) ∷ (codes " */") ∷ []) c.args.out.now.items c.push_pieces-3.new.out.items c.push.new.self.items
+    (steps c.args.out.now.items c.push_pieces.new.out.items c.push_pieces-3.new.out.items ((codes "/*@ kernel ") ∷ []) ((codes "make_") ∷ (c.args.label.now.name) ∷ (codes " */") ∷ []) c.in_ok-push_pieces.ensures
+    (steps c.push_pieces.new.out.items c.push_pieces-2.new.out.items c.push_pieces-3.new.out.items ((codes "make_") ∷ []) ((c.args.label.now.name) ∷ (codes " */") ∷ []) c.in_ok-push_pieces-2.ensures
+    (step c.push_pieces-2.new.out.items c.push_name.new.out.items c.push_pieces-3.new.out.items (c.args.label.now.name) ((codes " */") ∷ []) c.in_ok-push_name.ensures
+    (steps c.push_name.new.out.items c.push_pieces-3.new.out.items c.push_pieces-3.new.out.items ((codes " */") ∷ []) [] c.in_ok-push_pieces-3.ensures
+    (done c.push_pieces-3.new.out.items)))))
+    c.in_ok-push.ensures.items

@@ -1,0 +1,58 @@
+ghost use Rattle.std.specs.Prelude.{◌≡◌, IfOk};
+ghost use Rattle.pb_local.specs.Tree.{program_of};
+ghost use Rattle.pb_ctree.specs.Trees.{IsTree};
+ghost use Rattle.pb_cprint.specs.Sample.{sample};
+
+use super::{NoMemory, print_c};
+use pb_ctree::{Base, CTree, Lin, Local, NRange, Name, Role, Stmt, default_bodies, emit};
+use std::alloc::Global;
+use std::test::Fail;
+
+// The protocol P with one role W[0..N-1] whose ranks wait for each other, for N from 2 on.
+fn sample(alloc: Global) -> Result<Local, NoMemory>
+    ensures { IfOk result (λ local. program_of local ≡ sample) }
+{
+    let protocol = Name::of(b"P").ok_or(NoMemory)?;
+    let name = Name::of(b"W").ok_or(NoMemory)?;
+    let mut roles = Vec::new(alloc);
+    roles.push(Role {
+        name,
+        low: Lin {
+            base: Base::Fixed,
+            off: 0,
+        },
+        high: Lin {
+            base: Base::Param,
+            off: -1,
+        },
+    })?;
+    let mut body = Vec::new(alloc);
+    body.push(Stmt::Barrier)?;
+    Ok(Local {
+        protocol,
+        range: NRange { low: 2, high: None },
+        roles,
+        labels: Vec::new(alloc),
+        kernels: Vec::new(alloc),
+        body,
+    })
+}
+
+#[tactic(auto, using(crate::proofs::Samples::sample_made))]
+fn sample_tree(alloc: Global) -> Result<CTree, NoMemory>
+    ensures { IfOk result IsTree }
+{
+    let local = sample(alloc)?;
+    emit(alloc, &local)
+}
+
+#[test]
+fn prints_a_barrier(rt: HostRuntime) -> Result<(), Fail> {
+    let tree = sample_tree(rt.alloc())?;
+    let bodies = default_bodies(rt.alloc(), &tree)?;
+    let text = print_c(rt.alloc(), &tree, &bodies)?;
+    assert_eq!(rt; text.len(), 741);
+    assert!(rt; text.starts_with(b"/* pabble 1 */\n/* protocol P */\n"));
+    assert!(rt; text.ends_with(b"  MPI_Finalize();\n  return 0;\n}\n"));
+    Ok(())
+}
