@@ -3,4 +3,5 @@ pub mod Lines
 pub mod Printed
 pub mod Reply
 pub mod Rules
+pub mod Verdict
 pub mod Words

@@ -1,6 +1,8 @@
 -- The status of a refusal, and the line that tells it.
 use Rattle.std.specs.Prelude.{ℕ, List, ◌++◌, codes, decimal}
 use Rattle.pb_text.specs.declared.place.Place.{Place}
+use Rattle.pb_text.specs.declared.quantity.Quantity.{Quantity}
+use Rattle.pb_text.specs.declared.quantity.Quantity.TheVariants as quantity
 use Rattle.pb_cli.specs.declared.refusal.Refusal.{Refusal}
 use Rattle.pb_cli.specs.declared.refusal.Refusal.TheVariants as refusal
 use Rattle.pb_cli.specs.declared.status.Status.{Status}
@@ -11,7 +13,27 @@ status_of refusal.Usage = status.Usage
 status_of refusal.ReadFault = status.ReadFault
 status_of refusal.FileBytes = status.Limit
 status_of refusal.NoMemory = status.NoMemory
+status_of (refusal.Syntax place) = status.Refused
+status_of (refusal.Limit limit place) = status.Limit
 status_of (refusal.NotBuilt place) = status.NotBuilt
+
+-- the line's words for a limit
+abbrev pub limit_words : Quantity → List ℕ
+limit_words quantity.FileBytes = codes "pabble: limit file bytes"
+limit_words quantity.NumberSize = codes "pabble: limit number"
+limit_words quantity.NameLength = codes "pabble: limit name"
+limit_words quantity.Nesting = codes "pabble: limit nesting"
+limit_words quantity.Statements = codes "pabble: limit statements"
+limit_words quantity.Roles = codes "pabble: limit roles"
+limit_words quantity.Branches = codes "pabble: limit branches"
+limit_words quantity.Constant = codes "pabble: limit constant"
+limit_words quantity.PayloadCount = codes "pabble: limit payload"
+limit_words quantity.Breakpoints = codes "pabble: limit breakpoints"
+limit_words quantity.Ranks = codes "pabble: limit ranks"
+limit_words quantity.WordsInFlight = codes "pabble: limit words in flight"
+limit_words quantity.TextNesting = codes "pabble: limit text nesting"
+limit_words quantity.TextStatements = codes "pabble: limit text statements"
+limit_words quantity.Events = codes "pabble: limit events"
 
 -- a line that tells a place: what, ` at ` and L:C
 abbrev pub line_at : List ℕ → Place → List ℕ
@@ -22,4 +44,6 @@ line_of refusal.Usage = codes "pabble: usage\n"
 line_of refusal.ReadFault = codes "pabble: read fault\n"
 line_of refusal.FileBytes = codes "pabble: limit file bytes\n"
 line_of refusal.NoMemory = codes "pabble: no memory\n"
+line_of (refusal.Syntax place) = line_at (codes "pabble: syntax") place
+line_of (refusal.Limit limit place) = line_at (limit_words limit) place
 line_of (refusal.NotBuilt place) = line_at (codes "pabble: not built") place

@@ -3,22 +3,21 @@ use Rattle.std.specs.Prelude.{◌≡◌, ℕ, ◌<◌, ◌≤◌, ◌⊎◌, Boo
 use Rattle.std.specs.Global.{Global}
 use Rattle.std.specs.Io.KnownBytes.{Appends}
 use Rattle.pb_text.specs.declared.place.Place.{Place}
+use Rattle.pb_text.specs.declared.quantity.Quantity.{Quantity}
+use Rattle.pb_text.specs.Places.{first_place}
 use Rattle.pb_io.specs.Files.{File, content_of, IsSureOf}
 use Rattle.pb_io.specs.Sinks.{AppendsFront}
 use Rattle.pb_cli.specs.Lines.{line_of, status_of}
 use Rattle.pb_cli.specs.Printed.{IsPrinted}
+use Rattle.pb_cli.specs.Verdict.{IsGrammatical, IsSyntaxAt, IsLimitAt}
 use Rattle.pb_cli.specs.declared.refusal.Refusal.{Refusal}
 use Rattle.pb_cli.specs.declared.refusal.Refusal.TheVariants as refusal
 use Rattle.pb_cli.specs.declared.status.Status.{Status}
-use Rattle.pb_cli.specs.declared.status.Status.TheVariants.{Done, Usage, ReadFault, WriteFault, Limit, NoMemory, NotBuilt}
+use Rattle.pb_cli.specs.declared.status.Status.TheVariants.{Done, Refused, Usage, ReadFault, WriteFault, Limit, NoMemory, NotBuilt}
 
 -- how many bytes a protocol file may have
 abbrev pub most_bytes : ℕ
 most_bytes = 1048576
-
--- the place of the first byte
-abbrev pub first_place : Place
-first_place = record { line = 1; col = 1 }
 
 -- the words name a file, and where the folder tells its bytes they are such
 abbrev pub OnFile : Option (List ℕ) → Option (List File) → (List ℕ → Type 0) → Type 0
@@ -26,16 +25,24 @@ OnFile None holds P = ⊥
 OnFile (Some name) None P = Unit {0}
 OnFile (Some name) (Some files) P = P (content_of files name)
 
--- to the words and the files belong a status and the bytes that it comes with. Which of the files that are short enough
--- are built, and all of the text on Done but its first line, is left open, and so is when memory is wanting
+-- what a command that reads a protocol file finds in one that is short enough
+abbrev pub OnShort : Option (List ℕ) → Option (List File) → (List ℕ → Type 0) → Type 0
+OnShort form holds P = OnFile form holds (λ bytes. (length bytes ≤ most_bytes) × P bytes)
+
+-- to the words and the files belong a status and the bytes that it comes with. Which of the files that parse are built,
+-- and all of the text on Done but its first line, is left open, and so is when memory is wanting
 abbrev pub IsReply : Option (List ℕ) → Option (List File) → Status → List ℕ → Type 0
-IsReply form holds Done text = OnFile form holds (λ bytes. length bytes ≤ most_bytes) × IsPrinted text
+IsReply form holds Done text = OnShort form holds IsGrammatical × IsPrinted text
+IsReply form holds Refused text =
+    (place : Place) × OnShort form holds (λ bytes. IsSyntaxAt bytes place) × (text ≡ line_of (refusal.Syntax place))
 IsReply form holds Usage text = (form ≡ None) × (text ≡ line_of refusal.Usage)
 IsReply form holds ReadFault text = IsSome form × (text ≡ line_of refusal.ReadFault)
-IsReply form holds Limit text = OnFile form holds (λ bytes. most_bytes < length bytes) × (text ≡ line_of refusal.FileBytes)
+IsReply form holds Limit text =
+    (OnFile form holds (λ bytes. most_bytes < length bytes) × (text ≡ line_of refusal.FileBytes))
+    ⊎ ((limit : Quantity) × (place : Place) × OnShort form holds (λ bytes. IsLimitAt bytes limit place)
+    × (text ≡ line_of (refusal.Limit limit place)))
 IsReply form holds NoMemory text = IsSome form × (text ≡ line_of refusal.NoMemory)
-IsReply form holds NotBuilt text =
-    OnFile form holds (λ bytes. length bytes ≤ most_bytes) × (text ≡ line_of (refusal.NotBuilt first_place))
+IsReply form holds NotBuilt text = OnShort form holds IsGrammatical × (text ≡ line_of (refusal.NotBuilt first_place))
 IsReply form holds other text = ⊥
 
 -- an answer's status and bytes: a text is done, and a refusal has its line

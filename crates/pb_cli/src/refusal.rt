@@ -2,13 +2,13 @@ ghost use Rattle.std.specs.Prelude.{◌≡◌, ◌≤◌, ◌++◌, codes, OnOk,
 ghost use Rattle.std.specs.Io.KnownBytes.{Appends};
 ghost use Rattle.pb_io.specs.Faults.{Rose};
 ghost use Rattle.pb_io.specs.Sinks.{AppendsFront};
-ghost use Rattle.pb_cli.specs.Lines.{line_at};
+ghost use Rattle.pb_cli.specs.Lines.{limit_words, line_at};
 
 use crate::parts::write_parts;
 use crate::status::Status;
 use itoa::Buffer;
 use pb_io::{OutFault, Sink, write_all};
-use pb_text::Place;
+use pb_text::{Place, Quantity};
 use thiserror::Error;
 
 /// Why nothing but a status line is written.
@@ -26,6 +26,12 @@ pub enum Refusal {
     /// Memory ran out.
     #[error("NoMemory")]
     NoMemory,
+    /// The bytes are no text of the grammar.
+    #[error("Syntax")]
+    Syntax(Place),
+    /// A quantity of the protocol passes its limit.
+    #[error("Limit")]
+    Limit(Quantity, Place),
     /// The protocol has a form that isn't built yet.
     #[error("NotBuilt")]
     NotBuilt(Place),
@@ -43,6 +49,8 @@ impl Refusal {
             Refusal::ReadFault => Status::ReadFault,
             Refusal::FileBytes => Status::Limit,
             Refusal::NoMemory => Status::NoMemory,
+            Refusal::Syntax(_) => Status::Refused,
+            Refusal::Limit(_, _) => Status::Limit,
             Refusal::NotBuilt(_) => Status::NotBuilt,
         }
     }
@@ -61,8 +69,33 @@ impl Refusal {
             Refusal::ReadFault => write_all(out, b"pabble: read fault\n"),
             Refusal::FileBytes => write_all(out, b"pabble: limit file bytes\n"),
             Refusal::NoMemory => write_all(out, b"pabble: no memory\n"),
+            Refusal::Syntax(place) => write_at(out, b"pabble: syntax", place),
+            Refusal::Limit(limit, place) => write_at(out, limit_words(limit), place),
             Refusal::NotBuilt(place) => write_at(out, b"pabble: not built", place),
         }
+    }
+}
+
+/// The words of the status line for a limit.
+fn limit_words(limit: Quantity) -> &'static [u8]
+    ensures { result.now ≡ limit_words limit }
+{
+    match limit {
+        Quantity::FileBytes => b"pabble: limit file bytes",
+        Quantity::NumberSize => b"pabble: limit number",
+        Quantity::NameLength => b"pabble: limit name",
+        Quantity::Nesting => b"pabble: limit nesting",
+        Quantity::Statements => b"pabble: limit statements",
+        Quantity::Roles => b"pabble: limit roles",
+        Quantity::Branches => b"pabble: limit branches",
+        Quantity::Constant => b"pabble: limit constant",
+        Quantity::PayloadCount => b"pabble: limit payload",
+        Quantity::Breakpoints => b"pabble: limit breakpoints",
+        Quantity::Ranks => b"pabble: limit ranks",
+        Quantity::WordsInFlight => b"pabble: limit words in flight",
+        Quantity::TextNesting => b"pabble: limit text nesting",
+        Quantity::TextStatements => b"pabble: limit text statements",
+        Quantity::Events => b"pabble: limit events",
     }
 }
 

@@ -61,16 +61,16 @@ int main(int argc, char **argv)
 }
 ";
 
-/// Two labels, an upper end, and every form of an end.
+/// Two labels, an upper end, every form of an end, and comments.
 const SECOND: &str = "const C = 03 .. 9 ;global protocol Q_1(role _r[0..C-1]){B()from _r to _r[2];
-A() from _r[C-2] to _r[00];\tB() from _r[C-1] to _r [ 1 ]\r;}";
+A() from _r[C-2] /* far */ to _r[00];\tB() from _r[C-1] to _r [ 1 ]\r;} // the end";
 
-/// A file named `p` with this text.
-fn files(alloc: Global, text: &str) -> Result<Vec<MemFile>, AllocError> {
+/// A file named `p` with these bytes.
+fn files(alloc: Global, text: &[u8]) -> Result<Vec<MemFile>, AllocError> {
     let mut files = Vec::new(alloc);
     files.push(MemFile {
         name: String::from_str(alloc, "p")?,
-        bytes: Vec::from_slice(alloc, text.as_bytes())?,
+        bytes: Vec::from_slice(alloc, text)?,
     })?;
     Ok(files)
 }
@@ -83,8 +83,8 @@ fn strings(alloc: Global, words: &[&str]) -> Result<Vec<String>, AllocError> {
     Ok(strings)
 }
 
-/// The status of `gen p` where p has this text, and what was written.
-fn generated(alloc: Global, text: &str) -> Result<(Status, Vec<u8>), Fail> {
+/// The status of `gen p` where p has these bytes, and what was written.
+fn generated(alloc: Global, text: &[u8]) -> Result<(Status, Vec<u8>), Fail> {
     let words = strings(alloc, &["gen", "p"])?;
     let mut folder = MemFolder::new(files(alloc, text)?, Vec::new(alloc));
     let mut out = MemSink::new(alloc, 8192, 8192, Vec::new(alloc))?;
@@ -94,7 +94,7 @@ fn generated(alloc: Global, text: &str) -> Result<(Status, Vec<u8>), Fail> {
 
 #[test]
 fn gen_writes_the_text(rt: HostRuntime) -> Result<(), Fail> {
-    let (status, text) = generated(rt.alloc(), FIRST)?;
+    let (status, text) = generated(rt.alloc(), FIRST.as_bytes())?;
     assert_eq!(rt; status, Status::Done);
     assert_eq!(rt; text.as_slice(), FIRST_TEXT.as_bytes());
     Ok(())
@@ -102,7 +102,7 @@ fn gen_writes_the_text(rt: HostRuntime) -> Result<(), Fail> {
 
 #[test]
 fn gen_writes_each_form_of_an_end(rt: HostRuntime) -> Result<(), Fail> {
-    let (status, bytes) = generated(rt.alloc(), SECOND)?;
+    let (status, bytes) = generated(rt.alloc(), SECOND.as_bytes())?;
     assert_eq!(rt; status, Status::Done);
     let text = std::str::from_utf8(&bytes)?;
     for lines in [
@@ -120,7 +120,7 @@ fn gen_writes_each_form_of_an_end(rt: HostRuntime) -> Result<(), Fail> {
 
 #[test]
 fn gen_of_one_value_of_n(rt: HostRuntime) -> Result<(), Fail> {
-    let file = "const N = 3..3;global protocol P(role W[0..N-1]){}";
+    let file = b"const N = 3..3;global protocol P(role W[0..N-1]){}";
     let (status, bytes) = generated(rt.alloc(), file)?;
     assert_eq!(rt; status, Status::Done);
     let text = std::str::from_utf8(&bytes)?;
@@ -148,22 +148,14 @@ fn other_forms_are_not_built(rt: HostRuntime) -> Result<(), Fail> {
             "A() from W[i:0..N-2] to W[i+1];",
         ),
         ("2..max", "role W[0..N-1]", "barrier;"),
-        (
-            "2..max",
-            "role W[0..N-1]",
-            "A() from W[0] to W[1]; // to there",
-        ),
         // Names.
         ("2..max", "role P[0..N-1]", ""),
         ("2..max", "role W[0..N-1]", "W() from W[0] to W[1];"),
         ("2..max", "role W[0..N-1]", "A() from V[0] to W[1];"),
         ("2..max", "role W[0..N-1]", "A() from W[M-1] to W[1];"),
-        ("2..max", "role max[0..N-1]", ""),
         // The range, the indices, and ends that meet.
         ("0..max", "role W[0..N-1]", ""),
         ("4..3", "role W[0..N-1]", ""),
-        ("100001..max", "role W[0..N-1]", ""),
-        ("2..2000000001", "role W[0..N-1]", ""),
         ("2..max", "role W[0..N-1]", "A() from W[0] to W[2];"),
         ("2..max", "role W[0..N-1]", "A() from W[0] to W[N];"),
         ("2..max", "role W[0..N-1]", "A() from W[0] to W[N-3];"),
@@ -173,13 +165,191 @@ fn other_forms_are_not_built(rt: HostRuntime) -> Result<(), Fail> {
         let text = format!(in rt.alloc();
             "const N = {range};global protocol P({roles}){{{body}}}"
         )?;
-        let (status, line) = generated(rt.alloc(), text.as_str())?;
+        let (status, line) = generated(rt.alloc(), text.as_bytes())?;
         assert_eq!(rt; status, Status::NotBuilt, "{text}");
         assert_eq!(rt;
             line.as_slice(),
             b"pabble: not built at 1:1\n".as_slice(),
             "{text}"
         );
+    }
+    Ok(())
+}
+
+/// A file with this body.
+fn with_body(alloc: Global, body: &str) -> Result<String, AllocError> {
+    format!(in alloc; "const N = 2..max;\nglobal protocol P(role W[0..N-1]) {{\n{body}\n}}\n")
+}
+
+#[test]
+fn faults_of_syntax_at_their_places(rt: HostRuntime) -> Result<(), Fail> {
+    for (body, place) in [
+        ("  A() from W[i:0..1] to W[j:0..1];", "3:28"),
+        ("  A() from W[0] to W[1]", "4:1"),
+        ("  A() from W[0] to W[1]; }", "4:1"),
+        ("  A() from W[0] ? W[1];", "3:17"),
+        ("  A() from W[0] to W[1]; /* open", "3:26"),
+        ("  A(int32[0]) from W[0] to W[1];", "3:11"),
+        ("  sum() from W[0] to W[1];", "3:3"),
+        // A lexical fault comes before a fault of syntax in front of it.
+        ("  A() A() from W[0] to W[1];\n  .", "4:3"),
+    ] {
+        let text = with_body(rt.alloc(), body)?;
+        let line = format!(in rt.alloc(); "pabble: syntax at {place}\n")?;
+        let (status, written) = generated(rt.alloc(), text.as_bytes())?;
+        assert_eq!(rt; status, Status::Refused, "{text}");
+        assert_eq!(rt; written.as_slice(), line.as_bytes(), "{text}");
+    }
+    Ok(())
+}
+
+/// Every prefix of the first example that lacks its last `}` ends too early, or in a word that can't stand there.
+#[test]
+fn prefixes_are_faults_of_syntax(rt: HostRuntime) -> Result<(), Fail> {
+    let bytes = FIRST.as_bytes();
+    for (len, expected) in [(0, "1:1"), (30, "2:8"), (35, "2:18"), (81, "4:1")] {
+        let line = format!(in rt.alloc(); "pabble: syntax at {expected}\n")?;
+        assert!(rt; len <= bytes.len());
+        let (_, written) = generated(rt.alloc(), &bytes[..len])?;
+        assert_eq!(rt; written.as_slice(), line.as_bytes(), "{len}");
+    }
+    let most = bytes.len().saturating_sub(1);
+    for len in 0..most {
+        let (status, _) = generated(rt.alloc(), &bytes[..len])?;
+        assert_eq!(rt; status, Status::Refused, "{len}");
+    }
+    Ok(())
+}
+
+#[test]
+fn keywords_are_no_names(rt: HostRuntime) -> Result<(), Fail> {
+    for key in [
+        "const",
+        "global",
+        "protocol",
+        "role",
+        "from",
+        "to",
+        "foreach",
+        "rec",
+        "continue",
+        "choice",
+        "at",
+        "or",
+        "compute",
+        "barrier",
+        "broadcast",
+        "reduce",
+        "allreduce",
+        "with",
+        "max",
+        "min",
+        "sum",
+        "int32",
+        "uint32",
+        "do",
+    ] {
+        let text = format!(in rt.alloc();
+            "const N = 2..max; global protocol {key}(role W[0..N-1]) {{}}"
+        )?;
+        let (status, written) = generated(rt.alloc(), text.as_bytes())?;
+        assert_eq!(rt; status, Status::Refused, "{key}");
+        assert_eq!(rt;
+            written.as_slice(),
+            b"pabble: syntax at 1:35\n".as_slice(),
+            "{key}"
+        );
+    }
+    Ok(())
+}
+
+#[test]
+fn numbers_past_their_limits(rt: HostRuntime) -> Result<(), Fail> {
+    for (before, most, past, behind, line) in [
+        (
+            "const N = 2..",
+            "2000000000",
+            "2000000001",
+            ";global protocol P(role W){}",
+            "number at 1:14",
+        ),
+        (
+            "const N = ",
+            "0100000",
+            "100001",
+            "..max;global protocol P(role W){}",
+            "constant at 1:11",
+        ),
+        (
+            "const N = 2..max;global protocol P(role W[0..N-",
+            "100000",
+            "100001",
+            "]){}",
+            "constant at 1:48",
+        ),
+        (
+            "const N = 2..max;global protocol P(role W){A() from W[",
+            "100000",
+            "100001",
+            "] to W;}",
+            "constant at 1:55",
+        ),
+        (
+            "const N = 2..max;global protocol P(role W){A(int32[",
+            "1024",
+            "1025",
+            "]) from W to W;}",
+            "payload at 1:52",
+        ),
+    ] {
+        let within = format!(in rt.alloc(); "{before}{most}{behind}")?;
+        let (status, _) = generated(rt.alloc(), within.as_bytes())?;
+        assert_eq!(rt; status, Status::NotBuilt, "{within}");
+        let beyond = format!(in rt.alloc(); "{before}{past}{behind}")?;
+        let line = format!(in rt.alloc(); "pabble: limit {line}\n")?;
+        let (status, written) = generated(rt.alloc(), beyond.as_bytes())?;
+        assert_eq!(rt; status, Status::Limit, "{beyond}");
+        assert_eq!(rt; written.as_slice(), line.as_bytes(), "{beyond}");
+    }
+    Ok(())
+}
+
+/// A piece as often as `count`, between two others, and then another as often.
+fn repeated(alloc: Global, pieces: [&str; 4], count: usize) -> Result<Vec<u8>, AllocError> {
+    let [before, piece, behind, closing] = pieces;
+    let mut text = Vec::from_slice(alloc, before.as_bytes())?;
+    for _ in 0..count {
+        text.extend_from_slice(piece.as_bytes())?;
+    }
+    text.extend_from_slice(behind.as_bytes())?;
+    for _ in 0..count {
+        text.extend_from_slice(closing.as_bytes())?;
+    }
+    Ok(text)
+}
+
+#[test]
+fn counts_past_their_limits(rt: HostRuntime) -> Result<(), Fail> {
+    let roles = "const N = 2..max;global protocol P(role W";
+    let head = "const N = 2..max;global protocol P(role W){";
+    let choice = "const N = 2..max;global protocol P(role W){choice K at W{}";
+    for (pieces, most, line) in [
+        (
+            ["const ", "A", "=2..max;global protocol P(role W){}", ""],
+            64,
+            "name at 1:7",
+        ),
+        ([head, "\n rec X{", "}", "}"], 63, "nesting at 65:7"),
+        ([head, "\nbarrier;", "}", ""], 4_000, "statements at 4002:1"),
+        ([roles, ",\n role V", "){}", ""], 63, "roles at 65:2"),
+        ([choice, "\nor{}", "}", ""], 63, "branches at 65:1"),
+    ] {
+        let (status, _) = generated(rt.alloc(), &repeated(rt.alloc(), pieces, most)?)?;
+        assert_eq!(rt; status, Status::NotBuilt, "{line}");
+        let line = format!(in rt.alloc(); "pabble: limit {line}\n")?;
+        let (status, written) = generated(rt.alloc(), &repeated(rt.alloc(), pieces, most + 1)?)?;
+        assert_eq!(rt; status, Status::Limit, "{line}");
+        assert_eq!(rt; written.as_slice(), line.as_bytes(), "{line}");
     }
     Ok(())
 }
@@ -197,7 +367,7 @@ fn words_in_no_form(rt: HostRuntime) -> Result<(), Fail> {
     ];
     for form in forms {
         let words = strings(rt.alloc(), form)?;
-        let mut folder = MemFolder::new(files(rt.alloc(), FIRST)?, Vec::new(rt.alloc()));
+        let mut folder = MemFolder::new(files(rt.alloc(), FIRST.as_bytes())?, Vec::new(rt.alloc()));
         let mut out = MemSink::new(rt.alloc(), 64, 1, Vec::new(rt.alloc()))?;
         let status = pabble(rt.alloc(), &words, &mut folder, &mut out, word);
         assert_eq!(rt; status, Status::Usage);
@@ -216,7 +386,7 @@ fn each_failing_read_is_a_read_fault(rt: HostRuntime) -> Result<(), Fail> {
         (3, Status::Done),
     ] {
         let fails = [failing].to_vec(rt.alloc())?;
-        let mut folder = MemFolder::new(files(rt.alloc(), FIRST)?, fails);
+        let mut folder = MemFolder::new(files(rt.alloc(), FIRST.as_bytes())?, fails);
         let mut out = MemSink::new(rt.alloc(), 8192, 8192, Vec::new(rt.alloc()))?;
         let status = pabble(rt.alloc(), &words, &mut folder, &mut out, word);
         assert_eq!(rt; status, expected, "call {failing}");
@@ -238,7 +408,7 @@ fn a_failing_write_leaves_a_front(rt: HostRuntime) -> Result<(), Fail> {
     ] {
         assert!(rt; 1 <= most);
         let fails = [failing].to_vec(rt.alloc())?;
-        let mut folder = MemFolder::new(files(rt.alloc(), FIRST)?, Vec::new(rt.alloc()));
+        let mut folder = MemFolder::new(files(rt.alloc(), FIRST.as_bytes())?, Vec::new(rt.alloc()));
         let mut out = MemSink::new(rt.alloc(), room, most, fails)?;
         let status = pabble(rt.alloc(), &words, &mut folder, &mut out, word);
         let is_whole = expected == FIRST_TEXT.len();
@@ -262,7 +432,7 @@ fn a_file_may_have_1048576_bytes(rt: HostRuntime) -> Result<(), Fail> {
     for (blanks, expected) in [(1_048_576, Status::Done), (1_048_577, Status::Limit)] {
         let mut text = Vec::from_slice(rt.alloc(), FIRST.as_bytes())?;
         text.resize(blanks, b' ')?;
-        let (status, written) = generated(rt.alloc(), std::str::from_utf8(&text)?)?;
+        let (status, written) = generated(rt.alloc(), &text)?;
         assert_eq!(rt; status, expected);
         let is_line = written.as_slice() == b"pabble: limit file bytes\n".as_slice();
         assert_eq!(rt; is_line, expected == Status::Limit);
@@ -280,10 +450,10 @@ fn sure(alloc: Global, words: &[String], folder: &mut SureFolder, out: &mut Sure
 
 #[test]
 fn sure_ones_have_no_fault(rt: HostRuntime) -> Result<(), Fail> {
-    let mut folder = SureFolder::new(files(rt.alloc(), FIRST)?);
+    let mut folder = SureFolder::new(files(rt.alloc(), FIRST.as_bytes())?);
     for (file, expected, count) in [
         ("p", Status::Done, FIRST_TEXT.len()),
-        ("q", Status::NotBuilt, 25),
+        ("q", Status::Refused, 22),
     ] {
         let words = strings(rt.alloc(), &["gen", file])?;
         let mut out = SureSink::new();

@@ -1,8 +1,8 @@
 use pb_text::NoMemory;
-use std::alloc::{AllocError, AllocFailed};
+use std::alloc::AllocFailed;
 use thiserror::Error;
 
-/// Why a file isn't read or printed.
+/// Why a file has no form, or isn't printed.
 #[derive(Clone, Copy, Debug, PartialEq, Eq, Error)]
 pub enum FirstFault {
     /// The file isn't of the first form, or breaks a rule.
@@ -14,12 +14,6 @@ pub enum FirstFault {
 
 impl From<NoMemory> for FirstFault {
     fn from(_error: NoMemory) -> FirstFault {
-        FirstFault::NoMemory
-    }
-}
-
-impl From<AllocError> for FirstFault {
-    fn from(_error: AllocError) -> FirstFault {
         FirstFault::NoMemory
     }
 }
