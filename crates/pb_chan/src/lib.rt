@@ -1,0 +1,12 @@
+//! Messages that were sent and not taken: a list for each sender and receiver.
+#![tactic(auto)]
+
+mod channels;
+mod message;
+mod queues;
+#[cfg(test)]
+mod tests;
+
+pub use channels::Channels;
+pub use message::Message;
+pub use pb_text::{NoMemory, Words};

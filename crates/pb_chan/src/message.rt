@@ -1,0 +1,8 @@
+use pb_text::Words;
+
+/// A message with its label's number and its words.
+#[derive(Debug, Drop)]
+pub struct Message {
+    pub label: u32,
+    pub words: Words,
+}

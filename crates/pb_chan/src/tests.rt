@@ -1,0 +1,15 @@
+use super::{Channels, Words};
+use std::test::Fail;
+
+#[test]
+fn messages_are_taken_by_place(rt: HostRuntime) -> Result<(), Fail> {
+    let mut channels = Channels::new(rt.alloc());
+    assert_eq!(rt; channels.head(0, 1), None);
+    let words = Words::of(vec![in rt.alloc(); 7, 8]?);
+    channels.put(rt.alloc(), 0, 1, 5, words)?;
+    assert_eq!(rt; channels.head(0, 1), Some(5));
+    assert_eq!(rt; channels.head(1, 0), None);
+    assert_eq!(rt; channels.first(0, 1, 5), Some(0));
+    assert_eq!(rt; channels.in_flight(), 2);
+    Ok(())
+}
