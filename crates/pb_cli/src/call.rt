@@ -14,8 +14,9 @@ use std::alloc::Global;
 ///
 /// `gen FILE` writes the C text of the protocol in FILE. `ReadFault` comes only where the folder's count of faults rose in
 /// this call, and never where a steady folder holds the file; `WriteFault` only where the sink's did, and then some first
-/// bytes of what belongs there were written. `Limit` comes exactly where the file has more than 1,048,576 bytes, and
-/// `Usage` exactly where the words are in no form.
+/// bytes of what belongs there were written. Where memory doesn't run out, `Usage` comes exactly where the words are in
+/// no form, `Limit` where the file has more than 1,048,576 bytes or its first fault is that it passes a limit, `Refused`
+/// where its first fault is one of syntax, and `Done` or `NotBuilt` where it is a text of the grammar within the limits.
 ///
 /// `answers` gives word number `count` of a rank, from 0, by a seed, the rank and that number.
 #[tactic(auto, using(crate::proofs::Replies::said))]

@@ -182,174 +182,28 @@ fn with_body(alloc: Global, body: &str) -> Result<String, AllocError> {
 }
 
 #[test]
-fn faults_of_syntax_at_their_places(rt: HostRuntime) -> Result<(), Fail> {
-    for (body, place) in [
-        ("  A() from W[i:0..1] to W[j:0..1];", "3:28"),
-        ("  A() from W[0] to W[1]", "4:1"),
-        ("  A() from W[0] to W[1]; }", "4:1"),
-        ("  A() from W[0] ? W[1];", "3:17"),
-        ("  A() from W[0] to W[1]; /* open", "3:26"),
-        ("  A(int32[0]) from W[0] to W[1];", "3:11"),
-        ("  sum() from W[0] to W[1];", "3:3"),
+fn faults_and_limits_at_their_places(rt: HostRuntime) -> Result<(), Fail> {
+    for (body, expected, what) in [
+        (
+            "  A() from W[i:0..1] to W[j:0..1];",
+            Status::Refused,
+            "syntax at 3:28",
+        ),
+        ("  A() from W[0] to W[1]", Status::Refused, "syntax at 4:1"),
+        ("  A() from W[0] ? W[1];", Status::Refused, "syntax at 3:17"),
         // A lexical fault comes before a fault of syntax in front of it.
-        ("  A() A() from W[0] to W[1];\n  .", "4:3"),
+        ("  A() A()\n /* open", Status::Refused, "syntax at 4:2"),
+        (
+            "  A() from W[100001] to W[0];",
+            Status::Limit,
+            "limit constant at 3:14",
+        ),
     ] {
         let text = with_body(rt.alloc(), body)?;
-        let line = format!(in rt.alloc(); "pabble: syntax at {place}\n")?;
+        let line = format!(in rt.alloc(); "pabble: {what}\n")?;
         let (status, written) = generated(rt.alloc(), text.as_bytes())?;
-        assert_eq!(rt; status, Status::Refused, "{text}");
+        assert_eq!(rt; status, expected, "{text}");
         assert_eq!(rt; written.as_slice(), line.as_bytes(), "{text}");
-    }
-    Ok(())
-}
-
-/// Every prefix of the first example that lacks its last `}` ends too early, or in a word that can't stand there.
-#[test]
-fn prefixes_are_faults_of_syntax(rt: HostRuntime) -> Result<(), Fail> {
-    let bytes = FIRST.as_bytes();
-    for (len, expected) in [(0, "1:1"), (30, "2:8"), (35, "2:18"), (81, "4:1")] {
-        let line = format!(in rt.alloc(); "pabble: syntax at {expected}\n")?;
-        assert!(rt; len <= bytes.len());
-        let (_, written) = generated(rt.alloc(), &bytes[..len])?;
-        assert_eq!(rt; written.as_slice(), line.as_bytes(), "{len}");
-    }
-    let most = bytes.len().saturating_sub(1);
-    for len in 0..most {
-        let (status, _) = generated(rt.alloc(), &bytes[..len])?;
-        assert_eq!(rt; status, Status::Refused, "{len}");
-    }
-    Ok(())
-}
-
-#[test]
-fn keywords_are_no_names(rt: HostRuntime) -> Result<(), Fail> {
-    for key in [
-        "const",
-        "global",
-        "protocol",
-        "role",
-        "from",
-        "to",
-        "foreach",
-        "rec",
-        "continue",
-        "choice",
-        "at",
-        "or",
-        "compute",
-        "barrier",
-        "broadcast",
-        "reduce",
-        "allreduce",
-        "with",
-        "max",
-        "min",
-        "sum",
-        "int32",
-        "uint32",
-        "do",
-    ] {
-        let text = format!(in rt.alloc();
-            "const N = 2..max; global protocol {key}(role W[0..N-1]) {{}}"
-        )?;
-        let (status, written) = generated(rt.alloc(), text.as_bytes())?;
-        assert_eq!(rt; status, Status::Refused, "{key}");
-        assert_eq!(rt;
-            written.as_slice(),
-            b"pabble: syntax at 1:35\n".as_slice(),
-            "{key}"
-        );
-    }
-    Ok(())
-}
-
-#[test]
-fn numbers_past_their_limits(rt: HostRuntime) -> Result<(), Fail> {
-    for (before, most, past, behind, line) in [
-        (
-            "const N = 2..",
-            "2000000000",
-            "2000000001",
-            ";global protocol P(role W){}",
-            "number at 1:14",
-        ),
-        (
-            "const N = ",
-            "0100000",
-            "100001",
-            "..max;global protocol P(role W){}",
-            "constant at 1:11",
-        ),
-        (
-            "const N = 2..max;global protocol P(role W[0..N-",
-            "100000",
-            "100001",
-            "]){}",
-            "constant at 1:48",
-        ),
-        (
-            "const N = 2..max;global protocol P(role W){A() from W[",
-            "100000",
-            "100001",
-            "] to W;}",
-            "constant at 1:55",
-        ),
-        (
-            "const N = 2..max;global protocol P(role W){A(int32[",
-            "1024",
-            "1025",
-            "]) from W to W;}",
-            "payload at 1:52",
-        ),
-    ] {
-        let within = format!(in rt.alloc(); "{before}{most}{behind}")?;
-        let (status, _) = generated(rt.alloc(), within.as_bytes())?;
-        assert_eq!(rt; status, Status::NotBuilt, "{within}");
-        let beyond = format!(in rt.alloc(); "{before}{past}{behind}")?;
-        let line = format!(in rt.alloc(); "pabble: limit {line}\n")?;
-        let (status, written) = generated(rt.alloc(), beyond.as_bytes())?;
-        assert_eq!(rt; status, Status::Limit, "{beyond}");
-        assert_eq!(rt; written.as_slice(), line.as_bytes(), "{beyond}");
-    }
-    Ok(())
-}
-
-/// A piece as often as `count`, between two others, and then another as often.
-fn repeated(alloc: Global, pieces: [&str; 4], count: usize) -> Result<Vec<u8>, AllocError> {
-    let [before, piece, behind, closing] = pieces;
-    let mut text = Vec::from_slice(alloc, before.as_bytes())?;
-    for _ in 0..count {
-        text.extend_from_slice(piece.as_bytes())?;
-    }
-    text.extend_from_slice(behind.as_bytes())?;
-    for _ in 0..count {
-        text.extend_from_slice(closing.as_bytes())?;
-    }
-    Ok(text)
-}
-
-#[test]
-fn counts_past_their_limits(rt: HostRuntime) -> Result<(), Fail> {
-    let roles = "const N = 2..max;global protocol P(role W";
-    let head = "const N = 2..max;global protocol P(role W){";
-    let choice = "const N = 2..max;global protocol P(role W){choice K at W{}";
-    for (pieces, most, line) in [
-        (
-            ["const ", "A", "=2..max;global protocol P(role W){}", ""],
-            64,
-            "name at 1:7",
-        ),
-        ([head, "\n rec X{", "}", "}"], 63, "nesting at 65:7"),
-        ([head, "\nbarrier;", "}", ""], 4_000, "statements at 4002:1"),
-        ([roles, ",\n role V", "){}", ""], 63, "roles at 65:2"),
-        ([choice, "\nor{}", "}", ""], 63, "branches at 65:1"),
-    ] {
-        let (status, _) = generated(rt.alloc(), &repeated(rt.alloc(), pieces, most)?)?;
-        assert_eq!(rt; status, Status::NotBuilt, "{line}");
-        let line = format!(in rt.alloc(); "pabble: limit {line}\n")?;
-        let (status, written) = generated(rt.alloc(), &repeated(rt.alloc(), pieces, most + 1)?)?;
-        assert_eq!(rt; status, Status::Limit, "{line}");
-        assert_eq!(rt; written.as_slice(), line.as_bytes(), "{line}");
     }
     Ok(())
 }
