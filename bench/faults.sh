@@ -39,8 +39,8 @@ repeats() {
 
 # numbers BEFORE MOST PAST BEHIND LINE
 numbers() {
-    printf '%s' "$1$2$4" | asks 13 "$not_built"
-    printf '%s' "$1$3$4" | asks 5 "pabble: limit $5"
+    asks 13 "$not_built" < <(printf '%s' "$1$2$4")
+    asks 5 "pabble: limit $5" < <(printf '%s' "$1$3$4")
 }
 
 first='const N = 2..max;
@@ -49,15 +49,15 @@ global protocol P(role W[0..N-1]) {
 '
 prefixes() {
     for ((len = 0; len <= ${#first}; len++)); do
-        printf '%s' "${first:0:len}" | asks 1 "pabble: syntax at *"
+        asks 1 "pabble: syntax at *" < <(printf '%s' "${first:0:len}")
     done
 }
 
 keywords() {
     for key in const global protocol role from to foreach rec continue choice at or compute barrier broadcast reduce \
         allreduce with max min sum int32 uint32 do; do
-        printf '%s' "const N = 2..max; global protocol $key(role W){}" | asks 1 "pabble: syntax at 1:35"
-        printf '%s' "$head A() from $key to W; }" | asks 1 "pabble: syntax at 1:54"
+        asks 1 "pabble: syntax at 1:35" < <(printf '%s' "const N = 2..max; global protocol $key(role W){}")
+        asks 1 "pabble: syntax at 1:54" < <(printf '%s' "$head A() from $key to W; }")
     done
 }
 

@@ -1,7 +1,7 @@
 #!/usr/bin/env bash
 # Times the built program on protocol files of 1,048,576 bytes that parse and go no further: one of 4,000 statements, one
-# of comments, and one of 4,000 statements below 63 open loops. Prints the best of the runs in MB/s, and beside it `cat` of
-# the same file and, where it is installed, `clang -fsyntax-only` on a C file of that size. RUNS says how many runs.
+# of comments, and one of 4,000 statements below 63 open loops. Prints the least processor time of the runs in MB/s, and
+# beside it `cat` of the same file and, where it is installed, `clang -fsyntax-only` on a C file of that size. RUNS says how many runs.
 top=$(cd "$(dirname "$0")/.." && pwd) || exit 1
 runs=${RUNS:-20}
 size=1048576
@@ -41,16 +41,13 @@ comments() {
 loops() { echo "$head"; repeat "rec X {" 63; messages 3937; repeat "}" 63; echo "}"; }
 program() { awk 'BEGIN { for (k = 0; k < 4000; k++) printf "static int function_%06d(int first, int second) { if (first < second) { return first + %d; } return second - first; }\n", k, k }'; }
 
-# The best time of a command with its output thrown away, in MB/s.
+# The best processor time of a command with its output thrown away, in MB/s.
 speed() {
-    local best=0 start time
+    local TIMEFORMAT='%3U %3S'
     for ((run = 0; run < runs; run++)); do
-        start=$(date +%s%N)
-        "$@" >/dev/null 2>&1
-        time=$(($(date +%s%N) - start))
-        if [ "$best" = 0 ] || [ "$time" -lt "$best" ]; then best=$time; fi
-    done
-    awk -v size="$size" -v time="$best" 'BEGIN { printf "%.0f MB/s (%.1f ms)", size * 1000 / time, time / 1000000 }'
+        { time "$@" >/dev/null 2>&1; } 2>&1
+    done | awk -v size="$size" '{ time = $1 + $2; if (NR == 1 || time < best) best = time }
+        END { if (best < 0.001) best = 0.001; printf "%.0f MB/s (%.0f ms)", size / best / 1000000, best * 1000 }'
 }
 
 for name in statements comments loops; do
