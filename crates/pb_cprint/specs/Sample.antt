@@ -1,13 +1,17 @@
 -- A small program: all ranks of one role wait for each other.
-use Rattle.std.specs.Prelude.{pos, negsuc, None, [], ◌∷◌, codes}
+use Rattle.std.specs.Prelude.{ℕ, List, pos, negsuc, None, [], ◌∷◌, codes}
 use Rattle.pb_affine.specs.declared.lin.Base.TheVariants.{Fixed, Param}
+use Rattle.pb_local.specs.declared.tables.Role.{Role}
 use Rattle.pb_local.specs.Tree.{Program, barrier, more, nothing}
+
+abbrev pub role_named : List ℕ → Role
+role_named name = record { name = name; low = record { base = Fixed; off = pos 0 }; high = record { base = Param; off = negsuc 0 } }
 
 abbrev pub sample : Program
 sample = record {
   protocol = codes "P";
   range = record { low = 2; high = None };
-  roles = record { name = codes "W"; low = record { base = Fixed; off = pos 0 }; high = record { base = Param; off = negsuc 0 } } ∷ [];
+  roles = role_named (codes "W") ∷ [];
   labels = [];
   kernels = [];
   body = more barrier nothing;

@@ -1,19 +1,26 @@
-ghost use Rattle.std.specs.Prelude.{◌≡◌, IfOk};
-ghost use Rattle.pb_local.specs.Tree.{program_of};
+ghost use Rattle.std.specs.Prelude.{◌≡◌, IfOk, [], ◌∷◌};
+ghost use Rattle.pb_local.specs.Tree.{program_of, plain_all, more, barrier, nothing};
 ghost use Rattle.pb_ctree.specs.Trees.{IsTree};
-ghost use Rattle.pb_cprint.specs.Sample.{sample};
+ghost use Rattle.pb_cprint.specs.Sample.{sample, role_named};
 
 use super::{NoMemory, print_c};
 use pb_ctree::{Base, CTree, Lin, Local, NRange, Name, Role, Stmt, default_bodies, emit};
 use std::alloc::Global;
 use std::test::Fail;
 
-// The protocol P with one role W[0..N-1] whose ranks wait for each other, for N from 2 on.
-fn sample(alloc: Global) -> Result<Local, NoMemory>
-    ensures { IfOk result (λ local. program_of local ≡ sample) }
+fn name_of(text: &[u8]) -> Result<Name, NoMemory>
+    ensures { IfOk result (λ name. name ≡ text.now) }
 {
-    let protocol = Name::of(b"P").ok_or(NoMemory)?;
-    let name = Name::of(b"W").ok_or(NoMemory)?;
+    match Name::of(text) {
+        Some(name) => Ok(name),
+        None => Err(NoMemory),
+    }
+}
+
+// A role W[0..N-1], alone.
+fn one_role(alloc: Global, name: Name) -> Result<Vec<Role>, NoMemory>
+    ensures { IfOk result (λ roles. roles.items ≡ role_named name ∷ []) }
+{
     let mut roles = Vec::new(alloc);
     roles.push(Role {
         name,
@@ -26,8 +33,25 @@ fn sample(alloc: Global) -> Result<Local, NoMemory>
             off: -1,
         },
     })?;
+    Ok(roles)
+}
+
+fn one_barrier(alloc: Global) -> Result<Vec<Stmt>, NoMemory>
+    ensures { IfOk result (λ body. plain_all body.items ≡ more barrier nothing) }
+{
     let mut body = Vec::new(alloc);
     body.push(Stmt::Barrier)?;
+    Ok(body)
+}
+
+// The protocol P with one role W[0..N-1] whose ranks wait for each other, for N from 2 on.
+fn sample(alloc: Global) -> Result<Local, NoMemory>
+    ensures { IfOk result (λ local. program_of local ≡ sample) }
+{
+    let protocol = name_of(b"P")?;
+    let name = name_of(b"W")?;
+    let roles = one_role(alloc, name)?;
+    let body = one_barrier(alloc)?;
     Ok(Local {
         protocol,
         range: NRange { low: 2, high: None },
