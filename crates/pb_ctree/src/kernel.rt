@@ -1,7 +1,7 @@
 use crate::Name;
 
 /// What a body in a C text is for.
-#[derive(Clone, Copy, Debug, PartialEq, Eq)]
+#[derive(Clone, Copy, Debug, PartialEq, Eq, Hash)]
 pub enum Kind {
     /// What stands before the functions.
     Prelude,
@@ -16,7 +16,7 @@ pub enum Kind {
 }
 
 /// A body by its name. The prelude has none.
-#[derive(Clone, Copy, Debug, PartialEq, Eq)]
+#[derive(Clone, Copy, Debug, PartialEq, Eq, Hash)]
 pub struct KName {
     pub kind: Kind,
     pub name: Option<Name>,
