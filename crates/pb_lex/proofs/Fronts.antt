@@ -5,7 +5,7 @@ use Rattle.std.proofs.lemmas.List.{get_or-take, length-take}
 use Rattle.std.proofs.lemmas.Slice.Eq.{bytes_eq-Decides}
 use Rattle.pb_text.specs.Spellings.{begins_with}
 
-front_is : (front text : List ℕ) → begins_with front text ≡ true → front ≡ take (length front) text
+pub front_is : (front text : List ℕ) → begins_with front text ≡ true → front ≡ take (length front) text
 front_is front text begun = (bytes_eq-Decides front (take (length front) text)).0 begun
 
 pub front_within : (front text : List ℕ) → begins_with front text ≡ true → length front ≤ length text

@@ -1,6 +1,9 @@
 pub mod Begun
 pub mod Closes
+pub mod Found
 pub mod Fronts
+pub mod Gaps
+pub mod Levels
 pub mod Naming
 pub mod Prefixes
 pub mod Refusals

@@ -35,7 +35,7 @@ word_some name len (Some key) some = some
 number_some : (text : List ℕ) → 0 < prefix_len is_ascii_digit text → HasSome (number text)
 number_some text some = if_both (nat_le (value_from 0 (take (prefix_len is_ascii_digit text) text)) 2000000000) _ _ (λ _. some) (λ _. tt)
 
-spelled : (mark : Mark) → 0 < length (mark_spelling mark)
+pub spelled : (mark : Mark) → 0 < length (mark_spelling mark)
 spelled Dots = lit< tt
 spelled Equals = lit< tt
 spelled Semicolon = lit< tt

@@ -2,17 +2,23 @@ ghost use Rattle.std.specs.Prelude.{◌≡◌, ◌≤◌, ◌<◌, true, length,
 ghost use Rattle.std.specs.List.{prefix_len};
 ghost use Rattle.pb_text.specs.Lexemes.{close_of, block_comment, line_comment};
 ghost use Rattle.pb_text.specs.Spellings.{begins_with};
-ghost use Rattle.pb_lex.specs.Seen.{lexeme_seen, FitsIn};
+ghost use Rattle.pb_lex.specs.Seen.{lexeme_seen, IsSound, IsLevel};
 
-use crate::lexeme::{Fault, Lexeme};
+use crate::lexeme::{Fault, Lexeme, Sort};
 
 /// A comment that begins with `//`, up to the line's end.
 pub fn line_comment(text: &[u8]) -> Lexeme
     requires { begins_with (codes "//") text.now ≡ true }
-    ensures seen { lexeme_seen result ≡ line_comment text.now }
-    ensures fits { FitsIn result (length text.now) }
+    ensures seen { lexeme_seen result.sort result.len text.now ≡ line_comment text.now }
+    ensures some { 0 < result.len }
+    ensures within { result.len ≤ length text.now }
+    ensures sound { IsSound result.sort result.len text.now }
+    ensures level { IsLevel result.sort result.len text.now }
 {
-    Lexeme::Gap(line_len(text))
+    Lexeme {
+        sort: Sort::Line,
+        len: line_len(text),
+    }
 }
 
 fn line_len(text: &[u8]) -> usize
@@ -24,12 +30,21 @@ fn line_len(text: &[u8]) -> usize
 /// A comment that begins with `/*`, up to the next `*/` behind it.
 pub fn block_comment(text: &[u8]) -> Lexeme
     requires { begins_with (codes "/*") text.now ≡ true }
-    ensures seen { lexeme_seen result ≡ block_comment text.now }
-    ensures fits { FitsIn result (length text.now) }
+    ensures seen { lexeme_seen result.sort result.len text.now ≡ block_comment text.now }
+    ensures some { 0 < result.len }
+    ensures within { result.len ≤ length text.now }
+    ensures sound { IsSound result.sort result.len text.now }
+    ensures level { IsLevel result.sort result.len text.now }
 {
     match close_of(&text[2..]) {
-        Some(len) => Lexeme::Gap(len + 2),
-        None => Lexeme::Bad(Fault::OpenComment),
+        Some(len) => Lexeme {
+            sort: Sort::Gap,
+            len: len + 2,
+        },
+        None => Lexeme {
+            sort: Sort::Bad(Fault::OpenComment),
+            len: text.len(),
+        },
     }
 }
 

@@ -1,12 +1,13 @@
-ghost use Rattle.std.specs.Prelude.{◌≡◌, ◌<◌, ◌≤◌, length};
+ghost use Rattle.std.specs.Prelude.{◌≡◌, ◌<◌, ◌≤◌, false, length, slice_index};
 ghost use Rattle.pb_text.specs.Lexemes.{lexeme, is_blank};
-ghost use Rattle.pb_lex.specs.Seen.{lexeme_seen, FitsIn, IsSoundLexeme};
+ghost use Rattle.pb_lex.specs.Seen.{lexeme_seen, IsBegun, IsSound, IsLevel};
 
 use crate::comment::{block_comment, line_comment};
+use crate::gap::{blanks, is_blank};
 use crate::mark::mark;
 use crate::number::number;
 use crate::word::{begins_word, word};
-use pb_text::TokenKind;
+use pb_text::{Key, Mark};
 
 /// Why a text begins with no lexeme.
 #[derive(Clone, Copy, Debug, PartialEq, Eq)]
@@ -17,28 +18,56 @@ pub enum Fault {
     NameTooLong,
 }
 
-/// What a text begins with.
+/// What some bytes are.
 #[derive(Clone, Copy, Debug, PartialEq, Eq)]
-pub enum Lexeme {
-    /// A blank or a comment of so many bytes.
-    Gap(usize),
-    /// A token of so many bytes.
-    Token(TokenKind, usize),
+pub enum Sort {
+    /// Blanks, or a comment up to its end.
+    Gap,
+    /// A comment up to the line's end.
+    Line,
+    Name,
+    Key(Key),
+    Number(u32),
+    Mark(Mark),
     Bad(Fault),
 }
 
-/// What a text begins with that isn't empty.
-#[tactic(auto, using(crate::proofs::Begun::lexeme_begun))]
+/// What a text begins with, and of how many bytes it is.
+#[derive(Clone, Copy, Debug, PartialEq, Eq)]
+pub struct Lexeme {
+    pub sort: Sort,
+    pub len: usize,
+}
+
+/// What a text begins with that isn't empty. Blanks in a row are taken together.
+#[tactic(auto, using(crate::proofs::Begun::begun_by))]
 pub fn lexeme_of(text: &[u8]) -> Lexeme
     requires { 0 < length text.now }
-    ensures seen { lexeme_seen result ≡ lexeme text.now }
-    ensures fits { FitsIn result (length text.now) }
-    ensures sound { IsSoundLexeme result }
+    ensures seen { IsBegun result.sort result.len text.now }
+    ensures some { 0 < result.len }
+    ensures within { result.len ≤ length text.now }
+    ensures sound { IsSound result.sort result.len text.now }
+    ensures level { IsLevel result.sort result.len text.now }
+{
+    if is_blank(text[0]) {
+        blanks(text)
+    } else {
+        no_blank(text)
+    }
+}
+
+#[tactic(auto, using(crate::proofs::Begun::lexeme_begun))]
+fn no_blank(text: &[u8]) -> Lexeme
+    requires filled { 0 < length text.now }
+    requires other { is_blank (slice_index text.now 0) ≡ false }
+    ensures seen { lexeme_seen result.sort result.len text.now ≡ lexeme text.now }
+    ensures some { 0 < result.len }
+    ensures within { result.len ≤ length text.now }
+    ensures sound { IsSound result.sort result.len text.now }
+    ensures level { IsLevel result.sort result.len text.now }
 {
     let first = text[0];
-    if is_blank(first) {
-        Lexeme::Gap(1)
-    } else if text.starts_with(b"//") {
+    if text.starts_with(b"//") {
         line_comment(text)
     } else if text.starts_with(b"/*") {
         block_comment(text)
@@ -49,10 +78,4 @@ pub fn lexeme_of(text: &[u8]) -> Lexeme
     } else {
         mark(text)
     }
-}
-
-fn is_blank(byte: u8) -> bool
-    ensures { result ≡ is_blank byte }
-{
-    byte == b' ' || byte == b'\t' || byte == b'\r' || byte == b'\n'
 }

@@ -3,6 +3,7 @@
 
 mod comment;
 mod error;
+mod gap;
 mod law;
 mod lexeme;
 mod mark;

@@ -2,10 +2,9 @@ ghost use Rattle.std.specs.Prelude.{◌≡◌, ◌≤◌, ◌<◌, true, length,
 ghost use Rattle.std.specs.List.{prefix_len, All};
 ghost use Rattle.std.specs.Char.{is_ascii_digit};
 ghost use Rattle.pb_text.specs.Lexemes.{number, value_from};
-ghost use Rattle.pb_lex.specs.Seen.{lexeme_seen, FitsIn, IsSoundLexeme};
+ghost use Rattle.pb_lex.specs.Seen.{lexeme_seen, IsSound, IsLevel};
 
-use crate::lexeme::{Fault, Lexeme};
-use pb_text::TokenKind;
+use crate::lexeme::{Fault, Lexeme, Sort};
 
 // the greatest number of a text
 const MOST: u64 = 2_000_000_000;
@@ -15,14 +14,22 @@ const MOST: u64 = 2_000_000_000;
 pub fn number(text: &[u8]) -> Lexeme
     requires some { 0 < length text.now }
     requires begun { is_ascii_digit (slice_index text.now 0) ≡ true }
-    ensures seen { lexeme_seen result ≡ number text.now }
-    ensures fits { FitsIn result (length text.now) }
-    ensures sound { IsSoundLexeme result }
+    ensures seen { lexeme_seen result.sort result.len text.now ≡ number text.now }
+    ensures some { 0 < result.len }
+    ensures within { result.len ≤ length text.now }
+    ensures sound { IsSound result.sort result.len text.now }
+    ensures level { IsLevel result.sort result.len text.now }
 {
     let len = digits_len(text);
     match value_of(&text[..len]) {
-        Some(value) => Lexeme::Token(TokenKind::Number(value), len),
-        None => Lexeme::Bad(Fault::NumberTooLarge),
+        Some(value) => Lexeme {
+            sort: Sort::Number(value),
+            len,
+        },
+        None => Lexeme {
+            sort: Sort::Bad(Fault::NumberTooLarge),
+            len,
+        },
     }
 }
 

@@ -1,15 +1,16 @@
-ghost use Rattle.std.specs.Prelude.{◌≡◌, ◌≤◌, ◌∷◌, ◌++◌, length, List, IfOk, IfErr, MatchResult};
+ghost use Rattle.std.specs.Prelude.{◌≡◌, ◌≤◌, true, ◌∷◌, ◌++◌, length, List, IfOk, IfErr, MatchResult};
 ghost use Rattle.std.specs.List.{All};
 ghost use Rattle.pb_text.specs.Tokens.{IsFirstFault, IsText, IsSoundToken};
 ghost use Rattle.pb_text.specs.Lexemes.{Fault as Kind};
 ghost use Rattle.pb_text.specs.declared.place.Place.{Place as Where};
 ghost use Rattle.pb_text.specs.declared.token.Token.{Token as Item};
-ghost use Rattle.pb_lex.specs.Seen.{error_of, IsErrorOrNoMemory, IsNoMemory, IsRefusal, IsStop, Reads};
+ghost use Rattle.pb_text.specs.declared.token.TokenKind.TheVariants.{Word};
+ghost use Rattle.pb_lex.specs.Seen.{error_of, stop_of, Adds, IsErrorOrNoMemory, IsNoMemory, IsRefusal, Reads};
 
-use crate::lexeme::{Fault, Lexeme, lexeme_of};
-use crate::place::{FIRST, place_after};
+use crate::lexeme::{Fault, Lexeme, Sort, lexeme_of};
+use crate::place::{FIRST, behind};
 use crate::{LexError, LexFault};
-use pb_text::{Place, Token};
+use pb_text::{Name, Place, Token, TokenKind};
 use std::alloc::Global;
 
 /// The tokens of the bytes, of which there are at most 67,108,864.
@@ -28,25 +29,55 @@ pub fn lex(alloc: Global, bytes: &[u8]) -> Result<Vec<Token>, LexFault>
     let mut place = FIRST;
     let mut at = 0;
     while at < bytes.len() {
-        let len = read(&mut tokens, place, lexeme_of(&bytes[at..]))?;
-        place = place_after(place, &bytes[at..at + len]);
-        at += len;
+        let text = &bytes[at..];
+        let lexeme = lexeme_of(text);
+        if !read(&mut tokens, place, lexeme, text) {
+            return Err(stop_of(lexeme.sort, place));
+        }
+        place = behind(place, lexeme, text);
+        at += lexeme.len;
     }
     Ok(tokens)
 }
 
-// Adds the token that the lexeme is, and answers its length.
-fn read(tokens: &mut Vec<Token>, place: Place, lexeme: Lexeme) -> Result<usize, LexFault>
-    ensures reads { IfOk result (λ len. Reads lexeme place tokens.old.items len tokens.new.items) }
-    ensures refused { IfErr result (λ fault. IsStop lexeme place fault) }
+// Adds the token that the lexeme is. False at a fault, or where memory runs out.
+fn read(tokens: &mut Vec<Token>, place: Place, lexeme: Lexeme, text: &[u8]) -> bool
+    requires { lexeme.len ≤ length text.now }
+    ensures { result ≡ true → Reads lexeme.sort lexeme.len text.now place tokens.old.items tokens.new.items }
 {
-    match lexeme {
-        Lexeme::Gap(len) => Ok(len),
-        Lexeme::Token(kind, len) => {
-            tokens.push(Token { kind, place })?;
-            Ok(len)
-        }
-        Lexeme::Bad(fault) => Err(LexFault::Bad(error_of(fault, place))),
+    match lexeme.sort {
+        Sort::Gap | Sort::Line => true,
+        Sort::Name => add_name(tokens, place, &text[..lexeme.len]),
+        Sort::Key(key) => add(tokens, place, TokenKind::Key(key)),
+        Sort::Number(value) => add(tokens, place, TokenKind::Number(value)),
+        Sort::Mark(mark) => add(tokens, place, TokenKind::Mark(mark)),
+        Sort::Bad(_) => false,
+    }
+}
+
+fn add(tokens: &mut Vec<Token>, place: Place, kind: TokenKind) -> bool
+    ensures { result ≡ true → Adds kind place tokens.old.items tokens.new.items }
+{
+    tokens.push(Token { kind, place }).is_ok()
+}
+
+fn add_name(tokens: &mut Vec<Token>, place: Place, word: &[u8]) -> bool
+    ensures { result ≡ true → Adds (Word word.now) place tokens.old.items tokens.new.items }
+{
+    match Name::of(word) {
+        Some(name) => add(tokens, place, TokenKind::Word(name)),
+        None => false,
+    }
+}
+
+// Why the lexeme isn't read.
+fn stop_of(sort: Sort, place: Place) -> LexFault
+    ensures { result ≡ stop_of sort place }
+{
+    match sort {
+        Sort::Bad(fault) => LexFault::Bad(error_of(fault, place)),
+        Sort::Gap | Sort::Line | Sort::Name | Sort::Key(_) | Sort::Number(_) | Sort::Mark(_) =>
+            LexFault::NoMemory,
     }
 }
 

@@ -1,11 +1,13 @@
 ghost use Rattle.std.specs.Prelude.{◌≡◌, ◌≤◌, IfOk};
 ghost use Rattle.pb_parse.specs.Gives.{GivesTo, numeral};
+ghost use Rattle.pb_text.specs.Places.{first_place, place_after};
 ghost use Rattle.pb_syntax.specs.Grammar.{reads_count};
 ghost use Rattle.pb_syntax.specs.Reading.{starts, one_at, among, next};
 ghost use Rattle.pb_syntax.specs.Readers.{mark_at, key_at, name_at, number_at, mark_next, key_next, word_next, number_next, statement_keys, item_keys};
 ghost use Rattle.pb_parse.specs.Gives.{place_at};
 ghost use Rattle.pb_syntax.specs.Grammar.{kind_number};
 
+use pb_lex::end_place;
 use pb_syntax::{Place, Spot};
 use pb_text::{Key, Mark, Token, TokenKind};
 use std::alloc::AllocFailed;
@@ -191,13 +193,13 @@ impl<'a> Cursor<'a> {
         }
     }
 
-    // Where it stands.
-    pub(crate) fn place(&self, end: Place) -> Place
-        ensures { result ≡ place_at end self.now.rest.now }
+    // Where it stands in the text of these bytes.
+    pub(crate) fn place(&self, bytes: &[u8]) -> Place
+        ensures { result ≡ place_at (place_after first_place bytes.now) self.now.rest.now }
     {
         match self.rest.first() {
             Some(token) => token.place,
-            None => end,
+            None => end_place(bytes),
         }
     }
 }

@@ -1,5 +1,6 @@
 ghost use Rattle.std.specs.Prelude.{◌≡◌, ◌<◌, ◌≤◌, List, take, drop, length};
 ghost use Rattle.pb_text.specs.declared.token.Token.{Token};
+ghost use Rattle.pb_text.specs.Places.{first_place, place_after};
 ghost use Rattle.pb_text.specs.Tokens.{IsText};
 ghost use Rattle.pb_syntax.specs.Tree.{PlainFile};
 ghost use Rattle.pb_syntax.specs.Grammar.{IsFile};
@@ -9,7 +10,7 @@ ghost use Rattle.pb_parse.specs.Parsed.{IsParsed, IsParsedText, Gives, passes_fa
 use crate::cursor::{Cursor, Stop};
 use crate::fault::ParseFault;
 use crate::limits::first_passed;
-use pb_lex::{end_place, lex};
+use pb_lex::lex;
 use pb_syntax::FileTree;
 use pb_text::{Place, Quantity, Token};
 use std::alloc::Global;
@@ -34,43 +35,43 @@ fn text_verdict(alloc: Global, bytes: &[u8]) -> Result<FileTree, ParseFault>
     ensures { IsParsedText bytes.now result }
 {
     let tokens = lex(alloc, bytes)?;
-    parse_tokens(alloc, &tokens, end_place(bytes))
+    parse_tokens(alloc, &tokens, bytes)
 }
 
-/// The tree of the tokens of a whole text. `end` is the place behind its last byte.
+/// The tree of the tokens of a whole text, and its bytes.
 #[tactic(auto, using(crate::proofs::Together::only))]
 pub(crate) fn parse_tokens(
     alloc: Global,
     tokens: &[Token],
-    end: Place,
+    bytes: &[u8],
 ) -> Result<FileTree, ParseFault>
-    ensures parsed { IsParsed end tokens.now result }
+    ensures parsed { IsParsed (place_after first_place bytes.now) tokens.now result }
     // Each file within the limits is parsed, unless memory runs out.
     ensures only { (file : PlainFile) → IsFile tokens.now file → AreWithin tokens.now → Gives file result }
 {
-    verdict(alloc, tokens, end)
+    verdict(alloc, tokens, bytes)
 }
 
-fn verdict(alloc: Global, tokens: &[Token], end: Place) -> Result<FileTree, ParseFault>
-    ensures { IsParsed end tokens.now result }
+fn verdict(alloc: Global, tokens: &[Token], bytes: &[u8]) -> Result<FileTree, ParseFault>
+    ensures { IsParsed (place_after first_place bytes.now) tokens.now result }
 {
     match first_passed(tokens) {
-        Some((quantity, i)) => up_to(alloc, tokens, i, quantity, end),
-        None => all_of(alloc, tokens, end),
+        Some((quantity, i)) => up_to(alloc, tokens, i, quantity, bytes),
+        None => all_of(alloc, tokens, bytes),
     }
 }
 
 // No token passes a limit.
 #[tactic(auto, using(crate::proofs::Together::refused_within))]
-fn all_of(alloc: Global, tokens: &[Token], end: Place) -> Result<FileTree, ParseFault>
+fn all_of(alloc: Global, tokens: &[Token], bytes: &[u8]) -> Result<FileTree, ParseFault>
     requires { AreWithin tokens.now }
-    ensures { IsParsed end tokens.now result }
+    ensures { IsParsed (place_after first_place bytes.now) tokens.now result }
 {
     let mut cursor = Cursor { rest: tokens };
     match cursor.whole(alloc, tokens.len()) {
         Ok(file) => Ok(file),
         Err(Stop::NoMemory) => Err(ParseFault::NoMemory),
-        Err(Stop::Unexpected) => Err(ParseFault::Unexpected(cursor.place(end))),
+        Err(Stop::Unexpected) => Err(ParseFault::Unexpected(cursor.place(bytes))),
     }
 }
 
@@ -80,12 +81,12 @@ fn up_to(
     tokens: &[Token],
     i: usize,
     quantity: Quantity,
-    end: Place,
+    bytes: &[u8],
 ) -> Result<FileTree, ParseFault>
     requires below { i < length tokens.now }
     requires within { AreWithin (take i tokens.now) }
     requires passes { NextPasses (counts (take i tokens.now)) (drop i tokens.now) quantity }
-    ensures { IsParsed end tokens.now result }
+    ensures { IsParsed (place_after first_place bytes.now) tokens.now result }
 {
     let place = tokens[i].place;
     let front = &tokens[..i + 1];

@@ -1,53 +1,52 @@
-use Rattle.std.proofs.Common.{◌≡◌, ◌+◌, ◌-◌, List, ℕ, [], take, drop, sym, subst, ap, ◌∙◌, arith, rules, append-nil}
+use Rattle.std.proofs.Common.{◌≡◌, ◌-◌, true, List, ℕ, [], length, length-drop, take, drop, sym, subst, ap, ◌∙◌, arith, rules, append-nil}
 use Rattle.std.proofs.lemmas.List.{drop-drop, drop_all}
-use Rattle.std.proofs.lemmas.Result.{err_from_is_err_and}
-use Rattle.pb_text.specs.Lexemes.{lexeme}
-use Rattle.pb_text.specs.Places.{place_after, first_place}
+use Rattle.pb_text.specs.Places.{first_place}
 use Rattle.pb_text.specs.Tokens.{Lexes, done, IsText}
 use Rattle.pb_text.specs.declared.token.Token.{Token}
 use Rattle.pb_lex.proofs.Fronts.{rest_is}
 use Rattle.pb_lex.proofs.Refusals.{no_text, one_error}
 use Rattle.pb_lex.proofs.Ways.{one_text, text_or_fault}
 use Rattle.pb_lex.proofs.Steps.{SoFar, read_on, read_sound, refused}
-use Rattle.pb_lex.specs.Seen.{lexeme_seen, IsRefusal}
+use Rattle.pb_lex.specs.Seen.{IsBegun, IsRefusal, Reads}
 use Rattle.pb_lex.proofs.text.lex.Goals as goal
 
-refusal : (c : goal.After-drop-tokens) → IsRefusal c.args.bytes.now c.in_err-len.field-0.0
+refusal : (c : goal.After-drop-tokens) → IsRefusal c.args.bytes.now c.stop_of.result
 refusal c =
     let bytes = c.args.bytes.now in
-    let seen : lexeme_seen c.lexeme_of.result ≡ lexeme (drop c.loop-at.at bytes) = c.lexeme_of.ensures.seen ∙ ap lexeme (rest_is bytes c.loop-at.at) in
-    refused c.lexeme_of.result c.loop-at.place bytes (drop c.loop-at.at bytes) c.loop-at.tokens.items c.in_err-len.field-0.0 seen c.in_err-len.ensures.refused c.loop-at.invariant.so_far
+    let r = c.lexeme_of-lexeme.result in
+    let seen : IsBegun r.sort r.len (drop c.loop-at.at bytes) = subst (IsBegun r.sort r.len) (rest_is bytes c.loop-at.at) c.lexeme_of-lexeme.ensures.seen in
+    subst (IsRefusal bytes) (sym c.stop_of.ensures)
+    (refused r.sort r.len c.loop-at.place bytes (drop c.loop-at.at bytes) c.loop-at.tokens.items seen c.loop-at.invariant.so_far)
 
-pub returns-in_err-len-clause-refused : goal.returns-in_err-len-clause-refused
-returns-in_err-len-clause-refused c =
-    let p = err_from_is_err_and c.from_residual.result c.from_residual.ensures.1 in rw (p.1, p.2) (refusal c)
+pub returns-then-not-read-clause-refused : goal.returns-then-not-read-clause-refused
+returns-then-not-read-clause-refused c = refusal c
 
-pub returns-in_err-len-clause-only_text : goal.returns-in_err-len-clause-only_text
-returns-in_err-len-clause-only_text c tokens text =
-    let p = err_from_is_err_and c.from_residual.result c.from_residual.ensures.1 in
-    rw (p.1, p.2) (no_text c.args.bytes.now c.in_err-len.field-0.0 (refusal c) tokens text)
+pub returns-then-not-read-clause-only_text : goal.returns-then-not-read-clause-only_text
+returns-then-not-read-clause-only_text c tokens text = no_text c.args.bytes.now c.stop_of.result (refusal c) tokens text
 
-pub returns-in_err-len-clause-only_fault : goal.returns-in_err-len-clause-only_fault
-returns-in_err-len-clause-only_fault c why place first =
-    let p = err_from_is_err_and c.from_residual.result c.from_residual.ensures.1 in
-    rw (p.1, p.2) (one_error c.args.bytes.now c.in_err-len.field-0.0 (refusal c) why place first)
+pub returns-then-not-read-clause-only_fault : goal.returns-then-not-read-clause-only_fault
+returns-then-not-read-clause-only_fault c why place first = one_error c.args.bytes.now c.stop_of.result (refusal c) why place first
 
 pub loop-at-preserved : goal.loop-at-preserved
 loop-at-preserved c =
     let bytes = c.args.bytes.now in
     let at = c.loop-at.at in
-    let len = c.in_ok-len.len in
-    let seen : lexeme_seen c.lexeme_of.result ≡ lexeme (drop at bytes) = c.lexeme_of.ensures.seen ∙ ap lexeme (rest_is bytes at) in
-    let count : at + len - at ≡ len = omega arith in
-    let place : c.place_after-place.result ≡ place_after c.loop-at.place (take len (drop at bytes)) =
-    c.place_after-place.ensures ∙ ap (λ n. place_after c.loop-at.place (take n (drop at bytes))) count in
-    let next = read_on c.lexeme_of.result c.loop-at.place bytes (drop at bytes) c.loop-at.tokens.items c.read.new.tokens.items len seen c.in_ok-len.ensures.reads c.loop-at.invariant.so_far in
+    let r = c.lexeme_of-lexeme.result in
+    let text = take (length bytes - at) (drop at bytes) in
+    let old = c.loop-at.tokens.items in
+    let new = c.read.new.tokens.items in
+    let same : text ≡ drop at bytes = rest_is bytes at in
+    let ok : c.read.result ≡ true = search rules in
+    let reads : Reads r.sort r.len text c.loop-at.place old new = c.read.ensures ok in
+    let before : SoFar bytes c.loop-at.place text old = subst (λ (l : List ℕ). SoFar bytes c.loop-at.place l old) (sym same) c.loop-at.invariant.so_far in
+    let next : SoFar bytes c.behind-place.result (drop r.len text) new =
+    subst (λ p. SoFar bytes p (drop r.len text) new) (sym c.behind-place.ensures)
+    (read_on r.sort r.len c.loop-at.place bytes text old new c.lexeme_of-lexeme.ensures.seen reads before) in
     record {
-      within = search rules;
-      sound = read_sound c.lexeme_of.result c.loop-at.place c.loop-at.tokens.items c.read.new.tokens.items len c.lexeme_of.ensures.sound c.in_ok-len.ensures.reads c.loop-at.invariant.sound;
+      within = omega (arith, c.lexeme_of-lexeme.ensures.within, ap length same, length-drop at bytes);
+      sound = read_sound r.sort r.len text c.loop-at.place old new c.lexeme_of-lexeme.ensures.sound reads c.loop-at.invariant.sound;
       so_far =
-          subst (λ (l : List ℕ). SoFar bytes c.place_after-place.result l c.read.new.tokens.items) (drop-drop len at bytes)
-          (subst (λ q. SoFar bytes q (drop len (drop at bytes)) c.read.new.tokens.items) (sym place) next);
+          subst (λ (l : List ℕ). SoFar bytes c.behind-place.result l new) (ap (drop r.len) same ∙ drop-drop r.len at bytes) next;
     }
 
 found : (c : goal.After-loop-at) → IsText c.args.bytes.now c.loop-at.tokens.items
