@@ -1,3 +1,3 @@
-mod Tables
+pub mod Tables
 mod Ranges
 mod Plains

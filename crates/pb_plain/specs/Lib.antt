@@ -1,5 +1,4 @@
 pub mod View
 pub mod Loops
 pub mod Finds
-pub mod Ends
 pub mod Alone

@@ -1,9 +1,8 @@
-//! Slow, plain programs that compute what a core means at one N: its ranks, its flat protocol, who takes part, what can end,
-//! first outcomes, and where it breaks rules. They follow the definitions step by step, and fast code is tested against them.
+//! Slow, plain programs that compute what a core means at one N: its ranks, its flat protocol, who takes part, what can end
+//! and first outcomes. They follow the definitions step by step, and fast code is tested against them.
 #![tactic(auto)]
 
 mod build;
-mod end_rule;
 mod fault;
 mod first_parts;
 mod flat;
@@ -16,11 +15,8 @@ mod parts;
 mod ranks;
 mod site;
 mod takes;
-mod tell_rule;
-mod told;
 
 pub use build::{flat_block, flat_of, flat_stmt};
-pub use end_rule::{EndRule, add_breaks};
 pub use fault::PlainFault;
 pub use first_parts::{add_firsts_if, add_firsts_within};
 pub use flat::{Asked, Branches, Collective, Ends, Flat, Mark, Origin, Seat};
@@ -32,11 +28,9 @@ pub use outcomes::{Outcome, firsts, firsts_among};
 pub use parts::{is_in_body, takes_part_within};
 pub use pb_core::{Core, Op, Place};
 pub use pb_text::NoMemory;
-pub use ranks::{number_in, seats};
+pub use ranks::{is_same, number_in, seats};
 pub use site::{Site, asked, from_one, from_two, mark, rank_of};
 pub use takes::{can_end, some_can_end, takes_part, takes_part_among};
-pub use tell_rule::TellRule;
-pub use told::misfits;
 
 #[cfg(test)]
 mod tests;

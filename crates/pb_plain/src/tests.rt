@@ -94,45 +94,5 @@ fn ring_at_three(rt: HostRuntime) -> Result<(), Fail> {
     );
     let first = firsts(alloc, &block, &Held::Top, 0)?;
     assert_eq!(rt; first.as_slice(), [Outcome::Other].as_slice());
-    let mut breaks = Vec::new(alloc);
-    add_breaks(&block, &EndRule::InRange(&ranks), &mut breaks)?;
-    add_breaks(&block, &EndRule::Apart, &mut breaks)?;
-    assert!(rt; breaks.is_empty());
-    Ok(())
-}
-
-// W[0] tells all of the first branch, and W[1] alone of the second.
-fn choice(alloc: Global) -> Result<Core, Fail> {
-    let zero = lin(Base::Fixed, 0);
-    let step = message(2, 0, zero, lin(Base::Var, 0));
-    let all = CoreKind::Foreach {
-        low: lin(Base::Fixed, 1),
-        high: lin(Base::Param, -1),
-        items: block(2, vec![in alloc; step]?),
-    };
-    let one = message(3, 1, zero, lin(Base::Fixed, 1));
-    let branches = vec![in alloc;
-        block(1, vec![in alloc; stmt(1, all)]?),
-        block(3, vec![in alloc; one]?),
-    ]?;
-    let whole = CoreKind::Choice {
-        kernel: 0,
-        at: end(zero),
-        branches,
-    };
-    protocol(alloc, block(0, vec![in alloc; stmt(0, whole)]?))
-}
-
-#[test]
-fn rank_two_is_not_told(rt: HostRuntime) -> Result<(), Fail> {
-    let alloc = rt.alloc();
-    let core = choice(alloc)?;
-    let ranks = seats(alloc, &core.roles, 3)?;
-    let block = flat_of(alloc, &core, &ranks, 3)?;
-    let told = misfits(alloc, &block, TellRule::ReceivesOnly, &Held::Top, 1)?;
-    assert!(rt; told.is_empty());
-    let untold = misfits(alloc, &block, TellRule::ReceivesOnly, &Held::Top, 2)?;
-    assert_eq!(rt; untold.len(), 1);
-    assert_eq!(rt; untold[0].number, 3);
     Ok(())
 }

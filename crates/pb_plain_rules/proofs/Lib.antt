@@ -1,0 +1,3 @@
+mod Envs
+mod RankSteps
+mod Parts

@@ -1,0 +1,9 @@
+mod Passing_laws
+mod Tables
+mod After
+mod Stacks
+mod Shares
+mod Added
+mod Runs
+mod Moves
+mod Views

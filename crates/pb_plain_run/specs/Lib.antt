@@ -1,0 +1,5 @@
+pub mod Passing
+pub mod Used
+pub mod Setting
+pub mod View
+pub mod Doing
