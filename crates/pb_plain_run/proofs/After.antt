@@ -1,9 +1,9 @@
 -- What lists of actions leave of a table.
-use Rattle.std.proofs.Common.{◌≡◌, ℕ, zero, suc, ◌+◌, ◌==◌, cond, Bool, true, false, List, [], ◌∷◌, ◌++◌, Option, Some, None, filter_map, length, replicate, refl, sym, ap, ◌∙◌, arith}
+use Rattle.std.proofs.Common.{◌≡◌, ℕ, zero, suc, ◌+◌, ◌==◌, cond, Bool, true, false, List, [], ◌∷◌, ◌++◌, Option, Some, None, filter_map, refl, ap, ◌∙◌, arith}
 use Rattle.std.proofs.lemmas.List.Elements.{filter_map-append}
 use Rattle.pb_world.specs.Actions.{Action, Choose, Run, Send, Recv, Enter, Leave, Collective, Answers, AnswerTable, done_by, of_rank}
 use Rattle.pb_world.specs.Family.{each}
-use Rattle.pb_world.specs.Sequencer.{behind_first, answers_after, answers_after_all, first_or}
+use Rattle.pb_world.specs.Sequencer.{answers_after, answers_after_all}
 use Rattle.pb_plain_run.specs.Used.{branch_used, words_used, left_after}
 use Rattle.pb_plain_run.proofs.Tables.{same_table}
 

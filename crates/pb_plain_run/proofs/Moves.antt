@@ -1,5 +1,5 @@
 -- One step, from what a statement adds and leaves on the stack.
-use Rattle.std.proofs.Common.{◌≡◌, ℕ, List, [], ◌∷◌, ◌++◌, append-nil, Result, Ok, Err, OnOk, subst, refl, sym}
+use Rattle.std.proofs.Common.{◌≡◌, ℕ, List, [], ◌∷◌, append-nil, Result, Ok, Err, OnOk, subst, refl, sym}
 use Rattle.pb_world.specs.Actions.{Action, AnswerTable}
 use Rattle.pb_core.specs.Flat.{Block}
 use Rattle.pb_core.specs.Run.{Setting, Opener, Frame, emit_at, taken_at, move}

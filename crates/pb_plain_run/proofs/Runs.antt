@@ -1,5 +1,5 @@
 -- One more step of a run.
-use Rattle.std.proofs.Common.{◌≡◌, ℕ, zero, suc, ◌+◌, ◌<◌, List, [], ◌∷◌, ◌++◌, append_assoc, append-nil, refl, sym, ap, ap₂, ◌∙◌, subst, arith}
+use Rattle.std.proofs.Common.{◌≡◌, ℕ, zero, suc, ◌+◌, ◌<◌, List, ◌++◌, append_assoc, append-nil, refl, sym, ap, ap₂, ◌∙◌, subst, arith}
 use Rattle.pb_world.specs.Actions.{Action, AnswerTable}
 use Rattle.pb_world.specs.Sequencer.{emitted, state_after}
 use Rattle.pb_core.specs.Flat.{Block}

@@ -1,7 +1,7 @@
 -- What a run knows besides the protocol: how many ranks there are, and the payloads of the labels.
 use Rattle.std.specs.Prelude.{ℕ, ◌==◌, cond, Bool, true, false, List, [], nat_lt}
 use Rattle.pb_syntax.specs.declared.core_label.CoreLabel.{CoreLabel}
-use Rattle.pb_world.specs.Actions.{Operation, Collective, Barrier, Broadcast, Reduce, Allreduce, AnswerTable}
+use Rattle.pb_world.specs.Actions.{Collective, Barrier, Broadcast, Reduce, Allreduce, AnswerTable}
 use Rattle.pb_core.specs.Run as R
 use Rattle.pb_core.specs.Run.{entered_now}
 use Rattle.pb_core.specs.Collectives.{setting, combined_of, combine, payload_of, word_count}

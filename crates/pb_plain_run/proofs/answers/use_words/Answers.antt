@@ -1,4 +1,4 @@
-use Rattle.std.proofs.Common.{sym, ap, ◌∙◌}
+use Rattle.std.proofs.Common.{ap, ◌∙◌}
 use Rattle.pb_plain_run.specs.View.{left_of}
 use Rattle.pb_plain_run.proofs.Tables.{left_is, words_set, words_unused, without_words}
 use Rattle.pb_plain_run.proofs.answers.use_words.Goals as goal

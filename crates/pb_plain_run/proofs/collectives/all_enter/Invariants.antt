@@ -1,4 +1,4 @@
-use Rattle.std.proofs.Common.{◌≡◌, ◌++◌, [], cond}
+use Rattle.std.proofs.Common.{◌≡◌, ◌++◌}
 use Rattle.pb_world.specs.Actions.{Enter}
 use Rattle.pb_world.specs.Family.{each}
 use Rattle.pb_plain.specs.View.{collective_of}

@@ -1,4 +1,4 @@
-use Rattle.std.proofs.Common.{◌≡◌, List, ◌∷◌, ◌∙◌, ap}
+use Rattle.std.proofs.Common.{List, ◌∷◌, ◌∙◌, ap}
 use Rattle.pb_core.specs.Flat as B
 use Rattle.pb_core.specs.Run as R
 use Rattle.pb_plain.specs.View.{view, view_branches}
