@@ -1,5 +1,5 @@
+pub mod Endpoints
 pub mod Fronts
 pub mod Messages
-pub mod PrintedLemmas
 pub mod Replies
 pub mod Verdicts

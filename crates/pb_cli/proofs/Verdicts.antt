@@ -1,5 +1,5 @@
 -- From what the parser answers to what the program does.
-use Rattle.std.proofs.Common.{◌≡◌, ℕ, ◌≤◌, inl, inr, List, length, Option, None, Some, Result, Ok, Err, IfErr, Vec, Global, refl, ap, subst}
+use Rattle.std.proofs.Common.{◌≡◌, ℕ, ◌≤◌, inl, inr, List, length, Option, None, Some, Result, Ok, Err, IfOk, IfErr, Vec, Global, refl, ap, subst}
 use Rattle.pb_io.specs.Files.{File, IsContent, content_of}
 use Rattle.pb_text.specs.Places.{first_place}
 use Rattle.pb_text.specs.declared.quantity.Quantity.TheVariants as quantity
@@ -10,9 +10,9 @@ use Rattle.pb_parse.specs.Parsed.{IsParsedText, IsTextFault}
 use Rattle.pb_parse.specs.declared.fault.ParseFault.{ParseFault}
 use Rattle.pb_parse.specs.declared.fault.ParseFault.TheVariants as fault
 use Rattle.pb_cli.specs.Lines.{line_of, status_of}
-use Rattle.pb_cli.specs.Printed.{IsPrinted}
+use Rattle.pb_cli.specs.Printed.{IsTextOf}
 use Rattle.pb_cli.specs.Reply.{IsReply, OnFile, OnShort, most_bytes}
-use Rattle.pb_cli.specs.Verdict.{IsGrammatical, IsLimitAt, IsRefusalOf, IsSyntaxAt, IsUnbuilt, refusal_of}
+use Rattle.pb_cli.specs.Verdict.{IsCompiled, IsGrammatical, IsLimitAt, IsRefusalOf, IsSyntaxAt, IsUnbuilt, refusal_of}
 use Rattle.pb_cli.specs.declared.refusal.Refusal.{Refusal}
 use Rattle.pb_cli.specs.declared.refusal.Refusal.TheVariants as refusal
 use Rattle.pb_cli.specs.declared.status.Status.TheVariants.{Done}
@@ -32,6 +32,12 @@ refused bytes fault.NoMemory found = tt
 pub grammatical : (bytes : List ℕ) (file : FileTree) → IsParsedText bytes (Ok file) → IsGrammatical bytes
 grammatical bytes file found = (plain_file file, found)
 
+-- a file that parses, and its text
+pub compiled : {E : Type 0} (bytes : List ℕ) (file : FileTree) (r : Result (Vec ℕ Global) E) → IsParsedText bytes (Ok file)
+    → IfOk r (λ text. IsTextOf (plain_file file) text.items) → IfOk r (λ text. IsCompiled bytes text.items)
+compiled bytes file (Ok text) found is = (plain_file file, found, is)
+compiled bytes file (Err e) found is = tt
+
 -- a file that parses and has no text
 pub unbuilt : (bytes : List ℕ) (r : Refusal) → IsGrammatical bytes → IsUnbuilt r → IsRefusalOf bytes r
 unbuilt bytes refusal.NoMemory parses why = tt
@@ -49,9 +55,9 @@ on_short P name None bytes read short is = tt
 on_short P name (Some files) bytes read short is = subst (λ (l : List ℕ). (length l ≤ most_bytes) × P l) read (short, is)
 
 pub done : (name : List ℕ) (holds : Option (List File)) (bytes text : List ℕ)
-    → IsContent holds name bytes → length bytes ≤ most_bytes → IsGrammatical bytes → IsPrinted text
-    → IsReply (Some name) holds Done text
-done name holds bytes text read short parses printed = (on_short IsGrammatical name holds bytes read short parses, printed)
+    → IsContent holds name bytes → length bytes ≤ most_bytes → IsCompiled bytes text → IsReply (Some name) holds Done text
+done name holds bytes text read short found =
+    (on_short (λ l. IsCompiled l text) name holds bytes read short found, (found.2.0, found.2.2))
 
 pub told : (name : List ℕ) (holds : Option (List File)) (bytes : List ℕ) (r : Refusal)
     → IsContent holds name bytes → length bytes ≤ most_bytes → IsRefusalOf bytes r

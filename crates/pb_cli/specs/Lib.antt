@@ -1,4 +1,5 @@
 pub mod Codes
+pub mod First
 pub mod Lines
 pub mod Printed
 pub mod Reply

@@ -9,7 +9,7 @@ use Rattle.pb_io.specs.Files.{File, content_of, IsSureOf}
 use Rattle.pb_io.specs.Sinks.{AppendsFront}
 use Rattle.pb_cli.specs.Lines.{line_of, status_of}
 use Rattle.pb_cli.specs.Printed.{IsPrinted}
-use Rattle.pb_cli.specs.Verdict.{IsGrammatical, IsSyntaxAt, IsLimitAt}
+use Rattle.pb_cli.specs.Verdict.{IsGrammatical, IsCompiled, IsSyntaxAt, IsLimitAt}
 use Rattle.pb_cli.specs.declared.refusal.Refusal.{Refusal}
 use Rattle.pb_cli.specs.declared.refusal.Refusal.TheVariants as refusal
 use Rattle.pb_cli.specs.declared.status.Status.{Status}
@@ -29,10 +29,10 @@ OnFile (Some name) (Some files) P = P (content_of files name)
 abbrev pub OnShort : Option (List ℕ) → Option (List File) → (List ℕ → Type 0) → Type 0
 OnShort form holds P = OnFile form holds (λ bytes. (length bytes ≤ most_bytes) × P bytes)
 
--- to the words and the files belong a status and the bytes that it comes with. Which of the files that parse are built,
--- and all of the text on Done but its first line, is left open, and so is when memory is wanting
+-- To the words and the files belong a status and the bytes that it comes with. Which of the files that parse are built is
+-- left open, and so is when memory is wanting
 abbrev pub IsReply : Option (List ℕ) → Option (List File) → Status → List ℕ → Type 0
-IsReply form holds Done text = OnShort form holds IsGrammatical × IsPrinted text
+IsReply form holds Done text = OnShort form holds (λ bytes. IsCompiled bytes text) × IsPrinted text
 IsReply form holds Refused text =
     (place : Place) × OnShort form holds (λ bytes. IsSyntaxAt bytes place) × (text ≡ line_of (refusal.Syntax place))
 IsReply form holds Usage text = (form ≡ None) × (text ≡ line_of refusal.Usage)

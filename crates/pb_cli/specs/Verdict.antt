@@ -14,12 +14,17 @@ use Rattle.pb_parse.specs.Limits.{AreWithin}
 use Rattle.pb_parse.specs.Parsed.{IsUnexpected, IsTooEarly, Passes, OfTokens}
 use Rattle.pb_parse.specs.declared.fault.ParseFault.{ParseFault}
 use Rattle.pb_parse.specs.declared.fault.ParseFault.TheVariants as fault
+use Rattle.pb_cli.specs.Printed.{IsTextOf}
 use Rattle.pb_cli.specs.declared.refusal.Refusal.{Refusal}
 use Rattle.pb_cli.specs.declared.refusal.Refusal.TheVariants as refusal
 
 -- a text of the grammar within the limits
 abbrev pub IsGrammatical : List ℕ → Type 0
 IsGrammatical bytes = (file : PlainFile) × OfTokens bytes (λ tokens. IsFile tokens file × AreWithin tokens)
+
+-- a text of the grammar within the limits that has the first form, and the C text of that form
+abbrev pub IsCompiled : List ℕ → List ℕ → Type 0
+IsCompiled bytes text = (file : PlainFile) × OfTokens bytes (λ tokens. IsFile tokens file × AreWithin tokens) × IsTextOf file text
 
 -- the first fault of the bytes is one of syntax, and stands here: a byte that begins no token, a comment that is never
 -- closed, a token that doesn't go on, or the end where the tokens end too early

@@ -1,13 +1,14 @@
-ghost use Rattle.std.specs.Prelude.{◌≡◌, ◌≤◌, length, Some, IfOk, IfErr, OnOk, IsErrOf, map};
+ghost use Rattle.std.specs.Prelude.{◌≡◌, ◌≤◌, length, Some, IfOk, IfErr, IsErrOf, map};
 ghost use Rattle.std.specs.String.{string_bytes};
 ghost use Rattle.pb_io.specs.Faults.{Rose};
 ghost use Rattle.pb_io.specs.Files.{IsSureOf};
-ghost use Rattle.pb_cli.specs.Printed.{IsPrinted};
+ghost use Rattle.pb_syntax.specs.Plain.{plain_file};
+ghost use Rattle.pb_cli.specs.Printed.{IsTextOf};
 ghost use Rattle.pb_cli.specs.Reply.{Answers, IsReply, IsSureOfForm, most_bytes};
-ghost use Rattle.pb_cli.specs.Verdict.{IsGrammatical, IsRefusalOf, IsUnbuilt, refusal_of};
+ghost use Rattle.pb_cli.specs.Verdict.{IsCompiled, IsRefusalOf, IsUnbuilt, refusal_of};
 ghost use Rattle.pb_cli.specs.Words.{gen_file};
 
-use crate::first::{FirstFault, first_form, print_form};
+use crate::first::{FirstFault, first_form, form_text};
 use crate::refusal::Refusal;
 use crate::words::gen_file;
 use pb_io::{Folder, InFault, read_all};
@@ -52,11 +53,10 @@ fn gen_text<F: Folder>(alloc: Global, folder: &mut F, file: &str) -> Result<Vec<
 }
 
 /// The C text of the protocol in the bytes of a file.
-#[tactic(auto, using(crate::proofs::Verdicts::refused, crate::proofs::Verdicts::unbuilt, crate::proofs::Verdicts::grammatical))]
+#[tactic(auto, using(crate::proofs::Verdicts::refused, crate::proofs::Verdicts::unbuilt, crate::proofs::Verdicts::grammatical, crate::proofs::Verdicts::compiled))]
 fn file_text(alloc: Global, bytes: &[u8]) -> Result<Vec<u8>, Refusal>
     requires { length bytes.now ≤ most_bytes }
-    ensures parsed { OnOk result (IsGrammatical bytes.now) }
-    ensures printed { IfOk result (λ text. IsPrinted text.items) }
+    ensures compiled { IfOk result (λ text. IsCompiled bytes.now text.items) }
     ensures refused { IfErr result (IsRefusalOf bytes.now) }
 {
     match parse(alloc, bytes) {
@@ -88,19 +88,19 @@ fn refusal_of(fault: ParseFault) -> Refusal
 
 /// The C text of a tree, where it is of the first form and keeps the rules.
 fn tree_text(alloc: Global, file: &FileTree) -> Result<Vec<u8>, Refusal>
-    ensures printed { IfOk result (λ text. IsPrinted text.items) }
+    ensures printed { IfOk result (λ text. IsTextOf (plain_file file.now) text.items) }
     ensures unbuilt { IfErr result IsUnbuilt }
 {
-    match form_text(alloc, file) {
+    match first_text(alloc, file) {
         Ok(text) => Ok(text),
         Err(FirstFault::NotBuilt) => Err(Refusal::NotBuilt(START)),
         Err(FirstFault::NoMemory) => Err(Refusal::NoMemory),
     }
 }
 
-fn form_text(alloc: Global, file: &FileTree) -> Result<Vec<u8>, FirstFault>
-    ensures { IfOk result (λ text. IsPrinted text.items) }
+fn first_text(alloc: Global, file: &FileTree) -> Result<Vec<u8>, FirstFault>
+    ensures { IfOk result (λ text. IsTextOf (plain_file file.now) text.items) }
 {
     let form = first_form(alloc, file)?;
-    Ok(print_form(alloc, &form)?)
+    Ok(form_text(alloc, &form)?)
 }

@@ -4,6 +4,5 @@ pub mod Frames
 pub mod Lengths
 pub mod Plains
 pub mod Samples
-pub mod Steps
 pub mod Texts
 pub mod Trees

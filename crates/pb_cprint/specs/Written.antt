@@ -1,22 +1,15 @@
 -- The text of statements whose lines begin at a depth.
-use Rattle.std.specs.Prelude.{ℕ, zero, suc, ◌+◌, Bool, true, false, if◌then◌else◌, List, [], ◌∷◌, ◌++◌, codes}
+use Rattle.std.specs.Prelude.{ℕ, zero, suc, ◌+◌, Bool, true, false, if◌then◌else◌, List, [], ◌∷◌, ◌++◌}
 use Rattle.pb_affine.specs.declared.guard.Guard.{Guard}
 use Rattle.pb_syntax.specs.declared.tree.Op.{Op}
 use Rattle.pb_local.specs.declared.stmt.Peer.{Peer}
 use Rattle.pb_local.specs.declared.stmt.Test.{Test}
 use Rattle.pb_local.specs.declared.stmt.Relay.{Relay}
-use Rattle.pb_local.specs.Pieces.{joined, line}
 use Rattle.pb_local.specs.Tree.{Code, when, for_each, own, loop, again, choice, send, recv, run, barrier, broadcast, reduce, allreduce, Codes, nothing, more, Parts, no_part, part, Program}
-use Rattle.pb_ctree.specs.Lines.{Item, close, else_open, if_open, else_if_open, for_open, own_is, loop_open, goto, makes, root_makes, takes, root_takes, mpi_send, mpi_recv, mpi_barrier, mpi_bcast, mpi_reduce, mpi_allreduce, calls, chooses, probe, test_open, else_test_open, picks, aborts, pick_open, else_pick_open, item_text}
+use Rattle.pb_ctree.specs.Lines.{Item, close, else_open, if_open, else_if_open, for_open, own_is, loop_open, goto, makes, root_makes, takes, root_takes, mpi_send, mpi_recv, mpi_barrier, mpi_bcast, mpi_reduce, mpi_allreduce, calls, chooses, probe, test_open, else_test_open, picks, aborts, pick_open, else_pick_open}
 use Rattle.pb_ctree.specs.Rules.{is_wordy}
-use Rattle.pb_ctree.specs.Small.{outgoing, incoming, guard_text, others_text}
-
-abbrev pub bytes : Program → ℕ → Item → List ℕ
-bytes p d item = line d (item_text p item)
-
--- two guards or more
-abbrev pub several_text : Guard → List Guard → List ℕ
-several_text g gs = joined (codes "(" ∷ guard_text g ∷ codes ")" ∷ others_text gs ∷ [])
+use Rattle.pb_ctree.specs.Small.{outgoing, incoming}
+use Rattle.pb_cline.specs.Printed.{bytes}
 
 abbrev pub wordy : Program → ℕ → List ℕ → List ℕ
 wordy p label text = if is_wordy p label then text else []

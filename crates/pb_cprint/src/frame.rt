@@ -7,8 +7,7 @@ ghost use Rattle.pb_ctree.specs.Small.{sum_text};
 ghost use Rattle.pb_ctree.specs.Trees.{sum_of};
 ghost use Rattle.pb_cprint.specs.Framed.{protocol_line, range_line, role_line, label_line, place_head, place_line, make_line, take_line, kernel_line, make_marker, take_marker, kernel_marker, n_single, n_divided, test_size, rank_line, role_is, index_is};
 
-use crate::small::{push_decimal, push_lin, push_signed};
-use itoa::Buffer;
+use pb_cline::{push_count, push_decimal, push_lin, push_signed};
 use pb_ctree::{
     CoreKernel, CoreLabel, Formula, KernelKind, Local, NRange, Name, NoMemory, Payload, Role,
 };
@@ -110,14 +109,7 @@ fn push_above(out: &mut Vec<u8>, high: Option<u32>) -> Result<(), NoMemory>
     Ok(())
 }
 
-fn push_count(out: &mut Vec<u8>, n: usize) -> Result<(), NoMemory>
-    ensures { OnOk result (out.new.items ≡ out.old.items ++ decimal n) }
-{
-    let mut buffer = Buffer::new();
-    out.extend_from_slice(buffer.format(n).as_bytes())?;
-    Ok(())
-}
-
+/// Appends the line that names the protocol.
 pub fn push_protocol(out: &mut Vec<u8>, local: &Local) -> Result<(), NoMemory>
     ensures { OnOk result (out.new.items ≡ out.old.items ++ protocol_line local.now.protocol) }
 {
@@ -128,6 +120,7 @@ pub fn push_protocol(out: &mut Vec<u8>, local: &Local) -> Result<(), NoMemory>
     Ok(())
 }
 
+/// Appends the line of the range of N.
 pub fn push_range(out: &mut Vec<u8>, range: NRange) -> Result<(), NoMemory>
     ensures { OnOk result (out.new.items ≡ out.old.items ++ range_line range) }
 {
@@ -140,6 +133,7 @@ pub fn push_range(out: &mut Vec<u8>, range: NRange) -> Result<(), NoMemory>
     Ok(())
 }
 
+/// Appends the line of a role.
 pub fn push_role(out: &mut Vec<u8>, role: &Role) -> Result<(), NoMemory>
     ensures { OnOk result (out.new.items ≡ out.old.items ++ role_line role.now) }
 {
@@ -154,6 +148,7 @@ pub fn push_role(out: &mut Vec<u8>, role: &Role) -> Result<(), NoMemory>
     Ok(())
 }
 
+/// Appends the line of a label.
 pub fn push_label(out: &mut Vec<u8>, label: &CoreLabel) -> Result<(), NoMemory>
     ensures { OnOk result (out.new.items ≡ out.old.items ++ label_line label.now) }
 {
@@ -166,6 +161,7 @@ pub fn push_label(out: &mut Vec<u8>, label: &CoreLabel) -> Result<(), NoMemory>
     Ok(())
 }
 
+/// Appends the first line of the function that numbers a role's ranks.
 pub fn push_place_head(out: &mut Vec<u8>, role: &Role) -> Result<(), NoMemory>
     ensures { OnOk result (out.new.items ≡ out.old.items ++ place_head role.now) }
 {
@@ -176,6 +172,7 @@ pub fn push_place_head(out: &mut Vec<u8>, role: &Role) -> Result<(), NoMemory>
     Ok(())
 }
 
+/// Appends the line that gives the number of a role's rank.
 pub fn push_place(out: &mut Vec<u8>, place: Formula) -> Result<(), NoMemory>
     ensures { OnOk result (out.new.items ≡ out.old.items ++ place_line (sum_of place)) }
 {
@@ -187,6 +184,7 @@ pub fn push_place(out: &mut Vec<u8>, place: Formula) -> Result<(), NoMemory>
     Ok(())
 }
 
+/// Appends the first line of the function that makes a label's words.
 pub fn push_make_head(out: &mut Vec<u8>, label: &CoreLabel) -> Result<(), NoMemory>
     ensures { OnOk result (out.new.items ≡ out.old.items ++ make_line label.now) }
 {
@@ -199,6 +197,7 @@ pub fn push_make_head(out: &mut Vec<u8>, label: &CoreLabel) -> Result<(), NoMemo
     Ok(())
 }
 
+/// Appends the first line of the function that takes a label's words.
 pub fn push_take_head(out: &mut Vec<u8>, label: &CoreLabel) -> Result<(), NoMemory>
     ensures { OnOk result (out.new.items ≡ out.old.items ++ take_line label.now) }
 {
@@ -211,6 +210,7 @@ pub fn push_take_head(out: &mut Vec<u8>, label: &CoreLabel) -> Result<(), NoMemo
     Ok(())
 }
 
+/// Appends the first line of a kernel's function.
 pub fn push_kernel_head(out: &mut Vec<u8>, kernel: &CoreKernel) -> Result<(), NoMemory>
     ensures { OnOk result (out.new.items ≡ out.old.items ++ kernel_line kernel.now) }
 {
@@ -222,6 +222,7 @@ pub fn push_kernel_head(out: &mut Vec<u8>, kernel: &CoreKernel) -> Result<(), No
     Ok(())
 }
 
+/// Appends the line that opens the body that makes a label's words.
 pub fn push_make_marker(out: &mut Vec<u8>, label: &CoreLabel) -> Result<(), NoMemory>
     ensures { OnOk result (out.new.items ≡ out.old.items ++ make_marker label.now) }
 {
@@ -233,6 +234,7 @@ pub fn push_make_marker(out: &mut Vec<u8>, label: &CoreLabel) -> Result<(), NoMe
     Ok(())
 }
 
+/// Appends the line that opens the body that takes a label's words.
 pub fn push_take_marker(out: &mut Vec<u8>, label: &CoreLabel) -> Result<(), NoMemory>
     ensures { OnOk result (out.new.items ≡ out.old.items ++ take_marker label.now) }
 {
@@ -244,6 +246,7 @@ pub fn push_take_marker(out: &mut Vec<u8>, label: &CoreLabel) -> Result<(), NoMe
     Ok(())
 }
 
+/// Appends the line that opens a kernel's body.
 pub fn push_kernel_marker(out: &mut Vec<u8>, kernel: &CoreKernel) -> Result<(), NoMemory>
     ensures { OnOk result (out.new.items ≡ out.old.items ++ kernel_marker kernel.now) }
 {
@@ -255,6 +258,7 @@ pub fn push_kernel_marker(out: &mut Vec<u8>, kernel: &CoreKernel) -> Result<(), 
     Ok(())
 }
 
+/// Appends the line that sets N to the one number of its range.
 pub fn push_n_single(out: &mut Vec<u8>, range: NRange) -> Result<(), NoMemory>
     ensures { OnOk result (out.new.items ≡ out.old.items ++ n_single range) }
 {
@@ -266,6 +270,7 @@ pub fn push_n_single(out: &mut Vec<u8>, range: NRange) -> Result<(), NoMemory>
     Ok(())
 }
 
+/// Appends the line that reckons N from the number of ranks.
 pub fn push_n_divided(out: &mut Vec<u8>, size: Formula) -> Result<(), NoMemory>
     ensures { OnOk result (out.new.items ≡ out.old.items ++ n_divided (sum_of size)) }
 {
@@ -279,6 +284,7 @@ pub fn push_n_divided(out: &mut Vec<u8>, size: Formula) -> Result<(), NoMemory>
     Ok(())
 }
 
+/// Appends the line that tests N and the number of ranks.
 pub fn push_test_size(out: &mut Vec<u8>, range: NRange, size: Formula) -> Result<(), NoMemory>
     ensures { OnOk result (out.new.items ≡ out.old.items ++ test_size range (sum_of size)) }
 {
@@ -293,6 +299,7 @@ pub fn push_test_size(out: &mut Vec<u8>, range: NRange, size: Formula) -> Result
     Ok(())
 }
 
+/// Appends the line that tests whether a rank's number is at a role's base or above.
 pub fn push_rank(out: &mut Vec<u8>, base: Formula) -> Result<(), NoMemory>
     ensures { OnOk result (out.new.items ≡ out.old.items ++ rank_line (sum_of base)) }
 {
@@ -304,6 +311,7 @@ pub fn push_rank(out: &mut Vec<u8>, base: Formula) -> Result<(), NoMemory>
     Ok(())
 }
 
+/// Appends the line that sets the number of the role.
 pub fn push_role_is(out: &mut Vec<u8>, role: usize) -> Result<(), NoMemory>
     ensures { OnOk result (out.new.items ≡ out.old.items ++ role_is role) }
 {
@@ -315,6 +323,7 @@ pub fn push_role_is(out: &mut Vec<u8>, role: usize) -> Result<(), NoMemory>
     Ok(())
 }
 
+/// Appends the line that sets the index.
 pub fn push_index_is(out: &mut Vec<u8>, place: Formula) -> Result<(), NoMemory>
     ensures { OnOk result (out.new.items ≡ out.old.items ++ index_is (sum_of place)) }
 {

@@ -6,7 +6,7 @@ use Rattle.pb_kernels.specs.declared.fault.KernelFault.{KernelFault}
 use Rattle.pb_kernels.specs.declared.fault.KernelFault.TheVariants.{Missing, Extra}
 use Rattle.pb_kernels.specs.declared.file.NamedBody.{NamedBody}
 use Rattle.pb_kernels.specs.Marks.{prelude_name}
-use Rattle.pb_kernels.specs.Names.{same_name, is_among, body_of}
+use Rattle.pb_kernels.specs.Names.{same_name, is_among, names_of, body_of}
 
 -- the first function that the file lacks
 abbrev pub first_missing : List KName → List NamedBody → Option KName
@@ -18,7 +18,7 @@ has_place functions name = same_name name prelude_name || list_any (λ f. same_n
 
 -- the first name of the file that has no place in the text
 abbrev pub first_extra : List KName → List NamedBody → Option KName
-first_extra functions file = find (λ name. not (has_place functions name)) (map (λ b. b.name) file)
+first_extra functions file = find (λ name. not (has_place functions name)) (names_of file)
 
 abbrev pub misfit_of : Option KName → Option KName → Option KernelFault
 misfit_of (Some name) extra = Some (Missing name)

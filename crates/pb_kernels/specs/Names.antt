@@ -1,5 +1,5 @@
 -- The names of bodies.
-use Rattle.std.specs.Prelude.{ℕ, Bool, true, false, not, ◌&&◌, List, [], ◌∷◌, ◌++◌, Option, None, Some, nat_eq, if◌then◌else◌}
+use Rattle.std.specs.Prelude.{◌≡◌, ℕ, Bool, true, false, not, ◌&&◌, List, [], ◌∷◌, ◌++◌, Option, None, Some, map, nat_eq, if◌then◌else◌}
 use Rattle.std.specs.List.{list_any}
 use Rattle.std.specs.Cmp.Lexicographic.{pointwise}
 use Rattle.pb_ctree.specs.declared.kernel.Kind.{Kind}
@@ -24,6 +24,13 @@ same_words (Some word) (Some other) = pointwise nat_eq word other
 abbrev pub same_name : KName → KName → Bool
 same_name a b = nat_eq (kind_number a.kind) (kind_number b.kind) && same_words a.name b.name
 
+-- entries as bodies with their names
+abbrev pub named_bodies : List (KName × List ℕ) → List NamedBody
+named_bodies entries = map (λ e. record { name = e.0; body = e.1 }) entries
+
+abbrev pub names_of : List NamedBody → List KName
+names_of list = map (λ b. b.name) list
+
 -- a body has this name
 abbrev pub is_among : KName → List NamedBody → Bool
 is_among name list = list_any (λ b. same_name name b.name) list
@@ -40,3 +47,7 @@ are_new before (b ∷ bs) = not (is_among b.name before) && are_new (before ++ b
 -- no body has the name of one before it
 abbrev pub are_distinct : List NamedBody → Bool
 are_distinct list = are_new [] list
+
+-- a name is among the second where it is among the first
+abbrev pub HasNames : List KName → List KName → Type 0
+HasNames list names = (name : KName) → list_any (λ f. same_name name f) names ≡ list_any (λ f. same_name name f) list

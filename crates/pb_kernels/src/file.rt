@@ -1,10 +1,10 @@
-ghost use Rattle.std.specs.Prelude.{◌≡◌, ◌++◌, [], ◌∷◌, true, false, OnOk, OnErr, IsTrue, MatchOption, option_map};
-ghost use Rattle.std.specs.Option.{option_copied};
+ghost use Rattle.std.specs.Prelude.{◌≡◌, ◌<◌, ◌++◌, [], ◌∷◌, Some, true, false, OnOk, length, slice_get};
 ghost use Rattle.pb_ctree.specs.Bodies.{is_body};
-ghost use Rattle.pb_kernels.specs.Names.{same_words, same_name, is_among, body_of, are_distinct};
+ghost use Rattle.pb_kernels.specs.Names.{is_among, body_of, names_of, same_words, same_name};
 
-use crate::{Body, KName, Name};
-use std::alloc::{AllocFailed, Global};
+use crate::{Body, KName, Name, NoMemory};
+use indexmap::IndexMap;
+use std::alloc::Global;
 use std::marker::Model;
 
 /// A body of a kernel file, with its name.
@@ -15,76 +15,81 @@ pub struct NamedBody {
 }
 
 /// The bodies of a kernel file in its order, no two with one name.
-#[derive(Debug, Drop)]
+#[derive(Drop)]
 pub struct KernelFile {
-    list: Vec<NamedBody>,
+    bodies: IndexMap<KName, Body>,
 }
 
 impl Model for KernelFile {
     ghost use Rattle.std.specs.Prelude.{List, IsTrue};
     ghost use Rattle.pb_kernels.specs.declared.file.NamedBody.{NamedBody};
-    ghost use Rattle.pb_kernels.specs.Names.{are_distinct};
+    ghost use Rattle.pb_kernels.specs.Names.{are_distinct, named_bodies};
 
     ghost Value = { List NamedBody };
 
-    ghost view = { λ f. f.list.items };
+    ghost view = { λ f. named_bodies f.bodies.entries };
 
-    ghost invariant = { λ f. IsTrue (are_distinct f.list.items) };
+    ghost invariant = { λ f. IsTrue (are_distinct (named_bodies f.bodies.entries)) };
 }
 
 impl KernelFile {
-    ghost use Rattle.pb_kernels.specs.Names.{is_among, body_of, are_distinct};
+    ghost use Rattle.pb_kernels.specs.Names.{is_among, body_of, names_of};
 
     /// A file without a body. Takes no memory.
     pub(crate) fn new(alloc: Global) -> KernelFile
         ensures { result ≡ [] }
     {
         KernelFile {
-            list: Vec::new(alloc),
+            bodies: IndexMap::new(alloc),
         }
-    }
-
-    /// The bodies in the file's order.
-    pub fn list(&self) -> &[NamedBody]
-        ensures same { result.now ≡ self.now }
-        ensures distinct { IsTrue (are_distinct result.now) }
-    {
-        &self.list
     }
 
     /// One more body, behind the others.
-    #[tactic(auto, using(crate::proofs::Distinct::distinct_push))]
-    pub(crate) fn push(&mut self, body: NamedBody) -> Result<(), AllocFailed<NamedBody>>
+    pub(crate) fn push(&mut self, body: NamedBody) -> Result<(), NoMemory>
         requires { is_among body.name self.old ≡ false }
         ensures { OnOk result (self.new ≡ self.old ++ body ∷ []) }
     {
-        let _name = &body.name.name;
-        self.list.push(body)
+        let NamedBody { name, body } = body;
+        match self.bodies.insert(name, body) {
+            Ok(_) => Ok(()),
+            Err(_) => Err(NoMemory),
+        }
+    }
+
+    /// The number of bodies.
+    pub fn len(&self) -> usize
+        ensures { result ≡ length self.now }
+    {
+        self.bodies.len()
+    }
+
+    /// The name of the body at a place, in the file's order.
+    pub fn name_at(&self, place: usize) -> KName
+        requires { place < length self.now }
+        ensures { slice_get (names_of self.now) place ≡ Some result }
+    {
+        match self.bodies.get_index(place) {
+            Some((name, _)) => *name,
+            None => unreachable!(),
+        }
     }
 
     /// True where the file has a body with this name.
-    pub(crate) fn has(&self, name: &KName) -> bool
+    pub fn has(&self, name: &KName) -> bool
         ensures { result ≡ is_among name.now self.now }
     {
-        for body in &self.list {
-            if same_name(name, &body.name) {
-                return true;
-            }
-        }
-        false
+        self.bodies.contains_key(name)
     }
 
     /// The bytes of the body with this name; none where the file lacks it.
-    pub(crate) fn bytes_of(&self, name: &KName) -> &[u8]
+    pub fn bytes_of(&self, name: &KName) -> &[u8]
         ensures same { result.now ≡ body_of name.now self.now }
         ensures whole { is_body result.now ≡ true }
     {
-        for body in &self.list {
-            if same_name(name, &body.name) {
-                return body.body.bytes();
-            }
+        match self.bodies.get(name) {
+            Some(body) => body.bytes(),
+            None => b"",
         }
-        b""
     }
 }
 

@@ -7,11 +7,14 @@
 
 mod fault;
 mod file;
+mod functions;
 mod law;
 mod marker;
 mod merging;
 mod read;
 mod reading;
+#[cfg(test)]
+mod tests;
 
 pub use fault::KernelFault;
 pub use file::{KernelFile, NamedBody};

@@ -1,4 +1,4 @@
-ghost use Rattle.std.specs.Prelude.{◌≡◌, ◌⊎◌, ◌++◌, map, None, Some, IfOk, OnOk, MatchResult};
+ghost use Rattle.std.specs.Prelude.{◌≡◌, ◌⊎◌, ◌++◌, None, Some, IfOk, OnOk, MatchResult};
 ghost use Rattle.pb_local.specs.Tree.{program_of};
 ghost use Rattle.pb_ctree.specs.Functions.{functions_of};
 ghost use Rattle.pb_kernels.specs.Marks.{prelude_name};
@@ -7,7 +7,8 @@ ghost use Rattle.pb_kernels.specs.Merges.{first_missing, first_extra, has_place,
 ghost use Rattle.pb_kernels.specs.declared.fault.KernelFault.TheVariants as faults;
 
 use crate::file::same_name;
-use crate::{Bodies, Body, CTree, KName, KernelFault, KernelFile, Kind, NamedBody, NoMemory};
+use crate::functions::Functions;
+use crate::{Bodies, Body, CTree, KName, KernelFault, KernelFile, Kind, NoMemory};
 use pb_ctree::functions;
 use std::alloc::Global;
 
@@ -21,13 +22,13 @@ pub fn merge(alloc: Global, tree: &CTree, file: KernelFile) -> Result<Bodies, Ke
     ensures prelude { IfOk result (λ bodies. bodies.prelude ≡ body_of prelude_name file) }
     ensures list { IfOk result (λ bodies. bodies.list.items ≡ bodies_of (functions_of (program_of tree.now.local)) file) }
 {
-    let functions = functions(alloc, tree)?;
+    let functions = Functions::of(alloc, functions(alloc, tree)?)?;
     if let Some(fault) = misfit(&functions, &file) {
         return Err(fault);
     }
     let prelude = copy_body(alloc, &file, &PRELUDE)?;
     let mut list = Vec::new(alloc);
-    push_bodies(alloc, &functions, &file, &mut list)?;
+    push_bodies(alloc, functions.list(), &file, &mut list)?;
     Ok(Bodies { prelude, list })
 }
 
@@ -36,12 +37,12 @@ const PRELUDE: KName = KName {
     name: None,
 };
 
-fn misfit(functions: &[KName], file: &KernelFile) -> Option<KernelFault>
+fn misfit(functions: &Functions, file: &KernelFile) -> Option<KernelFault>
     ensures { result ≡ misfit functions.now file.now }
 {
-    match first_missing(functions, file) {
+    match first_missing(functions.list(), file) {
         Some(name) => Some(KernelFault::Missing(name)),
-        None => match first_extra(functions, file.list()) {
+        None => match first_extra(functions, file) {
             Some(name) => Some(KernelFault::Extra(name)),
             None => None,
         },
@@ -59,29 +60,22 @@ fn first_missing(functions: &[KName], file: &KernelFile) -> Option<KName>
     None
 }
 
-fn first_extra(functions: &[KName], bodies: &[NamedBody]) -> Option<KName>
-    ensures { result ≡ first_extra functions.now bodies.now }
+fn first_extra(functions: &Functions, file: &KernelFile) -> Option<KName>
+    ensures { result ≡ first_extra functions.now file.now }
 {
-    for body in bodies {
-        if !has_place(functions, &body.name) {
-            return Some(body.name);
+    for place in 0..file.len() {
+        let name = file.name_at(place);
+        if !has_place(functions, &name) {
+            return Some(name);
         }
     }
     None
 }
 
-fn has_place(functions: &[KName], name: &KName) -> bool
+fn has_place(functions: &Functions, name: &KName) -> bool
     ensures { result ≡ has_place functions.now name.now }
 {
-    if same_name(name, &PRELUDE) {
-        return true;
-    }
-    for function in functions {
-        if same_name(name, function) {
-            return true;
-        }
-    }
-    false
+    same_name(name, &PRELUDE) || functions.has(name)
 }
 
 fn push_bodies(

@@ -1,16 +1,27 @@
 //! The files of the first form that keep the rules.
 
-ghost use Rattle.std.specs.Prelude.{◌≡◌, ℕ, pos, All, IfOk, IsTrue};
+ghost use Rattle.std.specs.Prelude.{◌≡◌, ◌≤◌, ℕ, pos, Some, All, IfOk, IfSome, IsTrue, length, map};
+ghost use Rattle.pb_syntax.specs.Plain.{plain_statement, plain_file};
+ghost use Rattle.pb_syntax.specs.Tree.{statements_of};
+ghost use Rattle.pb_local.specs.WellMade.{IsRange};
 ghost use Rattle.pb_cli.specs.Rules.{AreApart, IsIn, IsIndex, KeepsRules};
+ghost use Rattle.pb_cli.specs.First.{first_index, last_index, lin_of, messages_of, HasRange, IsDeclared, IsForm, IsSound, IsSoundMessage, IsWhole};
 
 use super::FirstFault;
+use super::name::is_name;
 use pb_affine::{Base, Lin, NRange};
 use pb_syntax::{End, FileTree, High, IndexText, LinText, Payload, RoleText, Statement};
-use pb_text::{Name, Names};
+use pb_text::Name;
 use std::alloc::Global;
 
 /// The greatest number of statements of a protocol.
 const MOST_STATEMENTS: usize = 4_000;
+
+/// The greatest least N.
+const MOST_LOW: u32 = 100_000;
+
+/// The greatest N.
+const MOST_HIGH: u32 = 2_000_000_000;
 
 /// The index 0.
 const FIRST_INDEX: Lin = Lin {
@@ -31,146 +42,265 @@ pub struct Form {
     pub protocol: Name,
     pub range: NRange,
     pub role: Name,
-    /// In order of first appearance.
-    pub labels: Vec<Name>,
+    /// In the file's order.
     pub messages: Vec<Message>,
 }
 
-/// A message of one rank to another, with its label's number.
+/// A message of one rank to another.
 #[derive(Clone, Copy, Debug, PartialEq, Eq)]
 pub struct Message {
-    pub label: u32,
+    pub label: Name,
     pub from: Lin,
     pub to: Lin,
 }
 
+/// The names that a file declares.
+#[derive(Clone, Copy, Debug)]
+pub struct Declared {
+    pub constant: Name,
+    pub protocol: Name,
+    pub role: Name,
+}
+
 /// The form of a file. `NotBuilt` where the file has another form, more than 4,000 statements, or breaks a rule for some
 /// N of its range.
-#[tactic(auto, using(crate::proofs::Messages::length_interned))]
 pub fn first_form(alloc: Global, file: &FileTree) -> Result<Form, FirstFault>
-    ensures { IfOk result (λ form. All (λ message. KeepsRules form.range message.from message.to) form.messages.items) }
+    ensures form { IfOk result (λ form. IsForm (plain_file file.now) form) }
+    ensures sound { IfOk result IsSound }
 {
-    let range = range_of(file)?;
-    let declared = Declared::of(file)?;
-    if file.body.list.len() > MOST_STATEMENTS {
+    let Some(range) = range_of(file) else {
         return Err(FirstFault::NotBuilt);
-    }
-    let mut names = Names::new(alloc);
-    let mut labels = Vec::new(alloc);
-    let mut messages = Vec::new(alloc);
-    for statement in &file.body.list {
-        let (name, from, to) = declared.message(statement)?;
-        if !keeps_rules(range, from, to) {
-            return Err(FirstFault::NotBuilt);
-        }
-        let label = names.intern(name)?;
-        if label as usize == labels.len() {
-            labels.push(name)?;
-        }
-        messages.push(Message { label, from, to })?;
-    }
+    };
+    let Some(declared) = declared_in(file) else {
+        return Err(FirstFault::NotBuilt);
+    };
+    let messages = messages(alloc, &declared, range, &file.body.list)?;
     Ok(Form {
         protocol: declared.protocol,
         range,
         role: declared.role,
-        labels,
         messages,
     })
 }
 
 /// The numbers N, of which there is at least one, and which are at least 1.
-fn range_of(file: &FileTree) -> Result<NRange, FirstFault> {
+fn range_of(file: &FileTree) -> Option<NRange>
+    ensures same { IfSome result (HasRange (plain_file file.now)) }
+    ensures made { IfSome result IsRange }
+    ensures low { IfSome result (λ range. range.low ≤ 100000) }
+{
+    if file.low == 0 || MOST_LOW < file.low {
+        return None;
+    }
     let high = match file.high {
-        High::Upto(high) if high < file.low => return Err(FirstFault::NotBuilt),
+        High::Upto(high) if high < file.low || MOST_HIGH < high => return None,
         High::Upto(high) => Some(high),
         High::Max => None,
     };
-    if file.low == 0 {
-        return Err(FirstFault::NotBuilt);
-    }
-    Ok(NRange {
+    Some(NRange {
         low: file.low,
         high,
     })
 }
 
-/// The names that a file declares. No two are the same.
-#[derive(Clone, Copy)]
-struct Declared {
-    constant: Name,
-    protocol: Name,
-    role: Name,
+/// The names that a file of one role `[0..N-1]` declares, where no two are the same.
+fn declared_in(file: &FileTree) -> Option<Declared>
+    ensures { IfSome result (IsDeclared (plain_file file.now)) }
+{
+    let [role] = file.roles.as_slice() else {
+        return None;
+    };
+    let declared = Declared {
+        constant: file.constant.name,
+        protocol: file.protocol.name,
+        role: role.role.name,
+    };
+    if declared.are_apart() && declared.are_names() && is_whole(&declared.constant, role) {
+        Some(declared)
+    } else {
+        None
+    }
+}
+
+/// Whether the role's range is `[0..N-1]`.
+fn is_whole(constant: &Name, role: &RoleText) -> bool
+    ensures { IsTrue result → IsWhole constant.now role.now }
+{
+    match &role.range {
+        None => false,
+        Some(range) => is_first(lin(constant, &range.low)) && is_last(lin(constant, &range.high)),
+    }
+}
+
+/// Whether it is the index 0.
+fn is_first(lin: Option<Lin>) -> bool
+    ensures { IsTrue result → lin ≡ Some first_index }
+{
+    match lin {
+        Some(
+            Lin {
+                base: Base::Fixed,
+                off: 0,
+            },
+        ) => true,
+        Some(_) => false,
+        None => false,
+    }
+}
+
+/// Whether it is the index N - 1.
+fn is_last(lin: Option<Lin>) -> bool
+    ensures { IsTrue result → lin ≡ Some last_index }
+{
+    match lin {
+        Some(
+            Lin {
+                base: Base::Param,
+                off: -1,
+            },
+        ) => true,
+        Some(_) => false,
+        None => false,
+    }
+}
+
+/// A number, or N with an offset. None where another name stands there.
+fn lin(constant: &Name, text: &LinText) -> Option<Lin>
+    ensures { result ≡ lin_of constant.now text.now }
+{
+    match &text.base {
+        None => Some(Lin {
+            base: Base::Fixed,
+            off: text.off,
+        }),
+        Some(spot) => {
+            if spot.name.bytes() == constant.bytes() {
+                Some(Lin {
+                    base: Base::Param,
+                    off: text.off,
+                })
+            } else {
+                None
+            }
+        }
+    }
+}
+
+/// The messages of a block, where each is one of the form that keeps the rules.
+#[tactic(auto, using(crate::proofs::Messages::none_yet))]
+fn messages(
+    alloc: Global,
+    declared: &Declared,
+    range: NRange,
+    list: &[Statement],
+) -> Result<Vec<Message>, FirstFault>
+    ensures all { IfOk result (λ messages. messages_of declared.now (statements_of (map plain_statement list.now)) ≡ Some messages.items) }
+    ensures sound { IfOk result (λ messages. All (IsSoundMessage range) messages.items) }
+    ensures few { IfOk result (λ messages. length messages.items ≤ 4000) }
+{
+    if list.len() > MOST_STATEMENTS {
+        return Err(FirstFault::NotBuilt);
+    }
+    let mut messages = Vec::new(alloc);
+    for statement in list {
+        let Some(message) = declared.sound_message(range, statement) else {
+            return Err(FirstFault::NotBuilt);
+        };
+        messages.push(message)?;
+    }
+    Ok(messages)
 }
 
 impl Declared {
-    fn of(file: &FileTree) -> Result<Declared, FirstFault> {
-        let [text] = file.roles.as_slice() else {
-            return Err(FirstFault::NotBuilt);
-        };
-        let declared = Declared {
-            constant: file.constant.name,
-            protocol: file.protocol.name,
-            role: text.role.name,
-        };
-        if declared.constant == declared.protocol
-            || declared.constant == declared.role
-            || declared.protocol == declared.role
-            || !declared.is_whole(text)?
-        {
-            return Err(FirstFault::NotBuilt);
+    ghost use Rattle.std.specs.Prelude.{◌≡◌, Some, IfSome};
+    ghost use Rattle.pb_syntax.specs.Plain.{plain_statement};
+    ghost use Rattle.pb_local.specs.Names.{is_name};
+    ghost use Rattle.pb_cli.specs.First.{are_apart, are_names, declares, end_of, message_between, message_of, IsSoundMessage};
+
+    fn are_apart(&self) -> bool
+        ensures { result ≡ are_apart self.now }
+    {
+        self.constant.bytes() != self.protocol.bytes()
+            && self.constant.bytes() != self.role.bytes()
+            && self.protocol.bytes() != self.role.bytes()
+    }
+
+    fn are_names(&self) -> bool
+        ensures { result ≡ are_names self.now }
+    {
+        is_name(&self.protocol) && is_name(&self.role)
+    }
+
+    /// The message that a statement is, where it keeps the rules for every N of the range.
+    fn sound_message(&self, range: NRange, statement: &Statement) -> Option<Message>
+        ensures read { IfSome result (λ message. message_of self.now (plain_statement statement.now) ≡ Some message) }
+        ensures sound { IfSome result (IsSoundMessage range) }
+    {
+        match self.message(statement) {
+            Some(message) if is_sound(range, &message) => Some(message),
+            Some(_) | None => None,
         }
-        Ok(declared)
     }
 
-    /// Whether the role's range is `[0..N-1]`.
-    fn is_whole(&self, text: &RoleText) -> Result<bool, FirstFault> {
-        let Some(range) = &text.range else {
-            return Ok(false);
-        };
-        let low = self.lin(&range.low)?;
-        let high = self.lin(&range.high)?;
-        Ok(low == FIRST_INDEX && high == LAST_INDEX)
-    }
-
-    /// The label and the two ends of a message without payload.
-    fn message(&self, statement: &Statement) -> Result<(Name, Lin, Lin), FirstFault> {
+    /// The message that a statement is, where it has no payload and fixed ends.
+    fn message(&self, statement: &Statement) -> Option<Message>
+        ensures { IfSome result (λ message. message_of self.now (plain_statement statement.now) ≡ Some message) }
+    {
         match statement {
             Statement::Message {
                 label,
                 payload: Payload::Unit,
                 from,
                 to,
-            } if !self.declares(label.name) => Ok((label.name, self.end(from)?, self.end(to)?)),
-            _ => Err(FirstFault::NotBuilt),
+            } => self.message_between(&label.name, from, to),
+            _ => None,
         }
     }
 
-    fn declares(&self, name: Name) -> bool {
-        name == self.constant || name == self.protocol || name == self.role
+    fn message_between(&self, label: &Name, from: &End, to: &End) -> Option<Message>
+        ensures { result ≡ message_between self.now label.now (end_of self.now from.now) (end_of self.now to.now) }
+    {
+        if self.declares(label) {
+            return None;
+        }
+        match (self.end(from), self.end(to)) {
+            (Some(from), Some(to)) => Some(Message {
+                label: *label,
+                from,
+                to,
+            }),
+            (Some(_), None) => None,
+            (None, _) => None,
+        }
     }
 
-    fn end(&self, end: &End) -> Result<Lin, FirstFault> {
-        if end.role.name != self.role {
-            return Err(FirstFault::NotBuilt);
+    fn declares(&self, name: &Name) -> bool
+        ensures { result ≡ declares self.now name.now }
+    {
+        name.bytes() == self.constant.bytes()
+            || name.bytes() == self.protocol.bytes()
+            || name.bytes() == self.role.bytes()
+    }
+
+    /// The index of an end, where it is fixed and the role is there.
+    fn end(&self, end: &End) -> Option<Lin>
+        ensures { result ≡ end_of self.now end.now }
+    {
+        if end.role.name.bytes() != self.role.bytes() {
+            return None;
         }
         match &end.index {
-            IndexText::Zero => Ok(FIRST_INDEX),
-            IndexText::At(text) => self.lin(text),
-            IndexText::Bind(_, _) => Err(FirstFault::NotBuilt),
+            IndexText::Zero => Some(FIRST_INDEX),
+            IndexText::At(text) => lin(&self.constant, text),
+            IndexText::Bind(_, _) => None,
         }
     }
+}
 
-    fn lin(&self, text: &LinText) -> Result<Lin, FirstFault> {
-        let base = match text.base {
-            None => Base::Fixed,
-            Some(spot) if spot.name == self.constant => Base::Param,
-            Some(_) => return Err(FirstFault::NotBuilt),
-        };
-        Ok(Lin {
-            base,
-            off: text.off,
-        })
-    }
+fn is_sound(range: NRange, message: &Message) -> bool
+    ensures { IsTrue result → IsSoundMessage range message.now }
+{
+    is_name(&message.label) && keeps_rules(range, message.from, message.to)
 }
 
 /// Whether for every N of the range both ends are indices of the role, and differ.

@@ -1,6 +1,9 @@
-use Rattle.std.proofs.Common.{◌≡◌, drop}
-use Rattle.pb_kernels.specs.Merges.{first_extra}
+use Rattle.std.proofs.Common.{◌≡◌, not, drop}
+use Rattle.std.specs.Prelude.{find}
+use Rattle.pb_kernels.specs.Merges.{first_extra, has_place}
+use Rattle.pb_kernels.specs.Names.{names_of}
 use Rattle.pb_kernels.proofs.merging.first_extra.Given as goal
 
-abbrev pub invariant-loop-body : goal.invariant-loop-body
-invariant-loop-body l = first_extra l.functions l.bodies ≡ first_extra l.functions (drop l.body-index l.bodies)
+abbrev pub invariant-loop-place : goal.invariant-loop-place
+invariant-loop-place l =
+    first_extra l.functions l.file ≡ find (λ name. not (has_place l.functions name)) (drop l.place (names_of l.file))

@@ -1,9 +1,14 @@
-use Rattle.std.proofs.Common.{rules}
-use Rattle.pb_cli.proofs.Messages.{kept_more, length_interned}
+use Rattle.pb_cli.proofs.Messages.{both_named}
 use Rattle.pb_cli.proofs.first.form.first_form.Goals as goal
 
-pub loop-statement-preserved : goal.loop-statement-preserved
-loop-statement-preserved c = record {
-  few = search (rules, length_interned);
-  kept = kept_more _ _ _ _ c.in_ok-push-2.ensures.items c.loop-statement.invariant.kept (search rules);
-}
+pub returns-clause-sound : goal.returns-clause-sound
+returns-clause-sound c =
+    let named = both_named c.in-Some-declared_in.declared c.in-Some-declared_in.ensures.names in
+    record {
+      protocol = named.0;
+      role = named.1;
+      range = c.in-Some.ensures.made;
+      low = c.in-Some.ensures.low;
+      messages = c.in_ok-messages.ensures.sound;
+      few = c.in_ok-messages.ensures.few;
+    }

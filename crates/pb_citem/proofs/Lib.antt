@@ -1,0 +1,9 @@
+pub mod Guards
+pub mod Interning
+pub mod Lines
+pub mod Lookups
+pub mod Numbers
+pub mod Rounds
+pub mod Rows
+pub mod Samples
+pub mod Whole

@@ -1,0 +1,7 @@
+pub mod Fits
+pub mod Guess
+pub mod Head
+pub mod Items
+pub mod Parts
+pub mod Reading
+pub mod Sample
