@@ -1,0 +1,15 @@
+pub mod Small
+pub mod Follow
+pub mod Along
+pub mod Written
+pub mod Branched
+pub mod Grown
+pub mod Steps
+pub mod Closed
+pub mod Balanced
+pub mod Marked
+pub mod Laws
+pub mod LastTest
+pub mod Stacks
+pub mod Plains
+pub mod Unfinished

@@ -1,0 +1,5 @@
+pub mod Marks
+pub mod Reading
+pub mod Fronts
+pub mod Laws
+pub mod Views
