@@ -1,4 +1,4 @@
-use pb_text::Place;
+use pb_text::{NoMemory, Place};
 use thiserror::Error;
 
 /// Why a file has no core.
@@ -10,4 +10,15 @@ pub enum LowerFault {
     /// Memory ran out.
     #[error("NoMemory")]
     NoMemory,
+}
+
+impl From<NoMemory> for LowerFault {
+    ghost use Rattle.std.specs.Prelude.{◌≡◌};
+    ghost use Rattle.pb_core.specs.declared.fault.LowerFault.TheVariants.{NoMemory};
+
+    ghost from_gives = { λ _ e. e ≡ NoMemory };
+
+    fn from(_error: NoMemory) -> LowerFault {
+        LowerFault::NoMemory
+    }
 }
