@@ -1,0 +1,12 @@
+pub mod Bodied
+pub mod Ends
+pub mod Follow
+pub mod Framed
+pub mod Fronts
+pub mod Folds
+pub mod Shapes
+pub mod Sound
+pub mod Texts
+pub mod Turns
+pub mod Waits
+pub mod Wordy

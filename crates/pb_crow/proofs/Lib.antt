@@ -1,0 +1,4 @@
+pub mod Again
+pub mod Guessed
+pub mod RuleParts
+pub mod Strips

@@ -1,0 +1,3 @@
+pub mod Guesses
+pub mod Parts
+pub mod Spelled
