@@ -15,3 +15,4 @@ pub mod Meaning
 pub mod Verdict
 pub mod Parts
 pub mod Cuts
+pub mod Sound
