@@ -13,3 +13,6 @@ pub mod LastTest
 pub mod Stacks
 pub mod Plains
 pub mod Unfinished
+pub mod Relabelled
+pub mod Numbers
+pub mod Fitted

@@ -3,3 +3,5 @@ pub mod Reading
 pub mod Fronts
 pub mod Laws
 pub mod Views
+pub mod Labels
+pub mod Fitting

@@ -1,4 +1,6 @@
 ghost use Rattle.pb_cmain.specs.Laws.{ReadsStatements, ReadsFronts, IsFrontThatIsRead, AreLinesThatAreRead, RefusesNoFront, UnfinishedIsNoWhole, CountsBraces, MarksStatements};
+ghost use Rattle.pb_cmain.specs.Fitting.{FitsWhatGoesOn};
+ghost use Rattle.pb_cmain.specs.Labels.{OnlyOneGoesOn, RelabelledIsLine};
 
 /// The lines of any statements that keep their rules are read to the end, and give these statements and their number.
 #[tactic(auto, using(crate::proofs::Laws::reads_statements))]
@@ -46,4 +48,21 @@ pub fn counts_braces()
 /// Each line has a mark, and as many marks say that a statement begins as there are statements.
 pub fn marks_statements()
     ensures { MarksStatements }
+{}
+
+/// Of the lines with the same text only the relabelled one can go on.
+pub fn only_one_goes_on()
+    ensures { OnlyOneGoesOn }
+{}
+
+/// A line is spelled as before with its new label.
+#[tactic(auto, using(crate::proofs::Relabelled::is_line))]
+pub fn relabelled_is_line()
+    ensures { RelabelledIsLine }
+{}
+
+/// The depth and the numbers of a line that goes on fit 32 bits, and the tables have its rows, as long as at most 50,000
+/// statements have begun and at most 256 braces are open.
+pub fn fits_what_goes_on()
+    ensures { FitsWhatGoesOn }
 {}

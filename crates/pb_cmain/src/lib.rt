@@ -7,6 +7,7 @@ mod brace;
 mod choices;
 mod facts;
 mod kept;
+mod labels;
 mod messages;
 mod reader;
 mod rules;
@@ -15,8 +16,9 @@ mod told;
 mod wanted;
 
 pub use facts::{
-    are_lines_that_are_read, counts_braces, is_front_that_is_read, marks_statements, reads_fronts,
-    reads_statements, refuses_no_front, unfinished_is_no_whole,
+    are_lines_that_are_read, counts_braces, fits_what_goes_on, is_front_that_is_read,
+    marks_statements, only_one_goes_on, reads_fronts, reads_statements, refuses_no_front,
+    relabelled_is_line, unfinished_is_no_whole,
 };
 pub use pb_citem::{Item, Side};
 pub use pb_ctree::{

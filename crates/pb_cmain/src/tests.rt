@@ -1,4 +1,4 @@
-use super::{Base, Guard, Guards, Item, Lin, Local, NoMemory, Payload, Peer, Reader};
+use super::{Base, Guard, Guards, Item, Lin, Local, NoMemory, Op, Payload, Peer, Reader, Side};
 use pb_local::{CoreKernel, CoreLabel, KernelKind, NRange, Name, Role};
 use std::alloc::Global;
 use std::test::Fail;
@@ -98,6 +98,24 @@ fn reads_a_choice(rt: HostRuntime) -> Result<(), Fail> {
     assert!(rt; reader.take(alloc, &local, 1, Item::ElseOpen)?);
     assert!(rt; reader.take(alloc, &local, 1, Item::Close)?);
     assert_eq!(rt; reader.statements(), 2);
+    assert!(rt; reader.finish().is_some());
+    Ok(())
+}
+
+#[test]
+fn reads_a_reduction_whose_label_is_not_spelled(rt: HostRuntime) -> Result<(), Fail> {
+    let alloc = rt.alloc();
+    let mut local = tables(alloc)?;
+    let name = Name::of(b"Q").ok_or(NoMemory)?;
+    let payload = Payload::Uint32(2);
+    local.labels.push(CoreLabel { name, payload })?;
+    let mut reader = Reader::new(alloc);
+    let op = Op::Sum;
+    let side = Side::Incoming;
+    assert!(rt; reader.take(alloc, &local, 1, Item::Makes { label: 1 })?);
+    let item = reader.relabelled(&local, Item::Allreduces { label: 0, op });
+    assert!(rt; reader.take(alloc, &local, 1, item)?);
+    assert!(rt; reader.take(alloc, &local, 1, Item::Takes { label: 1, side })?);
     assert!(rt; reader.finish().is_some());
     Ok(())
 }
