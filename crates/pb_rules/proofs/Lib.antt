@@ -1,0 +1,16 @@
+pub mod Steps
+pub mod CutSteps
+pub mod Lists
+pub mod Places
+pub mod Order
+pub mod Best
+pub mod Seats
+pub mod Reaches
+pub mod Strays
+pub mod Alikes
+pub mod RoleRule
+pub mod Good
+pub mod Sitewise
+pub mod CutsSound
+pub mod Whole
+pub mod Answered
