@@ -1,5 +1,5 @@
 -- Where the statements don't come next, some line is ahead.
-use Rattle.std.proofs.Common.{◌≡◌, ℕ, Bool, true, false, List, [], ◌∷◌, ◌++◌, map, Option, Some, None, refl, sym, ap, subst, ◌∙◌}
+use Rattle.std.proofs.Common.{◌≡◌, ℕ, Bool, false, List, [], ◌∷◌, ◌++◌, map, Option, Some, None, refl, sym, ap, subst, ◌∙◌}
 use Rattle.std.specs.Prelude.{not}
 use Rattle.pb_syntax.specs.declared.core_label.CoreLabel.{CoreLabel}
 use Rattle.pb_syntax.specs.declared.core_label.CoreKernel.{CoreKernel}
@@ -7,11 +7,11 @@ use Rattle.pb_local.specs.declared.tables.Role.{Role}
 use Rattle.pb_ctree.specs.Bodies.{is_marker, lines_of}
 use Rattle.pb_ctree.specs.Lines.{line, raw}
 use Rattle.pb_ctree.specs.Rules.{has_size}
-use Rattle.pb_cframe.specs.Ahead.{Shown, sure, show, Rest, Known, known, kernels_from, labels_from, roles_from, ruled, ahead_at, ahead, Whole, whole}
+use Rattle.pb_cframe.specs.Ahead.{Shown, sure, show, Rest, Known, known, kernels_from, labels_from, roles_from, ruled, ahead_at, ahead, whole}
 use Rattle.pb_cframe.specs.Laws.{then_read, read, Begins}
-use Rattle.pb_cframe.specs.Reading.{Phase, at_protocol, at_range, at_roles, at_labels, in_body, at_kernels, at_statements, Read, State, state, end_text, step_at, step, is_statements, done_at, is_done}
+use Rattle.pb_cframe.specs.Reading.{Phase, at_protocol, at_range, at_roles, at_labels, in_body, at_kernels, at_statements, Read, State, end_text, step_at, step, is_statements, done_at, is_done}
 use Rattle.pb_crow.specs.Spelled.{names_of_roles, names_of_labels, names_of_kernels, tables}
-use Rattle.pb_cframe.specs.Steps.{Arrives, Follows, GoesAlong, FollowsAll}
+use Rattle.pb_cframe.specs.Steps.{GoesAlong}
 use Rattle.pb_cframe.proofs.Follow.{follows_all}
 use Rattle.pb_cframe.proofs.Turns.{some_same, not_none}
 

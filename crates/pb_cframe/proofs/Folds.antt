@@ -1,10 +1,9 @@
 -- Lines one after the other.
-use Rattle.std.proofs.Common.{◌≡◌, ℕ, suc, ◌+◌, ◌<◌, List, [], ◌∷◌, ◌++◌, map, length, drop, Option, Some, None, refl, sym, ap, subst, ◌∙◌, arith, Bool, true, false}
-use Rattle.std.specs.Prelude.{All, if◌then◌else◌, not, codes}
+use Rattle.std.proofs.Common.{◌≡◌, ℕ, suc, ◌+◌, List, [], ◌∷◌, ◌++◌, map, Option, Some, None, refl, sym, ap, subst, ◌∙◌, arith, Bool, true, false}
+use Rattle.std.specs.Prelude.{if◌then◌else◌, not, codes}
 use Rattle.pb_local.specs.Names.{is_name}
 use Rattle.pb_local.specs.Pieces as P
 use Rattle.pb_ctree.specs.Rules.{is_range, has_size, is_kernel_row}
-use Rattle.std.proofs.Common.{get_or}
 use Rattle.pb_syntax.specs.declared.core_label.CoreLabel.{CoreLabel}
 use Rattle.pb_syntax.specs.declared.core_label.CoreKernel.{CoreKernel}
 use Rattle.pb_affine.specs.declared.range.NRange.{NRange}
@@ -12,15 +11,15 @@ use Rattle.pb_local.specs.declared.tables.Role.{Role}
 use Rattle.pb_local.specs.Ranks.{Sum, ranks_of, bases_of, places_of}
 use Rattle.pb_local.specs.Tree.{Program}
 use Rattle.pb_ctree.specs.Bodies.{is_marker, lines_of}
-use Rattle.pb_ctree.specs.Frame.{words, range_text, role_lines, label_lines, buffer_lines, with_rule, head_lines, prelude_lines, number_lines, kernel_lines, words_lines, kernels_after, function_lines, make_head, take_head, kernel_head, kernel_letter, first_body, other_bodies, start_lines, size_lines, seat_lines, text_lines, body_lines}
+use Rattle.pb_ctree.specs.Frame.{words, range_text, role_lines, label_lines, buffer_lines, with_rule, head_lines, prelude_lines, number_lines, kernel_lines, words_lines, kernels_after, function_lines, make_head, take_head, kernel_head, kernel_letter, first_body, other_bodies, start_lines, size_lines, seat_lines, body_lines}
 use Rattle.pb_ctree.specs.Functions.{has_words}
 use Rattle.pb_ctree.specs.Lines.{Line, line, raw}
-use Rattle.pb_cframe.specs.Ahead.{Shown, shown, sure, show, Rest, ahead, Whole, whole}
-use Rattle.pb_cframe.specs.Frames.{main_start, frame_lines, behind_frame, rest_of, shown_of}
+use Rattle.pb_cframe.specs.Ahead.{Shown, sure, show, ahead, Whole, whole}
+use Rattle.pb_cframe.specs.Frames.{main_start, frame_lines, behind_frame, shown_of}
 use Rattle.pb_cframe.specs.Laws.{then_read, read, Begins, IsRead, ReadsFronts, IsFrontOf, AreFrontsThatAreRead, RefusesNoFront, StartsTexts}
-use Rattle.pb_cframe.specs.Reading.{State, start, step}
+use Rattle.pb_cframe.specs.Reading.{State, step}
 use Rattle.pb_cframe.specs.Rows.{is_line}
-use Rattle.pb_cframe.specs.Steps.{Arrives, Follows, GoesAlong, FollowsAll, Comes, IsSound}
+use Rattle.pb_cframe.specs.Steps.{Arrives, Follows, GoesAlong}
 use Rattle.pb_cframe.proofs.Follow.{follows_all}
 use Rattle.pb_cframe.proofs.Sound.{is_sound}
 use Rattle.pb_cframe.proofs.Framed.{text_is, frame_ahead}

@@ -1,6 +1,6 @@
 -- Each program's lines are gone along, as long as they keep their rules.
-use Rattle.std.proofs.Common.{◌≡◌, ℕ, Bool, true, false, cond, List, [], ◌∷◌, ◌++◌, map, Option, Some, None, refl, sym, ap, subst, ◌∙◌, append_assoc, append-nil}
-use Rattle.std.specs.Prelude.{◌&&◌, not, if◌then◌else◌, codes, drop}
+use Rattle.std.proofs.Common.{◌≡◌, ℕ, Bool, true, false, List, [], ◌∷◌, ◌++◌, map, None, refl, sym, ap, subst, ◌∙◌, append_assoc, append-nil}
+use Rattle.std.specs.Prelude.{not, if◌then◌else◌, codes, drop}
 use Rattle.pb_syntax.specs.declared.core_label.CoreLabel.{CoreLabel}
 use Rattle.pb_syntax.specs.declared.core_label.CoreKernel.{CoreKernel}
 use Rattle.pb_local.specs.declared.tables.Role.{Role}
@@ -11,9 +11,9 @@ use Rattle.pb_ctree.specs.Frame.{kernel_head, kernel_letter, kernel_lines, funct
 use Rattle.pb_ctree.specs.Functions.{has_words}
 use Rattle.pb_ctree.specs.Lines.{raw, line}
 use Rattle.pb_ctree.specs.Rules.{is_range, is_role, has_size, is_label_row, is_kernel_row}
-use Rattle.pb_cframe.specs.Ahead.{Shown, shown, sure, show, Rest, Known, known, kernels_from, words_from, body_from, ended_from, prelude_from, labels_from, ruled, roles_from, roles_ahead, range_ahead, ahead_at, ahead, Whole, lines_text, spelled_body, kernel_bodies, words_bodies, in_tables, in_functions, in_open_body, prelude_in, bodies_in, goes_on_with, whole_at, whole}
+use Rattle.pb_cframe.specs.Ahead.{Shown, shown, sure, show, Rest, Known, known, kernels_from, words_from, body_from, ended_from, labels_from, ruled, roles_from, ahead_at, Whole, lines_text, spelled_body, kernel_bodies, words_bodies, in_tables, in_functions, in_open_body, goes_on_with, whole_at}
 use Rattle.pb_crow.specs.Guesses.{protocol_guess, range_guess, role_guess, label_guess, kernel_guess, if_spelled}
-use Rattle.pb_cframe.specs.Reading.{Owner, of_prelude, of_make, of_take, of_kernel, Phase, at_protocol, at_range, at_roles, at_labels, in_body, at_kernels, at_statements, Read, State, state, end_text, brace_text, number_texts, make_opening, take_opening, kernel_opening, main_texts, to_words, with_body, ended, body_step, protocol_step, range_step, include_text, main_text, label_step, with_label, with_role, with_kernel, free_step, step_at, step}
+use Rattle.pb_cframe.specs.Reading.{Owner, of_prelude, of_make, of_take, of_kernel, Phase, at_protocol, at_range, at_roles, at_labels, in_body, at_kernels, at_statements, Read, state, end_text, brace_text, number_texts, make_opening, kernel_opening, main_texts, to_words, with_body, ended, body_step, protocol_step, range_step, include_text, label_step, with_label, with_role, with_kernel, free_step, step_at}
 use Rattle.pb_crow.specs.Spelled.{names_of_roles, names_of_labels, names_of_kernels, tables, protocol_text, range_line, role_line, label_line, kernel_line}
 use Rattle.pb_cframe.specs.Steps.{Arrives, Follows, GoesAlong, FollowsAll}
 use Rattle.pb_crow.proofs.Again.{and_left, and_right, not_false}

@@ -1,25 +1,23 @@
 -- A program's text is the lines before its statements, which are ahead of the start, and then the others.
 use Rattle.std.proofs.Common.{◌≡◌, ℕ, ◌+◌, Bool, true, false, List, [], ◌∷◌, ◌++◌, map, refl, sym, ap, ◌∙◌, append_assoc}
-use Rattle.std.specs.Prelude.{◌&&◌, if◌then◌else◌, not, codes}
-use Rattle.pb_affine.specs.declared.range.NRange.{NRange}
+use Rattle.std.specs.Prelude.{if◌then◌else◌, codes}
 use Rattle.pb_syntax.specs.declared.core_label.CoreLabel.{CoreLabel}
 use Rattle.pb_syntax.specs.declared.core_label.CoreKernel.{CoreKernel}
 use Rattle.pb_local.specs.declared.tables.Role.{Role}
 use Rattle.pb_local.specs.Ranks.{Sum, ranks_of, bases_of, places_of}
 use Rattle.pb_local.specs.Tree.{Program}
 use Rattle.pb_local.specs.WellMade.{outermost}
-use Rattle.pb_ctree.specs.Bodies.{is_marker, lines_of}
-use Rattle.pb_ctree.specs.Frame.{words, range_text, role_lines, label_lines, buffer_lines, with_rule, head_lines, body_lines, prelude_lines, number_lines, kernel_lines, words_lines, kernels_after, start_lines, size_lines, seat_lines, end_lines, main_lines, text_lines, other_bodies, first_body, kernel_head, kernel_letter, function_lines}
+use Rattle.pb_ctree.specs.Frame.{words, range_text, role_lines, label_lines, buffer_lines, with_rule, head_lines, body_lines, prelude_lines, number_lines, words_lines, kernels_after, start_lines, size_lines, seat_lines, end_lines, text_lines, other_bodies}
 use Rattle.pb_ctree.specs.Functions.{has_words}
 use Rattle.pb_ctree.specs.Lines.{Line, line, raw}
 use Rattle.pb_ctree.specs.Rules.{has_size, is_range}
 use Rattle.pb_local.specs.Names.{is_name}
 use Rattle.pb_local.specs.Pieces as P
 use Rattle.pb_ctree.specs.Spelling.{spelled_all}
-use Rattle.pb_cframe.specs.Ahead.{Shown, shown, sure, show, Rest, Known, kernels_from, words_from, body_from, ended_from, prelude_from, labels_from, ruled, roles_from, ahead}
+use Rattle.pb_cframe.specs.Ahead.{Shown, sure, show, Known, kernels_from, words_from, body_from, ruled, ahead}
 use Rattle.pb_cframe.specs.Frames.{main_start, frame_lines, behind_frame, rest_of}
-use Rattle.pb_cframe.specs.Reading.{of_prelude, text_at, prelude_text, end_text, number_texts, main_texts, start}
-use Rattle.pb_crow.specs.Spelled.{names_of_kernels, tables}
+use Rattle.pb_cframe.specs.Reading.{text_at, prelude_text, end_text, number_texts, main_texts, start}
+use Rattle.pb_crow.specs.Spelled.{names_of_kernels}
 use Rattle.pb_cframe.proofs.Shapes.{map_both, same_first}
 
 -- text_lines is cut where the statements begin

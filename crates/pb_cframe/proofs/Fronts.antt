@@ -1,15 +1,15 @@
 -- Lines that are read begin a spelling, and with a line that may not stand behind them they begin none.
-use Rattle.std.proofs.Common.{◌≡◌, ℕ, suc, ◌<◌, true, false, List, [], ◌∷◌, ◌++◌, map, Option, Some, None, refl, sym, ap, subst, ◌∙◌, append_assoc, arith}
+use Rattle.std.proofs.Common.{◌≡◌, ℕ, suc, true, List, [], ◌∷◌, ◌++◌, map, None, sym, ap, subst, ◌∙◌, append_assoc, arith}
 use Rattle.std.specs.Prelude.{All}
 use Rattle.std.proofs.lemmas.List.{append_cancel_right}
 use Rattle.pb_local.specs.Tree.{Program, nothing}
 use Rattle.pb_ctree.specs.Frame.{text_lines}
 use Rattle.pb_ctree.specs.Lines.{Line}
-use Rattle.pb_ctree.specs.Texts.{line_bytes, line_text, Starts, IsFront}
+use Rattle.pb_ctree.specs.Texts.{line_bytes, line_text, Starts}
 use Rattle.pb_cframe.specs.Ahead.{Shown, sure, Rest, ahead}
 use Rattle.pb_cframe.specs.Frames.{behind_frame, rest_of, shown_of}
-use Rattle.pb_cframe.specs.Laws.{read, Begins, AreFronts, AreNoFronts}
-use Rattle.pb_cframe.specs.Reading.{start, start_with}
+use Rattle.pb_cframe.specs.Laws.{Begins, AreFronts, AreNoFronts}
+use Rattle.pb_cframe.specs.Reading.{start_with}
 use Rattle.pb_cframe.specs.Rows.{is_line, bare}
 use Rattle.pb_cframe.proofs.Ends.{refused_in}
 use Rattle.pb_cframe.proofs.Folds.{fronts_read, starts_texts}

@@ -4,6 +4,7 @@ pub mod Follow
 pub mod Framed
 pub mod Fronts
 pub mod Folds
+pub mod Named
 pub mod Shapes
 pub mod Sound
 pub mod Texts

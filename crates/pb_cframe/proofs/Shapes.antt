@@ -1,11 +1,11 @@
 -- How the lines of bodies and functions stand one after the other.
-use Rattle.std.proofs.Common.{◌≡◌, ℕ, Bool, true, false, List, [], ◌∷◌, ◌++◌, map, refl, sym, ap, ◌∙◌, append_assoc, append-nil, eqb-true, nat_eq}
-use Rattle.std.specs.Prelude.{if◌then◌else◌, codes, ◌&&◌}
+use Rattle.std.proofs.Common.{◌≡◌, ℕ, Bool, true, false, List, [], ◌∷◌, ◌++◌, map, refl, sym, ap, ◌∙◌, append_assoc, eqb-true, nat_eq}
+use Rattle.std.specs.Prelude.{if◌then◌else◌, codes}
 use Rattle.pb_local.specs.Pieces as P
 use Rattle.pb_ctree.specs.Bodies.{is_marker, before_lines, lines_of}
 use Rattle.pb_ctree.specs.Frame.{body_lines, function_lines}
-use Rattle.pb_cframe.specs.Ahead.{Shown, shown, sure, show, body_from, lines_text, goes_on_with}
-use Rattle.pb_cframe.specs.Reading.{brace_text, opening}
+use Rattle.pb_cframe.specs.Ahead.{Shown, shown, sure, show, body_from, goes_on_with}
+use Rattle.pb_cframe.specs.Reading.{brace_text}
 use Rattle.pb_cframe.specs.Rows.{is_nothing, is_line, bare}
 
 pub map_push : {A B : Type 0} (f : A → B) (xs : List A) (x : A) → map f (xs ++ x ∷ []) ≡ map f xs ++ f x ∷ []

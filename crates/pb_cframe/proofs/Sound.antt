@@ -1,6 +1,6 @@
 -- Each step is a line of some program's text, which keeps its rule.
 use Rattle.std.proofs.Common.{◌≡◌, ℕ, Bool, true, false, cond, List, [], ◌∷◌, ◌++◌, map, Option, Some, None, refl, sym, ap, subst, ◌∙◌, append_assoc, append-nil}
-use Rattle.std.specs.Prelude.{◌&&◌, not, if◌then◌else◌, codes, drop}
+use Rattle.std.specs.Prelude.{not, if◌then◌else◌, codes, drop}
 use Rattle.pb_affine.specs.declared.range.NRange.{NRange}
 use Rattle.pb_syntax.specs.declared.core_label.CoreLabel.{CoreLabel}
 use Rattle.pb_syntax.specs.declared.core_label.CoreKernel.{CoreKernel}
@@ -12,14 +12,13 @@ use Rattle.pb_ctree.specs.Frame.{kernel_letter, first_body, other_bodies, words_
 use Rattle.pb_ctree.specs.Functions.{has_words}
 use Rattle.pb_ctree.specs.Lines.{raw, line}
 use Rattle.pb_ctree.specs.Rules.{is_range, is_role, has_size, is_label_row, is_kernel_row}
-use Rattle.pb_cframe.specs.Ahead.{Shown, shown, sure, show, Rest, Known, known, kernels_from, words_from, body_from, ended_from, labels_from, ruled, roles_from, range_ahead, roles_ahead, ahead_at, ahead, Whole, lines_text, spelled_body, kernel_bodies, words_bodies, in_tables, in_functions, in_open_body, prelude_in, bodies_in, goes_on_with, whole_at, whole}
+use Rattle.pb_cframe.specs.Ahead.{Shown, shown, sure, show, Rest, known, kernels_from, words_from, body_from, ended_from, labels_from, ruled, roles_from, range_ahead, roles_ahead, ahead_at, ahead, Whole, lines_text, spelled_body, kernel_bodies, words_bodies, in_tables, in_functions, in_open_body, goes_on_with, whole_at, whole}
 use Rattle.pb_crow.specs.Guesses.{protocol_guess, range_guess, role_guess, label_guess, kernel_guess, if_spelled}
-use Rattle.pb_cframe.specs.Reading.{Owner, of_prelude, of_make, of_take, of_kernel, Phase, at_protocol, at_range, at_roles, at_labels, in_body, at_kernels, at_statements, Read, State, state, end_text, brace_text, number_texts, make_opening, take_opening, kernel_opening, main_texts, to_words, with_body, ended, body_step, protocol_step, range_step, include_text, prelude_text, buffer_texts, main_text, buffers_step, label_step, with_label, with_role, main_step, with_kernel, free_step, same_line, step_at, step}
+use Rattle.pb_cframe.specs.Reading.{Owner, of_prelude, of_make, of_take, of_kernel, Phase, at_protocol, at_range, at_roles, at_labels, in_body, at_kernels, at_statements, Read, State, state, end_text, brace_text, number_texts, make_opening, kernel_opening, main_texts, to_words, with_body, ended, body_step, protocol_step, range_step, include_text, prelude_text, buffer_texts, main_text, buffers_step, label_step, with_label, with_role, main_step, with_kernel, free_step, same_line, step_at}
 use Rattle.pb_crow.specs.Spelled.{names_of_roles, names_of_labels, names_of_kernels, tables, protocol_text, range_line, role_line, label_line, kernel_line}
 use Rattle.pb_cframe.specs.Rows.{is_line, bare}
 use Rattle.pb_cframe.specs.Steps.{Comes, IsSound}
-use Rattle.pb_crow.proofs.Again.{and_left, and_right, not_false}
-use Rattle.pb_cframe.proofs.Shapes.{map_push, map_both, push_more, function_shown, line_is, line_lines, marker_line, goes_on_nothing}
+use Rattle.pb_cframe.proofs.Shapes.{map_push, map_both, push_more, line_is, line_lines, marker_line, goes_on_nothing}
 use Rattle.pb_cframe.proofs.Turns.{same_is, some_same, not_none, cond_true, cond_some, spelled_is, shown_sure, words_shown}
 use Rattle.pb_cframe.proofs.Follow.{pushed, kernel_shown}
 

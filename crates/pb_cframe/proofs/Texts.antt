@@ -7,8 +7,6 @@ use Rattle.std.specs.Prelude.{codes}
 use Rattle.pb_affine.specs.declared.range.NRange.{NRange}
 use Rattle.pb_syntax.specs.declared.core_label.CoreKernel.{CoreKernel}
 use Rattle.pb_syntax.specs.declared.core_label.CoreLabel.{CoreLabel}
-use Rattle.pb_syntax.specs.declared.core_label.KernelKind.{KernelKind}
-use Rattle.pb_syntax.specs.declared.core_label.KernelKind.TheVariants.{Compute as Computes, Choice as Chooses}
 use Rattle.pb_local.specs.declared.tables.Role.{Role}
 use Rattle.pb_local.specs.Pieces as P
 use Rattle.pb_local.specs.Ranks.{Sum, ranks_of, bases_of, places_of}

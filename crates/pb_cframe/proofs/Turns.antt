@@ -1,8 +1,7 @@
 -- Small facts on tests and options.
-use Rattle.std.proofs.Common.{◌≡◌, ℕ, Bool, true, false, cond, List, [], ◌∷◌, ◌++◌, Option, Some, None, refl, sym, ap, subst, ◌∙◌, eq-eqb, eqb-true, nat_eq}
+use Rattle.std.proofs.Common.{◌≡◌, ℕ, Bool, true, false, cond, List, [], ◌∷◌, ◌++◌, Option, Some, None, refl, ap, subst, ◌∙◌, eq-eqb, eqb-true, nat_eq}
 use Rattle.std.specs.Prelude.{◌&&◌, codes}
 use Rattle.std.specs.Cmp.Lexicographic.{pointwise}
-use Rattle.pb_local.specs.Pieces as P
 use Rattle.pb_syntax.specs.declared.core_label.CoreLabel.{CoreLabel}
 use Rattle.pb_ctree.specs.Frame.{words_lines, function_lines, make_head, take_head, first_body, other_bodies}
 use Rattle.pb_cframe.specs.Ahead.{Shown, shown, sure, show, body_from}

@@ -1,10 +1,10 @@
 -- The next line that is awaited.
-use Rattle.std.proofs.Common.{◌≡◌, ℕ, zero, suc, ◌+◌, ◌<◌, ◌≤◌, List, [], ◌∷◌, map, drop, length, refl, sym, ap, ◌∙◌, arith, add-one, Option, Some, None}
+use Rattle.std.proofs.Common.{◌≡◌, ℕ, zero, suc, ◌+◌, ◌<◌, ◌≤◌, List, [], ◌∷◌, drop, length, refl, sym, ap, ◌∙◌, arith, add-one, Some, None}
 use Rattle.std.specs.Prelude.{slice_get}
 use Rattle.std.proofs.Common.{get_or, drop-cons}
 use Rattle.std.specs.Global.{Vec}
 use Rattle.std.proofs.Common.{Bool, false}
-use Rattle.pb_cframe.specs.Reading.{Read, Phase, State, state, same_line, free_step, step_at, done_at, is_statements}
+use Rattle.pb_cframe.specs.Reading.{Read, Phase, state, same_line, free_step, step_at, done_at, is_statements}
 use Rattle.pb_local.specs.declared.tables.Role.{Role}
 use Rattle.pb_ctree.specs.Sums.{HasSmallEnds}
 use Rattle.std.specs.Prelude.{All, if◌then◌else◌}

@@ -1,5 +1,5 @@
 -- The functions of the first label with words come next.
-use Rattle.std.proofs.Common.{◌≡◌, ℕ, Bool, true, false, List, [], ◌∷◌, ◌++◌, Option, Some, None, refl, sym, ap, ◌∙◌, drop}
+use Rattle.std.proofs.Common.{◌≡◌, ℕ, Bool, true, false, List, [], ◌∷◌, ◌++◌, Some, refl, sym, ap, ◌∙◌, drop}
 use Rattle.std.specs.Prelude.{if◌then◌else◌}
 use Rattle.pb_syntax.specs.declared.core_label.CoreLabel.{CoreLabel}
 use Rattle.pb_ctree.specs.Functions.{has_words}

@@ -1,11 +1,10 @@
 -- What the lines behind a state spell, where the rest of the program is this.
-use Rattle.std.specs.Prelude.{ℕ, Bool, true, ◌&&◌, List, [], ◌∷◌, ◌++◌, map, codes, if◌then◌else◌}
+use Rattle.std.specs.Prelude.{ℕ, Bool, true, ◌&&◌, List, [], ◌∷◌, ◌++◌, map, if◌then◌else◌}
 use Rattle.pb_affine.specs.declared.range.NRange.{NRange}
 use Rattle.pb_syntax.specs.declared.core_label.CoreLabel.{CoreLabel}
 use Rattle.pb_syntax.specs.declared.core_label.CoreKernel.{CoreKernel}
 use Rattle.pb_local.specs.declared.tables.Role.{Role}
 use Rattle.pb_local.specs.Names.{is_name}
-use Rattle.pb_local.specs.Pieces as P
 use Rattle.pb_ctree.specs.Bodies.{lines_of}
 use Rattle.pb_ctree.specs.Frame.{role_lines, label_lines, buffer_lines, body_lines, kernel_lines, words_lines, first_body, other_bodies}
 use Rattle.pb_ctree.specs.Functions.{has_words}

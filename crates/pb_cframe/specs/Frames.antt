@@ -1,9 +1,9 @@
 -- The lines of a text before its statements.
-use Rattle.std.specs.Prelude.{◌≡◌, ℕ, List, [], ◌∷◌, ◌++◌, map}
+use Rattle.std.specs.Prelude.{ℕ, List, [], ◌++◌}
 use Rattle.pb_local.specs.Ranks.{ranks_of, bases_of, places_of}
 use Rattle.pb_local.specs.Tree.{Program}
 use Rattle.pb_local.specs.WellMade.{outermost}
-use Rattle.pb_ctree.specs.Frame.{head_lines, prelude_lines, number_lines, kernels_after, start_lines, size_lines, seat_lines, end_lines, text_lines}
+use Rattle.pb_ctree.specs.Frame.{head_lines, prelude_lines, number_lines, kernels_after, start_lines, size_lines, seat_lines, end_lines}
 use Rattle.pb_ctree.specs.Lines.{Line}
 use Rattle.pb_ctree.specs.Spelling.{spelled_all}
 use Rattle.pb_ctree.specs.Texts.{line_text}

@@ -3,8 +3,8 @@ use Rattle.std.specs.Prelude.{◌≡◌, ℕ, true, false, List, [], ◌∷◌, 
 use Rattle.pb_local.specs.Tree.{Program}
 use Rattle.pb_ctree.specs.Frame.{text_lines}
 use Rattle.pb_ctree.specs.Texts.{IsFront}
-use Rattle.pb_cframe.specs.Ahead.{Shown, sure, show, Rest, ahead, Whole, whole}
-use Rattle.pb_cframe.specs.Frames.{frame_lines, behind_frame, rest_of, shown_of}
+use Rattle.pb_cframe.specs.Ahead.{Shown, sure, Rest, ahead, Whole, whole}
+use Rattle.pb_cframe.specs.Frames.{behind_frame, rest_of, shown_of}
 use Rattle.pb_cframe.specs.Reading.{State, start, start_with, step, is_done}
 use Rattle.pb_cframe.specs.Rows.{is_line, bare}
 use Rattle.pb_cframe.specs.Steps.{Arrives}

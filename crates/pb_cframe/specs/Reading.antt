@@ -1,5 +1,5 @@
 -- Reading the lines before the statements, each with its line feed, one after the other.
-use Rattle.std.specs.Prelude.{ℕ, Bool, true, false, not, ◌&&◌, nat_eq, cond, List, [], ◌∷◌, ◌++◌, map, drop, Option, Some, None, codes, if◌then◌else◌}
+use Rattle.std.specs.Prelude.{ℕ, Bool, true, false, nat_eq, cond, List, [], ◌∷◌, ◌++◌, map, drop, Option, Some, None, codes, if◌then◌else◌}
 use Rattle.std.specs.Cmp.Lexicographic.{pointwise}
 use Rattle.pb_affine.specs.declared.range.NRange.{NRange}
 use Rattle.pb_syntax.specs.declared.core_label.CoreLabel.{CoreLabel}
@@ -10,10 +10,10 @@ use Rattle.pb_local.specs.Pieces as P
 use Rattle.pb_local.specs.Ranks.{Sum, ranks_of, bases_of, places_of}
 use Rattle.pb_local.specs.Tree.{Program, nothing}
 use Rattle.pb_ctree.specs.Bodies.{is_marker}
-use Rattle.pb_ctree.specs.Frame.{words, range_text, role_text, label_text, buffer_lines, number_lines, make_head, take_head, kernel_letter, kernel_head, start_lines, size_lines, seat_lines, n_text}
+use Rattle.pb_ctree.specs.Frame.{buffer_lines, number_lines, make_head, take_head, kernel_letter, kernel_head, start_lines, size_lines, seat_lines, n_text}
 use Rattle.pb_ctree.specs.Functions.{has_words}
 use Rattle.pb_ctree.specs.Lines.{Line}
-use Rattle.pb_ctree.specs.Rules.{is_offset, is_var, is_range, is_role, has_size, is_label_row, is_kernel_row}
+use Rattle.pb_ctree.specs.Rules.{is_range, is_role, has_size, is_label_row, is_kernel_row}
 use Rattle.pb_ctree.specs.Texts.{line_text}
 use Rattle.pb_crow.specs.Guesses.{protocol_guess, range_guess, role_guess, label_guess, kernel_guess, if_spelled}
 use Rattle.pb_crow.specs.Spelled.{names_of_roles, names_of_labels, names_of_kernels, tables, protocol_text, range_line, role_line, label_line, kernel_line}

@@ -1,5 +1,5 @@
 -- The reader, and the lines that it awaits.
-use Rattle.std.specs.Prelude.{◌≡◌, ℕ, ◌≤◌, Bool, true, false, List, [], ◌∷◌, ◌++◌, map, drop, length, Option, Some, None, if◌then◌else◌}
+use Rattle.std.specs.Prelude.{◌≡◌, ℕ, ◌≤◌, Bool, true, List, map, drop, length, Option, Some, None, if◌then◌else◌}
 use Rattle.std.specs.Global.{Vec}
 use Rattle.std.specs.List.{All}
 use Rattle.pb_local.specs.declared.tables.Local.{Local}
@@ -10,8 +10,8 @@ use Rattle.pb_cframe.specs.declared.reader.Phase.TheVariants.{Protocol, Range, R
 use Rattle.pb_cframe.specs.declared.reader.Owner.{Owner}
 use Rattle.pb_cframe.specs.declared.reader.Owner.TheVariants.{Prelude, Make, Take, Kernel}
 use Rattle.pb_cframe.specs.declared.reader.FrameReader.{FrameReader}
+use Rattle.pb_crow.specs.Spelled.{names_of_roles, names_of_labels, names_of_kernels}
 use Rattle.pb_cframe.specs.Reading as R
-use Rattle.pb_cframe.specs.Rows.{is_line}
 
 abbrev pub texts_of : List (Vec ℕ) → List (List ℕ)
 texts_of lines = map (λ l. l.items) lines
@@ -46,11 +46,14 @@ read_of r = record {
 abbrev pub state_of : FrameReader → R.State
 state_of r = R.state (read_of r) (drop r.at (texts_of r.awaited.items)) (phase_of r.local r.phase)
 
--- what the reader keeps of its roles and of the body that is open
+-- what the reader keeps of its rows and of the body that is open
 pub record IsReader (r : FrameReader) : Type 0 where
   pub few : length r.local.roles.items ≤ 64
   pub small : All HasSmallEnds r.local.roles.items
   pub body : is_body r.text.items ≡ true
+  pub named_roles : r.role_names ≡ names_of_roles r.local.roles.items
+  pub named_labels : r.label_names ≡ names_of_labels r.local.labels.items
+  pub named_kernels : r.kernel_names ≡ names_of_kernels r.local.kernels.items
 
 -- whether the line went on, and to which state
 abbrev pub Went : Option R.State → Bool → R.State → Type 0

@@ -17,6 +17,7 @@ use pb_crow::{
     has_size, number_roles, read_kernel, read_label, read_protocol, read_range, read_role,
 };
 use pb_ctree::{Body, CoreLabel, Local, NRange, Name, NoMemory, Role, has_words};
+use pb_text::Names;
 use std::alloc::Global;
 use std::mem;
 
@@ -48,6 +49,9 @@ pub struct FrameReader {
     pub local: Local,
     pub prelude: Body,
     pub bodies: Vec<Body>,
+    pub(crate) role_names: Names,
+    pub(crate) label_names: Names,
+    pub(crate) kernel_names: Names,
     pub(crate) text: Vec<u8>,
     pub(crate) awaited: Vec<Vec<u8>>,
     pub(crate) at: usize,
@@ -145,6 +149,9 @@ impl FrameReader {
             local,
             prelude: no_body(alloc),
             bodies: Vec::new(alloc),
+            role_names: Names::new(alloc),
+            label_names: Names::new(alloc),
+            kernel_names: Names::new(alloc),
             text: Vec::new(alloc),
             awaited: title(alloc)?,
             at: 0,

@@ -3,6 +3,7 @@
 ghost use Rattle.std.specs.Prelude.{◌≡◌, ◌≤◌, ◌<◌, ◌+◌, IfSome, MatchOption, if◌then◌else◌, cond, ◌++◌, ◌∷◌, [], true, false, IfOk, OnOk, None, Some, length, drop, codes};
 ghost use Rattle.pb_ctree.specs.Sums.{HasSmallEnds};
 ghost use Rattle.pb_ctree.specs.Bodies.{is_body, is_marker};
+ghost use Rattle.pb_crow.specs.Spelled.{names_of_roles, names_of_labels, names_of_kernels, IsFresh};
 ghost use Rattle.pb_cframe.specs.Rows.{is_line};
 ghost use Rattle.pb_cframe.specs.Reading as R;
 ghost use Rattle.pb_cframe.specs.Reading.{state, with_body, of_make, of_take, of_prelude, of_kernel, ended, body_step, protocol_step, range_step, step_at, brace_text, kernel_opening, with_label, buffers_step, label_step, with_role, main_step, with_kernel, free_step, step, is_done, is_statements, at_protocol, at_range, at_roles, at_labels, in_body, at_kernels, at_statements};
@@ -199,6 +200,18 @@ impl FrameReader {
         Ok(true)
     }
 
+    #[tactic(auto, using(crate::proofs::Named::room_label, crate::proofs::Named::label_more))]
+    fn push_label(&mut self, label: CoreLabel) -> Result<(), NoMemory>
+        requires reader { IsReader self.old }
+        requires fresh { IsFresh 4000 (names_of_labels self.old.local.labels.items) label.name }
+        ensures read { OnOk result (read_of self.new ≡ record (read_of self.old) { labels = self.old.local.labels.items ++ label ∷ [] }) }
+        ensures reader { OnOk result (IsReader self.new) }
+    {
+        self.label_names.intern(label.name)?;
+        self.local.labels.push(label)?;
+        Ok(())
+    }
+
     fn put_label(
         &mut self,
         alloc: Global,
@@ -206,13 +219,14 @@ impl FrameReader {
         found: Option<CoreLabel>,
     ) -> Result<bool, NoMemory>
         requires reader { IsReader self.old }
+        requires fresh { IfSome found (λ l. IsFresh 4000 (names_of_labels self.old.local.labels.items) l.name) }
         ensures went { IfOk result (λ went. Went (with_label (read_of self.old) line.now found) went (state_of self.new)) }
         ensures reader { OnOk result (IsReader self.new) }
     {
         match found {
             None => self.take_buffers(alloc, line),
             Some(label) => {
-                self.local.labels.push(label)?;
+                self.push_label(label)?;
                 self.wait(Vec::new(alloc), Phase::Labels);
                 Ok(true)
             }
@@ -224,18 +238,20 @@ impl FrameReader {
         ensures went { IfOk result (λ went. Went (label_step (read_of self.old) line.now) went (state_of self.new)) }
         ensures reader { OnOk result (IsReader self.new) }
     {
-        let found = read_label(alloc, &self.local.labels, line)?;
+        let found = read_label(alloc, &self.local.labels, &self.label_names, line)?;
         self.put_label(alloc, line, found)
     }
 
-    #[tactic(auto, using(crate::proofs::Waits::small_more))]
+    #[tactic(auto, using(crate::proofs::Waits::small_more, crate::proofs::Named::room_role, crate::proofs::Named::role_more))]
     fn push_role(&mut self, role: Role) -> Result<(), NoMemory>
         requires reader { IsReader self.old }
         requires few { length self.old.local.roles.items < 64 }
+        requires fresh { IsFresh 64 (names_of_roles self.old.local.roles.items) role.name }
         requires small { HasSmallEnds role }
         ensures read { OnOk result (read_of self.new ≡ record (read_of self.old) { roles = self.old.local.roles.items ++ role ∷ [] }) }
         ensures reader { OnOk result (IsReader self.new) }
     {
+        self.role_names.intern(role.name)?;
         self.local.roles.push(role)?;
         Ok(())
     }
@@ -271,6 +287,7 @@ impl FrameReader {
         requires reader { IsReader self.old }
         requires few { IfSome found (λ r. length self.old.local.roles.items < 64) }
         requires small { IfSome found HasSmallEnds }
+        requires fresh { IfSome found (λ r. IsFresh 64 (names_of_roles self.old.local.roles.items) r.name) }
         ensures went { IfOk result (λ went. Went (with_role (read_of self.old) line.now found) went (state_of self.new)) }
         ensures reader { OnOk result (IsReader self.new) }
     {
@@ -289,7 +306,13 @@ impl FrameReader {
         ensures went { IfOk result (λ went. Went (free_step (read_of self.old) at_roles line.now) went (state_of self.new)) }
         ensures reader { OnOk result (IsReader self.new) }
     {
-        let found = read_role(alloc, self.local.range, &self.local.roles, line)?;
+        let found = read_role(
+            alloc,
+            self.local.range,
+            &self.local.roles,
+            &self.role_names,
+            line,
+        )?;
         self.put_role(alloc, line, found)
     }
 
@@ -307,12 +330,25 @@ impl FrameReader {
         Ok(true)
     }
 
-    fn push_kernel(&mut self, alloc: Global, kernel: CoreKernel) -> Result<(), NoMemory>
+    #[tactic(auto, using(crate::proofs::Named::room_kernel, crate::proofs::Named::kernel_more))]
+    fn push_kernel(&mut self, kernel: CoreKernel) -> Result<(), NoMemory>
         requires reader { IsReader self.old }
+        requires fresh { IsFresh 4000 (names_of_kernels self.old.local.kernels.items) kernel.name }
+        ensures read { OnOk result (read_of self.new ≡ record (read_of self.old) { kernels = self.old.local.kernels.items ++ kernel ∷ [] }) }
+        ensures reader { OnOk result (IsReader self.new) }
+    {
+        self.kernel_names.intern(kernel.name)?;
+        self.local.kernels.push(kernel)?;
+        Ok(())
+    }
+
+    fn open_kernel(&mut self, alloc: Global, kernel: CoreKernel) -> Result<(), NoMemory>
+        requires reader { IsReader self.old }
+        requires fresh { IsFresh 4000 (names_of_kernels self.old.local.kernels.items) kernel.name }
         ensures state { OnOk result (state_of self.new ≡ state (record (read_of self.old) { kernels = self.old.local.kernels.items ++ kernel ∷ [] }) (drop 1 (kernel_opening kernel)) (in_body of_kernel)) }
         ensures reader { OnOk result (IsReader self.new) }
     {
-        self.local.kernels.push(kernel)?;
+        self.push_kernel(kernel)?;
         let mut lines = Vec::new(alloc);
         push_kernel_opening(alloc, &mut lines, &kernel)?;
         self.wait(lines, Phase::Body(Owner::Kernel));
@@ -326,13 +362,14 @@ impl FrameReader {
         found: Option<CoreKernel>,
     ) -> Result<bool, NoMemory>
         requires reader { IsReader self.old }
+        requires fresh { IfSome found (λ k. IsFresh 4000 (names_of_kernels self.old.local.kernels.items) k.name) }
         ensures went { IfOk result (λ went. Went (with_kernel (read_of self.old) line.now found) went (state_of self.new)) }
         ensures reader { OnOk result (IsReader self.new) }
     {
         match found {
             None => self.take_main(alloc, line),
             Some(kernel) => {
-                self.push_kernel(alloc, kernel)?;
+                self.open_kernel(alloc, kernel)?;
                 Ok(true)
             }
         }
@@ -343,7 +380,7 @@ impl FrameReader {
         ensures went { IfOk result (λ went. Went (free_step (read_of self.old) at_kernels line.now) went (state_of self.new)) }
         ensures reader { OnOk result (IsReader self.new) }
     {
-        let found = read_kernel(alloc, &self.local.kernels, line)?;
+        let found = read_kernel(alloc, &self.local.kernels, &self.kernel_names, line)?;
         self.put_kernel(alloc, line, found)
     }
 

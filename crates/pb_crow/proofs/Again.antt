@@ -1,6 +1,6 @@
 -- The parts of a line that are spelled are read again.
-use Rattle.std.proofs.Common.{◌≡◌, ℕ, suc, zero, ◌+◌, ◌-◌, ◌*◌, ◌^◌, ◌<◌, ◌≤◌, lt-ltb, le-leb, leb-true, Bool, true, false, cond, List, [], ◌∷◌, ◌++◌, length, Option, Some, None, refl, sym, ap, subst, ◌∙◌, append_assoc, arith, eq-eqb, eqb-true, rules, drop, take}
-use Rattle.std.specs.Prelude.{ℤ, pos, negsuc, ◌-ℤ◌, int_le, nat_eq, nat_lt, nat_le, codes, decimal, ◌&&◌, ◌||◌, not}
+use Rattle.std.proofs.Common.{◌≡◌, ℕ, suc, ◌+◌, ◌-◌, ◌*◌, ◌^◌, ◌<◌, ◌≤◌, lt-ltb, le-leb, leb-true, Bool, true, false, cond, List, [], ◌∷◌, ◌++◌, length, Option, Some, None, refl, sym, ap, ◌∙◌, arith, eq-eqb, eqb-true, rules, drop, take}
+use Rattle.std.specs.Prelude.{ℤ, pos, negsuc, int_le, nat_eq, nat_lt, nat_le, codes, decimal, ◌&&◌, not}
 use Rattle.std.specs.Char.{is_ascii_digit}
 use Rattle.std.specs.List.{prefix_len, list_all}
 use Rattle.std.specs.Str.{all_ascii_digits}
@@ -10,10 +10,10 @@ use Rattle.std.proofs.lemmas.Fmt.{digits_decimal, digits_value-decimal, decimal_
 use Rattle.pb_affine.specs.declared.lin.Base.{Base}
 use Rattle.pb_affine.specs.declared.lin.Base.TheVariants.{Fixed, Param, Var}
 use Rattle.pb_affine.specs.declared.lin.Lin.{Lin}
-use Rattle.pb_local.specs.Names.{is_letter, is_digit, is_word, is_name}
+use Rattle.pb_local.specs.Names.{is_letter, is_word, is_name}
 use Rattle.pb_ctree.specs.Small.{offset_text, lin_text}
 use Rattle.pb_ctree.specs.Rules.{is_offset, is_var}
-use Rattle.pb_crow.specs.Parts.{◌>>=◌, after, strip, digits_at, number_at, small_at, plus_at, minus_at, minus, signed_at, offset_at, lin_of, lin_at, goes_on_name, word_of, behind_word, name_at}
+use Rattle.pb_crow.specs.Parts.{strip, digits_at, number_at, small_at, minus, signed_at, offset_at, lin_of, lin_at, goes_on_name, word_of, behind_word, name_at}
 
 pub and_left : (a b : Bool) → (a && b) ≡ true → a ≡ true
 and_left true b e = refl

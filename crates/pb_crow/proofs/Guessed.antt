@@ -1,6 +1,6 @@
 -- A table's line that keeps its rule is guessed right.
-use Rattle.std.proofs.Common.{◌≡◌, ℕ, suc, ◌+◌, ◌^◌, ◌<◌, ◌≤◌, leb-true, Bool, true, false, cond, List, [], ◌∷◌, ◌++◌, Option, Some, None, refl, sym, ap, ◌∙◌, append_assoc, arith, rules}
-use Rattle.std.specs.Prelude.{nat_le, nat_lt, codes, decimal, ◌&&◌, not}
+use Rattle.std.proofs.Common.{◌≡◌, ℕ, ◌^◌, ◌<◌, ◌≤◌, leb-true, true, false, List, [], ◌∷◌, ◌++◌, Option, Some, None, refl, ap, ◌∙◌, append_assoc, arith}
+use Rattle.std.specs.Prelude.{nat_le, codes, decimal, ◌&&◌}
 use Rattle.pb_affine.specs.declared.lin.Lin.{Lin}
 use Rattle.pb_affine.specs.declared.range.NRange.{NRange}
 use Rattle.pb_syntax.specs.declared.tree.Payload.{Payload}
@@ -11,13 +11,12 @@ use Rattle.pb_syntax.specs.declared.core_label.KernelKind.{KernelKind}
 use Rattle.pb_syntax.specs.declared.core_label.KernelKind.TheVariants.{Compute as Computes, Choice as Chooses}
 use Rattle.pb_local.specs.declared.tables.Role.{Role}
 use Rattle.pb_local.specs.Names.{is_name}
-use Rattle.pb_ctree.specs.Frame.{high_text, payload_text, kernel_type, kernel_letter}
-use Rattle.pb_ctree.specs.Rules.{is_number, is_upper_end, is_range, is_among, is_offset, is_var, is_role, has_index, is_payload, is_label_row, is_kernel_row}
+use Rattle.pb_ctree.specs.Frame.{high_text, payload_text}
+use Rattle.pb_ctree.specs.Rules.{is_number, is_upper_end, is_range, is_offset, is_var, is_role, is_payload, is_label_row, is_kernel_row}
 use Rattle.pb_ctree.specs.Small.{lin_text}
-use Rattle.pb_crow.specs.Parts.{◌>>=◌, after, strip, number_at, lin_at, name_at}
 use Rattle.pb_crow.specs.Guesses.{protocol_guess, high_at, range_of, range_guess, role_of, role_guess, payload_at, label_of, label_guess, kernel_of, kernel_guess}
 use Rattle.pb_crow.specs.Spelled.{protocol_text, range_line, role_line, label_line, kernel_line}
-use Rattle.pb_crow.proofs.Again.{and_left, and_right, not_false, begins_digit, decimal_first, number_again, Ends, lin_again, name_again}
+use Rattle.pb_crow.proofs.Again.{and_left, and_right, not_false, begins_digit, decimal_first, number_again, lin_again, name_again}
 
 group3 : (a b c t : List ℕ) → (a ++ (b ++ (c ++ []))) ++ t ≡ a ++ (b ++ (c ++ t))
 group3 a b c t = simp append_assoc

@@ -1,4 +1,5 @@
 pub mod Again
+pub mod Found
 pub mod Guessed
 pub mod RuleParts
 pub mod Strips

@@ -1,5 +1,5 @@
 -- What a text in front is.
-use Rattle.std.proofs.Common.{◌≡◌, ℕ, zero, suc, Bool, true, false, cond, List, [], ◌∷◌, length, take, drop, Option, Some, None, refl, sym, ap, ◌∙◌, nat_eq}
+use Rattle.std.proofs.Common.{◌≡◌, ℕ, Bool, true, false, cond, List, [], ◌∷◌, length, take, drop, Some, None, refl, sym, nat_eq}
 use Rattle.std.specs.Prelude.{◌&&◌, nat_lt, not}
 use Rattle.pb_local.specs.Names.{is_word, is_keyword, is_name}
 use Rattle.std.specs.Cmp.Lexicographic.{pointwise}

@@ -1,5 +1,5 @@
 -- How the parts of a line are read.
-use Rattle.std.specs.Prelude.{◌≡◌, ℕ, ℤ, pos, ◌+◌, ◌-◌, ◌*◌, ◌^◌, neg_ℤ, nat_eq, nat_lt, nat_le, Bool, ◌||◌, cond, List, [], ◌∷◌, ◌++◌, Option, Some, None, codes, take, drop, length}
+use Rattle.std.specs.Prelude.{◌≡◌, ℕ, ℤ, pos, ◌+◌, ◌-◌, ◌*◌, ◌^◌, neg_ℤ, nat_eq, nat_lt, nat_le, Bool, ◌||◌, cond, List, [], ◌∷◌, Option, Some, None, codes, take, drop}
 use Rattle.std.specs.Char.{is_ascii_digit}
 use Rattle.std.specs.List.{prefix_len}
 use Rattle.pb_affine.specs.declared.lin.Base.{Base}

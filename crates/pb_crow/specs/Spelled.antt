@@ -1,5 +1,5 @@
 -- How the lines of the tables are spelled, and the rules that they keep.
-use Rattle.std.specs.Prelude.{ℕ, Bool, not, ◌&&◌, List, [], ◌∷◌, ◌++◌, map, codes}
+use Rattle.std.specs.Prelude.{◌≡◌, ◌<◌, ℕ, Bool, false, not, ◌&&◌, List, [], ◌∷◌, map, length, codes}
 use Rattle.pb_affine.specs.declared.range.NRange.{NRange}
 use Rattle.pb_syntax.specs.declared.core_label.CoreLabel.{CoreLabel}
 use Rattle.pb_syntax.specs.declared.core_label.CoreKernel.{CoreKernel}
@@ -7,7 +7,7 @@ use Rattle.pb_local.specs.declared.tables.Role.{Role}
 use Rattle.pb_local.specs.Pieces as P
 use Rattle.pb_local.specs.Tree.{Program, nothing}
 use Rattle.pb_ctree.specs.Frame.{range_text, role_text, label_text, kernel_head}
-use Rattle.pb_ctree.specs.Rules.{is_offset, is_var}
+use Rattle.pb_ctree.specs.Rules.{is_among, is_offset, is_var}
 
 abbrev pub names_of_roles : List Role → List (List ℕ)
 names_of_roles roles = map (λ r. r.name) roles
@@ -39,3 +39,8 @@ kernel_line k = P.line 0 (kernel_head k)
 -- ends without a variable, within 1,000,000 of zero
 abbrev pub has_fixed_ends : Role → Bool
 has_fixed_ends r = is_offset r.low.off && is_offset r.high.off && not (is_var r.low.base) && not (is_var r.high.base)
+
+-- none of the names before it, of which there may be fewer than so many
+pub record IsFresh (most : ℕ) (before : List (List ℕ)) (name : List ℕ) : Type 0 where
+  pub few : length before < most
+  pub absent : is_among name before ≡ false

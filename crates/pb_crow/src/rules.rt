@@ -1,6 +1,6 @@
 //! The rules that the lines of the tables keep.
 
-ghost use Rattle.std.specs.Prelude.{◌≡◌, ◌≤◌, ℕ, pos, nat_eq, length};
+ghost use Rattle.std.specs.Prelude.{◌≡◌, ◌≤◌, pos, length};
 ghost use Rattle.std.specs.List.{All};
 ghost use Rattle.pb_affine.specs.Values.{value};
 ghost use Rattle.pb_ctree.specs.Rules.{is_number, is_upper_end, is_range, is_offset, is_var, has_index_at, goes_on, has_index_above, has_index, is_among, is_role, is_single, has_size, is_payload, is_label_row, is_kernel_row};
@@ -10,6 +10,7 @@ ghost use Rattle.pb_crow.specs.Spelled.{names_of_roles, names_of_labels, names_o
 use crate::names::is_name;
 use crate::sums::ranks;
 use pb_ctree::{Base, CoreKernel, CoreLabel, Lin, NRange, Name, Payload, Role};
+use pb_text::Names;
 
 fn is_number(n: u32) -> bool
     ensures { result ≡ is_number n }
@@ -92,37 +93,11 @@ fn has_index(range: NRange, role: &Role) -> bool
     has_index_at(range.low, role) && has_index_above(range.high, role)
 }
 
-fn is_roles(name: &Name, roles: &[Role]) -> bool
-    ensures { result ≡ is_among name.now (names_of_roles roles.now) }
+#[tactic(auto, using(crate::proofs::Found::found_among))]
+fn is_among(name: &Name, names: &Names) -> bool
+    ensures { result ≡ is_among name.now names.now }
 {
-    for role in roles {
-        if name.bytes() == role.name.bytes() {
-            return true;
-        }
-    }
-    false
-}
-
-fn is_labels(name: &Name, labels: &[CoreLabel]) -> bool
-    ensures { result ≡ is_among name.now (names_of_labels labels.now) }
-{
-    for label in labels {
-        if name.bytes() == label.name.bytes() {
-            return true;
-        }
-    }
-    false
-}
-
-fn is_kernels(name: &Name, kernels: &[CoreKernel]) -> bool
-    ensures { result ≡ is_among name.now (names_of_kernels kernels.now) }
-{
-    for kernel in kernels {
-        if name.bytes() == kernel.name.bytes() {
-            return true;
-        }
-    }
-    false
+    names.find(name).is_some()
 }
 
 fn has_fixed_ends(role: &Role) -> bool
@@ -135,11 +110,12 @@ fn has_fixed_ends(role: &Role) -> bool
 }
 
 #[tactic(auto, using(crate::proofs::RuleParts::role_is, crate::proofs::RuleParts::names_long))]
-pub fn is_role(range: NRange, before: &[Role], role: &Role) -> bool
+pub fn is_role(range: NRange, before: &[Role], names: &Names, role: &Role) -> bool
+    requires names { names.now ≡ names_of_roles before.now }
     ensures { result ≡ is_role range (names_of_roles before.now) role.now }
 {
     is_name(role.name.bytes())
-        && !is_roles(&role.name, before)
+        && !is_among(&role.name, names)
         && before.len() < 64
         && has_fixed_ends(role)
         && has_index(range, role)
@@ -172,17 +148,21 @@ fn is_payload(payload: Payload) -> bool
     }
 }
 
-pub fn is_label_row(before: &[CoreLabel], label: &CoreLabel) -> bool
+#[tactic(auto, using(crate::proofs::RuleParts::labels_long))]
+pub fn is_label_row(before: &[CoreLabel], names: &Names, label: &CoreLabel) -> bool
+    requires names { names.now ≡ names_of_labels before.now }
     ensures { result ≡ is_label_row (names_of_labels before.now) label.now }
 {
     is_name(label.name.bytes())
-        && !is_labels(&label.name, before)
+        && !is_among(&label.name, names)
         && before.len() < 4000
         && is_payload(label.payload)
 }
 
-pub fn is_kernel_row(before: &[CoreKernel], kernel: &CoreKernel) -> bool
+#[tactic(auto, using(crate::proofs::RuleParts::kernels_long))]
+pub fn is_kernel_row(before: &[CoreKernel], names: &Names, kernel: &CoreKernel) -> bool
+    requires names { names.now ≡ names_of_kernels before.now }
     ensures { result ≡ is_kernel_row (names_of_kernels before.now) kernel.now }
 {
-    is_name(kernel.name.bytes()) && !is_kernels(&kernel.name, before) && before.len() < 4000
+    is_name(kernel.name.bytes()) && !is_among(&kernel.name, names) && before.len() < 4000
 }

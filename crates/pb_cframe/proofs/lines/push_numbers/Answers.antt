@@ -1,4 +1,4 @@
-use Rattle.std.proofs.Common.{◌≡◌, ◌+◌, ◌∷◌, ◌++◌, drop, map, get_or, arith}
+use Rattle.std.proofs.Common.{◌++◌, map, get_or, arith}
 use Rattle.std.specs.Prelude.{pos}
 use Rattle.pb_ctree.specs.Frame.{number_lines}
 use Rattle.pb_ctree.specs.Trees.{sum_of}

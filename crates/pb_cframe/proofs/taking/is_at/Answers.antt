@@ -1,4 +1,4 @@
-use Rattle.std.proofs.Common.{◌≡◌, ap, ◌∙◌, sym}
+use Rattle.std.proofs.Common.{ap, ◌∙◌}
 use Rattle.pb_cframe.specs.Reading.{same_line}
 use Rattle.pb_cframe.proofs.Waits.{waits_at}
 use Rattle.pb_cframe.proofs.taking.is_at.Goals as goal
