@@ -1,3 +1,4 @@
+pub mod Accepted
 pub mod Endpoints
 pub mod Fronts
 pub mod Messages

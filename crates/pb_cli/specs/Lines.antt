@@ -1,5 +1,6 @@
 -- The status of a refusal, and the line that tells it.
-use Rattle.std.specs.Prelude.{ℕ, List, ◌++◌, codes, decimal}
+use Rattle.std.specs.Prelude.{ℕ, ℤ, List, [], ◌++◌, Option, Some, None, codes, decimal}
+use Rattle.std.specs.Fmt.{signed_decimal}
 use Rattle.pb_text.specs.declared.place.Place.{Place}
 use Rattle.pb_text.specs.declared.quantity.Quantity.{Quantity}
 use Rattle.pb_text.specs.declared.quantity.Quantity.TheVariants as quantity
@@ -15,6 +16,8 @@ status_of refusal.FileBytes = status.Limit
 status_of refusal.NoMemory = status.NoMemory
 status_of (refusal.Syntax place) = status.Refused
 status_of (refusal.Limit limit place) = status.Limit
+status_of refusal.Breakpoints = status.Limit
+status_of (refusal.Broken rule place n at) = status.Refused
 status_of (refusal.NotBuilt place) = status.NotBuilt
 
 -- the line's words for a limit
@@ -39,6 +42,27 @@ limit_words quantity.Events = codes "pabble: limit events"
 abbrev pub line_at : List ℕ → Place → List ℕ
 line_at what place = what ++ codes " at " ++ decimal place.line ++ codes ":" ++ decimal place.col ++ codes "\n"
 
+-- `pabble: rule K at L:C`
+unfoldable pub rule_words : ℕ → Place → List ℕ
+rule_words rule place = codes "pabble: rule " ++ decimal rule ++ codes " at " ++ decimal place.line ++ codes ":" ++ decimal place.col
+
+-- `, N = n` where an N is told
+abbrev pub n_words : Option ℤ → List ℕ
+n_words None = []
+n_words (Some n) = codes ", N = " ++ signed_decimal n
+
+-- `, W[x]` where a rank is told, and the line's end
+abbrev pub rank_line : Option (List ℕ × ℤ) → List ℕ
+rank_line None = codes "\n"
+rank_line (Some at) = codes ", " ++ at.0 ++ codes "[" ++ signed_decimal at.1 ++ codes "]\n"
+
+abbrev pub told_line : Option ℤ → Option (List ℕ × ℤ) → List ℕ
+told_line n at = n_words n ++ rank_line at
+
+-- a line that tells a broken rule
+abbrev pub rule_line : ℕ → Place → Option ℤ → Option (List ℕ × ℤ) → List ℕ
+rule_line rule place n at = rule_words rule place ++ told_line n at
+
 abbrev pub line_of : Refusal → List ℕ
 line_of refusal.Usage = codes "pabble: usage\n"
 line_of refusal.ReadFault = codes "pabble: read fault\n"
@@ -46,4 +70,6 @@ line_of refusal.FileBytes = codes "pabble: limit file bytes\n"
 line_of refusal.NoMemory = codes "pabble: no memory\n"
 line_of (refusal.Syntax place) = line_at (codes "pabble: syntax") place
 line_of (refusal.Limit limit place) = line_at (limit_words limit) place
+line_of refusal.Breakpoints = codes "pabble: limit breakpoints\n"
+line_of (refusal.Broken rule place n at) = rule_line rule place n at
 line_of (refusal.NotBuilt place) = line_at (codes "pabble: not built") place

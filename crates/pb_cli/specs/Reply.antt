@@ -1,5 +1,5 @@
 -- What the program answers: a status, and the bytes that it writes.
-use Rattle.std.specs.Prelude.{◌≡◌, ℕ, ◌<◌, ◌≤◌, ◌⊎◌, Bool, List, length, Option, Some, None, IsSome, Result, Ok, Err, Vec}
+use Rattle.std.specs.Prelude.{◌≡◌, ℕ, ℤ, ◌<◌, ◌≤◌, ◌⊎◌, Bool, List, length, Option, Some, None, IsSome, Result, Ok, Err, Vec}
 use Rattle.std.specs.Global.{Global}
 use Rattle.std.specs.Io.KnownBytes.{Appends}
 use Rattle.pb_text.specs.declared.place.Place.{Place}
@@ -9,7 +9,7 @@ use Rattle.pb_io.specs.Files.{File, content_of, IsSureOf}
 use Rattle.pb_io.specs.Sinks.{AppendsFront}
 use Rattle.pb_cli.specs.Lines.{line_of, status_of}
 use Rattle.pb_cli.specs.Printed.{IsPrinted}
-use Rattle.pb_cli.specs.Verdict.{IsGrammatical, IsCompiled, IsSyntaxAt, IsLimitAt}
+use Rattle.pb_cli.specs.Verdict.{OnTree, IsBrokenAt, IsCrowded, IsKept, IsCompiled, IsSyntaxAt, IsLimitAt}
 use Rattle.pb_cli.specs.declared.refusal.Refusal.{Refusal}
 use Rattle.pb_cli.specs.declared.refusal.Refusal.TheVariants as refusal
 use Rattle.pb_cli.specs.declared.status.Status.{Status}
@@ -29,20 +29,23 @@ OnFile (Some name) (Some files) P = P (content_of files name)
 abbrev pub OnShort : Option (List ℕ) → Option (List File) → (List ℕ → Type 0) → Type 0
 OnShort form holds P = OnFile form holds (λ bytes. (length bytes ≤ most_bytes) × P bytes)
 
--- To the words and the files belong a status and the bytes that it comes with. Which of the files that parse are built is
--- left open, and so is when memory is wanting
+-- To the words and the files belong a status and the bytes that it comes with. Which of the files that keep the rules 1 to 8
+-- are built is left open, and so is when memory is wanting
 abbrev pub IsReply : Option (List ℕ) → Option (List File) → Status → List ℕ → Type 0
 IsReply form holds Done text = OnShort form holds (λ bytes. IsCompiled bytes text) × IsPrinted text
 IsReply form holds Refused text =
-    (place : Place) × OnShort form holds (λ bytes. IsSyntaxAt bytes place) × (text ≡ line_of (refusal.Syntax place))
+    ((place : Place) × OnShort form holds (λ bytes. IsSyntaxAt bytes place) × (text ≡ line_of (refusal.Syntax place)))
+    ⊎ ((rule : ℕ) × (place : Place) × (n : Option ℤ) × (at : Option (List ℕ × ℤ))
+    × OnShort form holds (λ bytes. OnTree bytes (λ file. IsBrokenAt file rule place n at)) × (text ≡ line_of (refusal.Broken rule place n at)))
 IsReply form holds Usage text = (form ≡ None) × (text ≡ line_of refusal.Usage)
 IsReply form holds ReadFault text = IsSome form × (text ≡ line_of refusal.ReadFault)
 IsReply form holds Limit text =
     (OnFile form holds (λ bytes. most_bytes < length bytes) × (text ≡ line_of refusal.FileBytes))
-    ⊎ ((limit : Quantity) × (place : Place) × OnShort form holds (λ bytes. IsLimitAt bytes limit place)
+    ⊎ (((limit : Quantity) × (place : Place) × OnShort form holds (λ bytes. IsLimitAt bytes limit place)
     × (text ≡ line_of (refusal.Limit limit place)))
+    ⊎ (OnShort form holds (λ bytes. OnTree bytes IsCrowded) × (text ≡ line_of refusal.Breakpoints)))
 IsReply form holds NoMemory text = IsSome form × (text ≡ line_of refusal.NoMemory)
-IsReply form holds NotBuilt text = OnShort form holds IsGrammatical × (text ≡ line_of (refusal.NotBuilt first_place))
+IsReply form holds NotBuilt text = OnShort form holds (λ bytes. OnTree bytes IsKept) × (text ≡ line_of (refusal.NotBuilt first_place))
 IsReply form holds other text = ⊥
 
 -- an answer's status and bytes: a text is done, and a refusal has its line

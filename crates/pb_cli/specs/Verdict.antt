@@ -1,6 +1,6 @@
--- The verdict on the bytes of a protocol file, as far as the grammar and the limits go: the first lexical fault, else the
--- first token that doesn't go on or passes a limit, else a tree.
-use Rattle.std.specs.Prelude.{◌≡◌, ℕ, ◌⊎◌, List}
+-- The verdict on the bytes of a protocol file: the first lexical fault, else the first token that doesn't go on or passes a
+-- limit, else a tree; and of a tree the first rule of 1 to 8 that it breaks, or too many breakpoints.
+use Rattle.std.specs.Prelude.{◌≡◌, ℕ, ℤ, ◌≤◌, ◌⊎◌, List, Option, Some, None, slice_get}
 use Rattle.pb_text.specs.declared.place.Place.{Place}
 use Rattle.pb_text.specs.declared.quantity.Quantity.{Quantity}
 use Rattle.pb_text.specs.declared.quantity.Quantity.TheVariants as quantity
@@ -9,22 +9,66 @@ use Rattle.pb_text.specs.Places.{first_place, place_after}
 use Rattle.pb_text.specs.Tokens.{IsFirstFault}
 use Rattle.pb_lex.specs.declared.error.LexError.TheVariants as errors
 use Rattle.pb_syntax.specs.Tree.{PlainFile}
-use Rattle.pb_syntax.specs.Grammar.{IsFile}
-use Rattle.pb_parse.specs.Limits.{AreWithin}
 use Rattle.pb_parse.specs.Parsed.{IsUnexpected, IsTooEarly, Passes, OfTokens}
 use Rattle.pb_parse.specs.declared.fault.ParseFault.{ParseFault}
 use Rattle.pb_parse.specs.declared.fault.ParseFault.TheVariants as fault
+use Rattle.pb_parsed.specs.Laws.{IsTreeOf}
+use Rattle.pb_cases.specs.Breakpoints.{HasTooMany}
+use Rattle.pb_core.specs.declared.fault.LowerFault.{LowerFault}
+use Rattle.pb_core.specs.declared.fault.LowerFault.TheVariants as L
+use Rattle.pb_core.specs.declared.protocol.CoreRole.{CoreRole}
+use Rattle.pb_core.specs.Ranks.{Seat}
+use Rattle.pb_core.specs.Cuts.{cuts}
+use Rattle.pb_core.specs.FileRules.{broken}
+use Rattle.pb_core.specs.Meaning.{meaning}
+use Rattle.pb_core.specs.Verdict.{Broken, IsRefused, IsRefusedAt, IsAccepted}
+use Rattle.pb_rules.specs.Verdict.{KeepsIndex, HasFewCases}
+use Rattle.pb_rules.specs.declared.fault.At.{At}
+use Rattle.pb_rules.specs.declared.fault.RuleFault.{RuleFault}
+use Rattle.pb_rules.specs.declared.fault.RuleFault.TheVariants as R
 use Rattle.pb_cli.specs.Printed.{IsTextOf}
 use Rattle.pb_cli.specs.declared.refusal.Refusal.{Refusal}
 use Rattle.pb_cli.specs.declared.refusal.Refusal.TheVariants as refusal
 
--- a text of the grammar within the limits
-abbrev pub IsGrammatical : List ℕ → Type 0
-IsGrammatical bytes = (file : PlainFile) × OfTokens bytes (λ tokens. IsFile tokens file × AreWithin tokens)
+-- a rank of these roles, with the name of its role
+abbrev pub of_role : Option CoreRole → ℤ → Option (List ℕ × ℤ)
+of_role None x = None
+of_role (Some role) x = Some (role.name, x)
 
--- a text of the grammar within the limits that has the first form, and the C text of that form
+abbrev pub named_seat : List CoreRole → Option Seat → Option (List ℕ × ℤ)
+named_seat roles None = None
+named_seat roles (Some seat) = of_role (slice_get roles seat.role) seat.index
+
+-- the first breach is of one of the rules 6 to 8, and is told so
+abbrev pub IsTold : PlainFile → Broken → ℕ → Place → Option ℤ → Option (List ℕ × ℤ) → Type 0
+IsTold file b rule place n at =
+    (b.breach.rule ≤ 8) × ((rule ≡ b.breach.rule) × ((place ≡ b.breach.mark.place) × ((n ≡ Some b.n) × (at ≡ named_seat (meaning file).roles b.breach.at))))
+
+-- The file breaks a rule, and this is told of it: the least of the rules 1 to 5, at its first place; or else, if it keeps
+-- them and has at most 4,096 breakpoints, the least of the rules 6 to 8, at its first place, with the least N and the least
+-- rank.
+abbrev pub IsBrokenAt : PlainFile → ℕ → Place → Option ℤ → Option (List ℕ × ℤ) → Type 0
+IsBrokenAt file rule place n at =
+    (IsRefused file rule place × ((n ≡ None) × (at ≡ None))) ⊎ (HasFewCases (meaning file) × ((b : Broken) × IsRefusedAt file b × IsTold file b rule place n at))
+
+-- the file keeps the rules 1 to 5, and its meaning has more than 4,096 breakpoints
+abbrev pub IsCrowded : PlainFile → Type 0
+IsCrowded file = (broken file ≡ None) × HasTooMany (meaning file).range (cuts (meaning file))
+
+-- the file keeps the rules 1 to 8, and its meaning has at most 4,096 breakpoints
+abbrev pub IsKept : PlainFile → Type 0
+IsKept file = (broken file ≡ None) × (KeepsIndex (meaning file) × HasFewCases (meaning file))
+
+-- the bytes are a text of the grammar within the limits, and its tree is such
+abbrev pub OnTree : List ℕ → (PlainFile → Type 0) → Type 0
+OnTree bytes P = (file : PlainFile) × IsTreeOf bytes file × P file
+
+-- such a text that has at most 4,096 breakpoints and the first form and is accepted, and the C text of that form
+abbrev pub IsCompiledTree : List ℕ → PlainFile → Type 0
+IsCompiledTree text file = (IsAccepted file × HasFewCases (meaning file)) × IsTextOf file text
+
 abbrev pub IsCompiled : List ℕ → List ℕ → Type 0
-IsCompiled bytes text = (file : PlainFile) × OfTokens bytes (λ tokens. IsFile tokens file × AreWithin tokens) × IsTextOf file text
+IsCompiled bytes text = OnTree bytes (IsCompiledTree text)
 
 -- the first fault of the bytes is one of syntax, and stands here: a byte that begins no token, a comment that is never
 -- closed, a token that doesn't go on, or the end where the tokens end too early
@@ -54,18 +98,37 @@ refusal_of (fault.TooDeep place) = refusal.Limit quantity.Nesting place
 refusal_of (fault.TooMany limit place) = refusal.Limit limit place
 refusal_of fault.NoMemory = refusal.NoMemory
 
--- a refusal of what has been read: it tells the verdict's place, or the file parses and isn't built
+-- what the faults of lowering are to the program
+abbrev pub lower_refusal : LowerFault → Refusal
+lower_refusal (L.Broken rule place) = refusal.Broken rule place None None
+lower_refusal L.NoMemory = refusal.NoMemory
+
+abbrev pub named_rank : List CoreRole → Option At → Option (List ℕ × ℤ)
+named_rank roles None = None
+named_rank roles (Some at) = of_role (slice_get roles at.role) at.index
+
+-- what the faults of the rules 6 to 8 are to the program
+abbrev pub rule_refusal : List CoreRole → RuleFault → Refusal
+rule_refusal roles (R.Broken rule place n at) = refusal.Broken rule place (Some n) (named_rank roles at)
+rule_refusal roles R.TooManyCases = refusal.Breakpoints
+rule_refusal roles R.NoMemory = refusal.NoMemory
+
+-- a refusal of a tree: it tells the broken rule, or the file keeps the rules 1 to 8 and isn't built
+abbrev pub IsRefusalOfTree : PlainFile → Refusal → Type 0
+IsRefusalOfTree file (refusal.Broken rule place n at) = IsBrokenAt file rule place n at
+IsRefusalOfTree file refusal.Breakpoints = IsCrowded file
+IsRefusalOfTree file (refusal.NotBuilt place) = IsKept file × (place ≡ first_place)
+IsRefusalOfTree file refusal.NoMemory = Unit {0}
+IsRefusalOfTree file other = ⊥
+
+-- a refusal of what has been read: it tells the verdict's place, or it is one of the tree
 abbrev pub IsRefusalOf : List ℕ → Refusal → Type 0
 IsRefusalOf bytes (refusal.Syntax place) = IsSyntaxAt bytes place
 IsRefusalOf bytes (refusal.Limit limit place) = IsLimitAt bytes limit place
 IsRefusalOf bytes refusal.NoMemory = Unit {0}
-IsRefusalOf bytes (refusal.NotBuilt place) = IsGrammatical bytes × (place ≡ first_place)
+IsRefusalOf bytes (refusal.Broken rule place n at) = OnTree bytes (λ file. IsBrokenAt file rule place n at)
+IsRefusalOf bytes refusal.Breakpoints = OnTree bytes IsCrowded
+IsRefusalOf bytes (refusal.NotBuilt place) = OnTree bytes IsKept × (place ≡ first_place)
 IsRefusalOf bytes refusal.Usage = ⊥
 IsRefusalOf bytes refusal.ReadFault = ⊥
 IsRefusalOf bytes refusal.FileBytes = ⊥
-
--- why a file that parses has no text
-abbrev pub IsUnbuilt : Refusal → Type 0
-IsUnbuilt refusal.NoMemory = Unit {0}
-IsUnbuilt (refusal.NotBuilt place) = place ≡ first_place
-IsUnbuilt other = ⊥

@@ -15,8 +15,9 @@ use std::alloc::Global;
 /// `gen FILE` writes the C text of the protocol in FILE. `ReadFault` comes only where the folder's count of faults rose in
 /// this call, and never where a steady folder holds the file; `WriteFault` only where the sink's did, and then some first
 /// bytes of what belongs there were written. Where memory doesn't run out, `Usage` comes exactly where the words are in
-/// no form, `Limit` where the file has more than 1,048,576 bytes or its first fault is that it passes a limit, `Refused`
-/// where its first fault is one of syntax, and `Done` or `NotBuilt` where it is a text of the grammar within the limits.
+/// no form; `Limit` where the file has more than 1,048,576 bytes, its first fault is that it passes a limit, or it keeps
+/// the rules 1 to 5 and has more than 4,096 breakpoints; `Refused` where its first fault is one of syntax, or else it
+/// breaks one of the rules 1 to 8; and `Done` or `NotBuilt` where it keeps them. With `Done` it keeps all twelve rules.
 ///
 /// `answers` gives word number `count` of a rank, from 0, by a seed, the rank and that number.
 #[tactic(auto, using(crate::proofs::Replies::said))]

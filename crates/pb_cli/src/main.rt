@@ -4,6 +4,7 @@
 //! system's files and standard output, and ends with the code of its status.
 #![tactic(auto)]
 
+mod broken;
 mod call;
 mod first;
 mod parts;
@@ -12,6 +13,7 @@ mod reply;
 mod status;
 #[cfg(test)]
 mod tests;
+mod verdict;
 mod words;
 
 use call::pabble;

@@ -4,11 +4,12 @@ ghost use Rattle.pb_io.specs.Faults.{Rose};
 ghost use Rattle.pb_io.specs.Sinks.{AppendsFront};
 ghost use Rattle.pb_cli.specs.Lines.{limit_words, line_at};
 
+use crate::broken::write_broken;
 use crate::parts::write_parts;
 use crate::status::Status;
 use itoa::Buffer;
 use pb_io::{OutFault, Sink, write_all};
-use pb_text::{Place, Quantity};
+use pb_text::{Name, Place, Quantity};
 use thiserror::Error;
 
 /// Why nothing but a status line is written.
@@ -32,6 +33,18 @@ pub enum Refusal {
     /// A quantity of the protocol passes its limit.
     #[error("Limit")]
     Limit(Quantity, Place),
+    /// The protocol has more than 4,096 breakpoints.
+    #[error("Breakpoints")]
+    Breakpoints,
+    /// The protocol breaks this rule, first at this place; with the least N and the least rank where the rule speaks of
+    /// such, as the name of its role and its index.
+    #[error("Broken")]
+    Broken {
+        rule: u8,
+        place: Place,
+        n: Option<i64>,
+        at: Option<(Name, i64)>,
+    },
     /// The protocol has a form that isn't built yet.
     #[error("NotBuilt")]
     NotBuilt(Place),
@@ -41,8 +54,8 @@ impl Refusal {
     ghost use Rattle.pb_cli.specs.Lines.{line_of, status_of};
 
     /// The status that the program ends with. Takes no memory.
-    pub fn status(self) -> Status
-        ensures { result ≡ status_of self }
+    pub fn status(&self) -> Status
+        ensures { result ≡ status_of self.now }
     {
         match self {
             Refusal::Usage => Status::Usage,
@@ -51,6 +64,8 @@ impl Refusal {
             Refusal::NoMemory => Status::NoMemory,
             Refusal::Syntax(_) => Status::Refused,
             Refusal::Limit(_, _) => Status::Limit,
+            Refusal::Breakpoints => Status::Limit,
+            Refusal::Broken { .. } => Status::Refused,
             Refusal::NotBuilt(_) => Status::NotBuilt,
         }
     }
@@ -58,9 +73,9 @@ impl Refusal {
     /// Appends the status line to the sink. Takes no memory.
     ///
     /// `WriteFault` comes only where the sink's count of faults rose in this call; then some first bytes were appended.
-    pub fn write_line<O: Sink>(self, out: &mut O) -> Result<(), OutFault>
-        ensures whole { OnOk result (Appends (O.taken out.old) (O.taken out.new) (line_of self)) }
-        ensures front { OnErr result (AppendsFront (O.taken out.old) (O.taken out.new) (line_of self)) }
+    pub fn write_line<O: Sink>(&self, out: &mut O) -> Result<(), OutFault>
+        ensures whole { OnOk result (Appends (O.taken out.old) (O.taken out.new) (line_of self.now)) }
+        ensures front { OnErr result (AppendsFront (O.taken out.old) (O.taken out.new) (line_of self.now)) }
         ensures fault { OnErr result (Rose (O.faults out.old) (O.faults out.new)) }
         ensures later { O.faults out.old ≤ O.faults out.new }
     {
@@ -69,9 +84,11 @@ impl Refusal {
             Refusal::ReadFault => write_all(out, b"pabble: read fault\n"),
             Refusal::FileBytes => write_all(out, b"pabble: limit file bytes\n"),
             Refusal::NoMemory => write_all(out, b"pabble: no memory\n"),
-            Refusal::Syntax(place) => write_at(out, b"pabble: syntax", place),
-            Refusal::Limit(limit, place) => write_at(out, limit_words(limit), place),
-            Refusal::NotBuilt(place) => write_at(out, b"pabble: not built", place),
+            Refusal::Syntax(place) => write_at(out, b"pabble: syntax", *place),
+            Refusal::Limit(limit, place) => write_at(out, limit_words(*limit), *place),
+            Refusal::Breakpoints => write_all(out, b"pabble: limit breakpoints\n"),
+            Refusal::Broken { rule, place, n, at } => write_broken(out, *rule, *place, *n, at),
+            Refusal::NotBuilt(place) => write_at(out, b"pabble: not built", *place),
         }
     }
 }

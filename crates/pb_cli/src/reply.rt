@@ -1,18 +1,27 @@
-ghost use Rattle.std.specs.Prelude.{◌≡◌, ◌≤◌, length, Some, IfOk, IfErr, IsErrOf, map};
+ghost use Rattle.std.specs.Prelude.{◌≡◌, ◌≤◌, length, true, None, Some, IfOk, IfErr, IsErrOf, map};
 ghost use Rattle.std.specs.String.{string_bytes};
 ghost use Rattle.pb_io.specs.Faults.{Rose};
 ghost use Rattle.pb_io.specs.Files.{IsSureOf};
 ghost use Rattle.pb_syntax.specs.Plain.{plain_file};
+ghost use Rattle.pb_core.specs.FileRules.{broken};
+ghost use Rattle.pb_core.specs.Meaning.{meaning};
+ghost use Rattle.pb_core.specs.Plain.{plain};
+ghost use Rattle.pb_core.specs.Sound.{is_sound};
+ghost use Rattle.pb_file_rules.specs.Lowering.{IsCountable};
+ghost use Rattle.pb_rules.specs.Verdict.{KeepsIndex};
 ghost use Rattle.pb_cli.specs.Printed.{IsTextOf};
 ghost use Rattle.pb_cli.specs.Reply.{Answers, IsReply, IsSureOfForm, most_bytes};
-ghost use Rattle.pb_cli.specs.Verdict.{IsCompiled, IsRefusalOf, IsUnbuilt, refusal_of};
+ghost use Rattle.pb_cli.specs.Verdict.{IsCompiled, IsCompiledTree, IsKept, IsRefusalOf, IsRefusalOfTree, refusal_of};
 ghost use Rattle.pb_cli.specs.Words.{gen_file};
 
 use crate::first::{FirstFault, first_form, form_text};
 use crate::refusal::Refusal;
+use crate::verdict::{lower_refusal, rule_refusal};
 use crate::words::gen_file;
 use pb_io::{Folder, InFault, read_all};
+use pb_lower::{Core, lower};
 use pb_parse::{LexError, ParseFault, parse};
+use pb_rules::check_index;
 use pb_syntax::FileTree;
 use pb_text::{Place, Quantity};
 use std::alloc::Global;
@@ -53,7 +62,7 @@ fn gen_text<F: Folder>(alloc: Global, folder: &mut F, file: &str) -> Result<Vec<
 }
 
 /// The C text of the protocol in the bytes of a file.
-#[tactic(auto, using(crate::proofs::Verdicts::refused, crate::proofs::Verdicts::unbuilt, crate::proofs::Verdicts::grammatical, crate::proofs::Verdicts::compiled))]
+#[tactic(auto, using(crate::proofs::Verdicts::refused, crate::proofs::Verdicts::of_tree, crate::proofs::Verdicts::compiled))]
 fn file_text(alloc: Global, bytes: &[u8]) -> Result<Vec<u8>, Refusal>
     requires { length bytes.now ≤ most_bytes }
     ensures compiled { IfOk result (λ text. IsCompiled bytes.now text.items) }
@@ -86,10 +95,41 @@ fn refusal_of(fault: ParseFault) -> Refusal
     }
 }
 
-/// The C text of a tree, where it is of the first form and keeps the rules.
+/// The C text of a tree that keeps the rules and is of the first form.
+#[tactic(auto, using(crate::proofs::Verdicts::lowered))]
 fn tree_text(alloc: Global, file: &FileTree) -> Result<Vec<u8>, Refusal>
-    ensures printed { IfOk result (λ text. IsTextOf (plain_file file.now) text.items) }
-    ensures unbuilt { IfErr result IsUnbuilt }
+    requires countable { IsCountable (plain_file file.now) }
+    requires sound { broken (plain_file file.now) ≡ None → is_sound (meaning (plain_file file.now)) ≡ true }
+    ensures compiled { IfOk result (λ text. IsCompiledTree text.items (plain_file file.now)) }
+    ensures refused { IfErr result (IsRefusalOfTree (plain_file file.now)) }
+{
+    match lower(alloc, file) {
+        Ok(core) => core_text(alloc, file, &core),
+        Err(fault) => Err(lower_refusal(fault)),
+    }
+}
+
+/// The C text of a tree, whose core this is.
+#[tactic(auto, using(crate::proofs::Verdicts::decided, crate::proofs::Verdicts::kept))]
+fn core_text(alloc: Global, file: &FileTree, core: &Core) -> Result<Vec<u8>, Refusal>
+    requires keeps { broken (plain_file file.now) ≡ None }
+    requires means { plain core.now ≡ meaning (plain_file file.now) }
+    requires sound { is_sound (plain core.now) ≡ true }
+    ensures compiled { IfOk result (λ text. IsCompiledTree text.items (plain_file file.now)) }
+    ensures refused { IfErr result (IsRefusalOfTree (plain_file file.now)) }
+{
+    match check_index(alloc, core) {
+        Ok(()) => kept_text(alloc, file),
+        Err(fault) => Err(rule_refusal(&core.roles, fault)),
+    }
+}
+
+/// The C text of a tree that keeps the rules 1 to 8, where it is of the first form.
+#[tactic(auto, using(crate::proofs::Accepted::accepted))]
+fn kept_text(alloc: Global, file: &FileTree) -> Result<Vec<u8>, Refusal>
+    requires { IsKept (plain_file file.now) }
+    ensures compiled { IfOk result (λ text. IsCompiledTree text.items (plain_file file.now)) }
+    ensures refused { IfErr result (IsRefusalOfTree (plain_file file.now)) }
 {
     match first_text(alloc, file) {
         Ok(text) => Ok(text),

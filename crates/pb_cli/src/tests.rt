@@ -136,35 +136,18 @@ fn gen_of_one_value_of_n(rt: HostRuntime) -> Result<(), Fail> {
 
 #[test]
 fn other_forms_are_not_built(rt: HostRuntime) -> Result<(), Fail> {
-    for (range, roles, body) in [
-        // Other forms.
-        ("2..max", "role W[0..N-1], role V", ""),
-        ("2..max", "role W[1..N]", ""),
-        ("2..max", "role W", ""),
-        ("2..max", "role W[0..N-1]", "A(int32) from W[0] to W[1];"),
+    for (roles, body) in [
+        ("role W[0..N-1], role V", ""),
+        ("role W[1..N]", ""),
+        ("role W[0..N-1]", "A(int32) from W[0] to W[1];"),
+        ("role W[0..N-1]", "A() from W[i:0..N-2] to W[i+1];"),
+        ("role W[0..N-1]", "barrier;"),
         (
-            "2..max",
             "role W[0..N-1]",
-            "A() from W[i:0..N-2] to W[i+1];",
+            "rec X { A() from W[0] to W[1]; continue X; }",
         ),
-        ("2..max", "role W[0..N-1]", "barrier;"),
-        // Names.
-        ("2..max", "role P[0..N-1]", ""),
-        ("2..max", "role W[0..N-1]", "W() from W[0] to W[1];"),
-        ("2..max", "role W[0..N-1]", "A() from V[0] to W[1];"),
-        ("2..max", "role W[0..N-1]", "A() from W[M-1] to W[1];"),
-        // The range, the indices, and ends that meet.
-        ("0..max", "role W[0..N-1]", ""),
-        ("4..3", "role W[0..N-1]", ""),
-        ("2..max", "role W[0..N-1]", "A() from W[0] to W[2];"),
-        ("2..max", "role W[0..N-1]", "A() from W[0] to W[N];"),
-        ("2..max", "role W[0..N-1]", "A() from W[0] to W[N-3];"),
-        ("1..max", "role W[0..N-1]", "A() from W[0] to W[N-1];"),
-        ("5..9", "role W[0..N-1]", "A() from W[N-5] to W[4];"),
     ] {
-        let text = format!(in rt.alloc();
-            "const N = {range};global protocol P({roles}){{{body}}}"
-        )?;
+        let text = file_of(rt.alloc(), "2..max", roles, body)?;
         let (status, line) = generated(rt.alloc(), text.as_bytes())?;
         assert_eq!(rt; status, Status::NotBuilt, "{text}");
         assert_eq!(rt;
@@ -176,9 +159,167 @@ fn other_forms_are_not_built(rt: HostRuntime) -> Result<(), Fail> {
     Ok(())
 }
 
+/// A file of three lines: the constant, the protocol with these roles, and this body.
+fn file_of(alloc: Global, range: &str, roles: &str, body: &str) -> Result<String, AllocError> {
+    format!(in alloc; "const N = {range};\nglobal protocol P({roles}) {{\n{body}\n}}\n")
+}
+
+/// Whether a file with this range, these roles and this body is refused with this line.
+fn is_refused(
+    alloc: Global,
+    range: &str,
+    roles: &str,
+    body: &str,
+    what: &str,
+) -> Result<bool, Fail> {
+    let text = file_of(alloc, range, roles, body)?;
+    let line = format!(in alloc; "pabble: {what}\n")?;
+    let (status, written) = generated(alloc, text.as_bytes())?;
+    Ok(status == Status::Refused && written.as_slice() == line.as_bytes())
+}
+
+#[test]
+fn names_that_break_a_rule(rt: HostRuntime) -> Result<(), Fail> {
+    for (roles, body, what) in [
+        ("role W[0..N-1], role W", "", "rule 1 at 2:40"),
+        ("role P[0..N-1]", "", "rule 1 at 2:24"),
+        ("role W[i..N-1]", "", "rule 1 at 2:26"),
+        (
+            "role W[0..N-1]",
+            "  W() from W[0] to W[1];",
+            "rule 1 at 3:3",
+        ),
+        (
+            "role W[0..N-1]",
+            "  A() from V[0] to W[1];",
+            "rule 1 at 3:12",
+        ),
+        (
+            "role W[0..N-1]",
+            "  A() from W[M-1] to W[1];",
+            "rule 1 at 3:14",
+        ),
+        ("role W[0..N-1]", "  rec X { rec X { } }", "rule 1 at 3:15"),
+        (
+            "role W[0..N-1]",
+            "  broadcast L() from W[0];",
+            "rule 2 at 3:13",
+        ),
+        (
+            "role W[0..N-1]",
+            "  reduce S(int32) with sum to W[0];",
+            "rule 2 at 3:10",
+        ),
+        ("role W[0..N-1]", "  continue X;", "rule 3 at 3:3"),
+    ] {
+        let is_so = is_refused(rt.alloc(), "2..max", roles, body, what)?;
+        assert!(rt; is_so, "{body} {what}");
+    }
+    Ok(())
+}
+
+#[test]
+fn shapes_and_ranges_that_break_a_rule(rt: HostRuntime) -> Result<(), Fail> {
+    for (range, roles, body, what) in [
+        (
+            "2..max",
+            "role W[0..N-1]",
+            "  rec X { continue X; barrier; }",
+            "rule 3 at 3:11",
+        ),
+        (
+            "2..max",
+            "role W[0..N-1]",
+            "  rec X { continue X; } barrier;",
+            "rule 4 at 3:3",
+        ),
+        ("0..max", "role W[0..N-1]", "", "rule 5 at 1:11"),
+        ("4..3", "role W[0..N-1]", "", "rule 5 at 1:14"),
+        ("2..max", "role M", "", "rule 5 at 2:17"),
+        ("2..max", "role W[3..N]", "", "rule 6 at 2:24, N = 2"),
+        ("1..9", "role V, role W[2..N]", "", "rule 6 at 2:32, N = 1"),
+    ] {
+        let is_so = is_refused(rt.alloc(), range, roles, body, what)?;
+        assert!(rt; is_so, "{body} {what}");
+    }
+    Ok(())
+}
+
+#[test]
+fn ends_that_break_a_rule(rt: HostRuntime) -> Result<(), Fail> {
+    for (range, roles, body, what) in [
+        (
+            "2..max",
+            "role W[0..N-1]",
+            "  A() from W[0] to W[N-3];",
+            "rule 7 at 3:20, N = 2, W[-1]",
+        ),
+        (
+            "2..max",
+            "role W[0..N-1]",
+            "  A() from W[i:0..N-1] to W[i+1];",
+            "rule 7 at 3:27, N = 2, W[2]",
+        ),
+        (
+            "2..max",
+            "role W[0..N-1]",
+            "  compute K at W[5];",
+            "rule 7 at 3:16, N = 2, W[5]",
+        ),
+        (
+            "2..max",
+            "role W[0..N-1]",
+            "  A() from W[0] to W[0]; A() from W[0] to W[9];",
+            "rule 7 at 3:43, N = 2, W[9]",
+        ),
+        (
+            "1..max",
+            "role W[0..N-1]",
+            "  A() from W[0] to W[N-1];",
+            "rule 8 at 3:3, N = 1, W[0]",
+        ),
+        (
+            "5..9",
+            "role W[0..N-1]",
+            "  A() from W[N-5] to W[4];",
+            "rule 8 at 3:3, N = 9, W[4]",
+        ),
+        (
+            "1..max",
+            "role W[0..N+100000]",
+            "  A() from W[N] to W[99999];",
+            "rule 8 at 3:3, N = 99999, W[99999]",
+        ),
+        (
+            "2..max",
+            "role W[0..N-1]",
+            "  foreach (i:0..N-1) { A() from W[i] to W[i]; }",
+            "rule 8 at 3:24, N = 2, W[0]",
+        ),
+    ] {
+        let is_so = is_refused(rt.alloc(), range, roles, body, what)?;
+        assert!(rt; is_so, "{body} {what}");
+    }
+    Ok(())
+}
+
+#[test]
+fn too_many_breakpoints(rt: HostRuntime) -> Result<(), Fail> {
+    let mut body = String::new(rt.alloc());
+    for k in 1..60 {
+        let line = format!(in rt.alloc(); "A() from W[{}] to W[N+{}];\n", k * 1000, k * 2)?;
+        body.push_str(&line)?;
+    }
+    let text = file_of(rt.alloc(), "1..max", "role W[0..N+100000]", &body)?;
+    let (status, line) = generated(rt.alloc(), text.as_bytes())?;
+    assert_eq!(rt; status, Status::Limit);
+    assert_eq!(rt; line.as_slice(), b"pabble: limit breakpoints\n".as_slice());
+    Ok(())
+}
+
 /// A file with this body.
 fn with_body(alloc: Global, body: &str) -> Result<String, AllocError> {
-    format!(in alloc; "const N = 2..max;\nglobal protocol P(role W[0..N-1]) {{\n{body}\n}}\n")
+    file_of(alloc, "2..max", "role W[0..N-1]", body)
 }
 
 #[test]

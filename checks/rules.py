@@ -1,0 +1,189 @@
+#!/usr/bin/env python3
+"""Runs the program on files that break one of the rules 1 to 8, or keep them all: `rules.py [PROGRAM]`, by default the
+`pabble` beside this folder. A row has the range of N, the roles, the body, the rule, and what is told of N and a rank.
+An `@` marks the place that the status line must name, and is no part of the file. A row without a rule keeps the rules
+1 to 8: its text is printed, or it is of a form that isn't built yet.
+"""
+import subprocess
+import sys
+import tempfile
+from concurrent.futures import ThreadPoolExecutor
+from pathlib import Path
+
+FOLDER = Path(__file__).resolve().parent
+ANY, RING, PAIR = "2..max", "role W[0..N-1]", "A() from W[0] to W[N-1];"
+NOT_BUILT = (13, "pabble: not built at 1:1\n")
+PROCESSES, SECONDS = 4, 60
+# 59 fixed cuts and 59 that move, which meet at more than 4,096 numbers
+CROWD = "\n".join(f"A() from W[{k * 1000}] to W[N+{k * 2}];" for k in range(1, 60))
+
+ROWS = [
+    # 1: names that stood before as another kind
+    (ANY, "role @P[0..N-1]", "", 1, ""),
+    (ANY, "role @N[0..N-1]", "", 1, ""),
+    (ANY, RING, "@W() from W[0] to W[1];", 1, ""),
+    (ANY, RING, "@N() from W[0] to W[1];", 1, ""),
+    (ANY, RING, "@P() from W[0] to W[1];", 1, ""),
+    (ANY, RING, f"{PAIR} compute @A at W[0];", 1, ""),
+    (ANY, RING, f"compute K at W[0]; choice @K at W[0] {{ {PAIR} }} or {{ {PAIR} }}", 1, ""),
+    (ANY, RING, f"choice K at W[0] {{ {PAIR} }} or {{ {PAIR} compute @K at W[0]; }}", 1, ""),
+    (ANY, RING, f"{PAIR} rec @A {{ {PAIR} }}", 1, ""),
+    (ANY, RING, "rec X { A() from W[@X] to W[1]; }", 1, ""),
+    (ANY, RING, "foreach (@W:0..1) { }", 1, ""),
+    (ANY, RING, "foreach (@N:0..1) { }", 1, ""),
+    (ANY, RING, "A() from W[0] to W[@N:1..2];", 1, ""),
+    (ANY, RING, "foreach (i:0..1) { @i() from W[0] to W[1]; }", 1, ""),
+    (ANY, RING, "continue X; rec Y { A() from @X[0] to W[1]; }", 1, ""),
+    (ANY, RING, "barrier; broadcast @P(int32) from W[0];", 1, ""),
+    (ANY, RING, "reduce @W(int32) with max to W[0];", 1, ""),
+    (ANY, RING, "allreduce @N(int32) with max;", 1, ""),
+    # 1: declared twice
+    (ANY, "role W[0..N-1], role @W", "", 1, ""),
+    (ANY, "role V, role W[0..N-1], role U, role @V[0..1]", "", 1, ""),
+    # 1: bound in the scope of its name
+    (ANY, RING, "rec X { rec @X { } }", 1, ""),
+    (ANY, RING, "rec X { choice K at W[0] { rec @X { } } or { } }", 1, ""),
+    # 1: a role that isn't there
+    (ANY, RING, "A() from @V[0] to W[1];", 1, ""),
+    (ANY, RING, "A() from W[0] to @V[1];", 1, ""),
+    (ANY, RING, "A() from W[0] to @V[i:0..1];", 1, ""),
+    (ANY, RING, "foreach (i:0..1) { A() from @V[i] to W[0]; }", 1, ""),
+    (ANY, RING, "compute K at @V;", 1, ""),
+    (ANY, RING, f"choice K at @V[0] {{ {PAIR} }} or {{ {PAIR} }}", 1, ""),
+    (ANY, RING, "broadcast A(int32) from @V;", 1, ""),
+    (ANY, RING, "reduce A(int32) with max to @V[1];", 1, ""),
+    # 1: a name in a lin that is no constant and no variable in scope
+    (ANY, "role W[@i..N-1]", "", 1, ""),
+    (ANY, "role W[0..@M-1]", "", 1, ""),
+    (ANY, RING, "A() from W[@i] to W[1];", 1, ""),
+    (ANY, RING, "A() from W[0] to W[i:1..@i];", 1, ""),
+    (ANY, RING, "A() from W[0] to W[i:@i..1];", 1, ""),
+    (ANY, RING, "foreach (i:0..@i) { }", 1, ""),
+    (ANY, RING, "foreach (i:0..1) { } A() from W[@i] to W[1];", 1, ""),
+    (ANY, RING, "A() from W[0] to W[i:1..1]; compute K at W[@i];", 1, ""),
+    (ANY, RING, "foreach (i:0..1) { compute K at W[@j]; }", 1, ""),
+    # 2
+    (ANY, RING, f"A(int32) from W[0] to W[1]; @{PAIR}", 2, ""),
+    (ANY, RING, "A(int32) from W[0] to W[1]; @A(uint32) from W[0] to W[1];", 2, ""),
+    (ANY, RING, "A(int32[2]) from W[0] to W[1]; @A(int32[3]) from W[0] to W[1];", 2, ""),
+    (ANY, RING, "A(int32) from W[0] to W[1]; broadcast @A(uint32) from W[0];", 2, ""),
+    (ANY, RING, f"{PAIR} foreach (i:0..1) {{ @A(int32) from W[i] to W[1]; }}", 2, ""),
+    (ANY, RING, f"rec X {{ {PAIR} }} choice K at W[0] {{ @A(int32) from W[0] to W[1]; }} or {{ }}", 2, ""),
+    (ANY, RING, "broadcast @A() from W[0];", 2, ""),
+    (ANY, RING, "reduce @A() with max to W[0];", 2, ""),
+    (ANY, RING, "allreduce @A() with min;", 2, ""),
+    (ANY, RING, "reduce @A(int32) with sum to W[0];", 2, ""),
+    (ANY, RING, "allreduce @A(int32[4]) with sum;", 2, ""),
+    # 3
+    (ANY, RING, "@continue Z;", 3, ""),
+    (ANY, RING, "rec X { @continue X; barrier; }", 3, ""),
+    (ANY, RING, "rec X { } @continue X;", 3, ""),
+    (ANY, RING, "rec X { @continue Y; }", 3, ""),
+    (ANY, RING, "rec X { choice K at W[0] { @continue Y; } or { continue X; } }", 3, ""),
+    (ANY, RING, "rec X { choice K at W[0] { @continue X; barrier; } or { } }", 3, ""),
+    # 4
+    (ANY, RING, "@rec X { continue X; } barrier;", 4, ""),
+    (ANY, RING, "@rec X { A() from W[0] to W[1]; continue X; } B() from W[0] to W[1];", 4, ""),
+    (ANY, RING, "rec X { @rec Y { continue Y; } continue X; }", 4, ""),
+    (ANY, RING, "rec X { @choice K at W[0] { continue X; } or { continue X; } barrier; }", 4, ""),
+    (ANY, RING, "@choice K at W[0] { rec X { continue X; } } or { } barrier;", 4, ""),
+    (ANY, RING, "choice K at W[0] { @rec X { continue X; } barrier; } or { }", 4, ""),
+    # 5
+    ("@0..max", RING, "", 5, ""),
+    ("@0..0", RING, "", 5, ""),
+    ("4..@3", RING, "", 5, ""),
+    ("@00..max", RING, "", 5, ""),
+    (ANY, "role M", "", 5, "P"),
+    ("2..3", "role M, role V[0..5]", "", 5, "P"),
+    (ANY, "role W[N..3]", "", 5, "P"),
+    (ANY, "role W[N..N+3]", "", 5, "P"),
+    # 6
+    (ANY, "role @W[3..N]", "", 6, ", N = 2"),
+    ("1..9", "role V, role @W[2..N]", "", 6, ", N = 1"),
+    ("1..9", "role V[N..3], role W[0..N+9]", "", 5, "P"),
+    ("1..9", "role @V[N..3], role W[0..N], role U[0..N]", "", 6, ", N = 4"),
+    ("1..9", "role W[0..N], role @V[1..0]", "", 6, ", N = 1"),
+    # 7
+    (ANY, RING, "A() from @W[2] to W[0];", 7, ", N = 2, W[2]"),
+    (ANY, RING, "A() from W[0] to @W[N];", 7, ", N = 2, W[2]"),
+    (ANY, RING, "A() from W[0] to @W[N-3];", 7, ", N = 2, W[-1]"),
+    (ANY, RING, "A() from W[i:0..N-1] to @W[i+1];", 7, ", N = 2, W[2]"),
+    (ANY, RING, "A() from @W[i-1] to W[i:0..N-1];", 7, ", N = 2, W[-1]"),
+    (ANY, RING, "foreach (i:0..N) { compute K at @W[i]; }", 7, ", N = 2, W[2]"),
+    (ANY, RING, "foreach (i:0..N-4) { compute K at @W[5]; }", 7, ", N = 4, W[5]"),
+    (ANY, RING, "compute K at @W[5];", 7, ", N = 2, W[5]"),
+    (ANY, RING, f"choice K at @W[N] {{ {PAIR} }} or {{ {PAIR} }}", 7, ", N = 2, W[2]"),
+    (ANY, RING, "broadcast A(int32) from @W[N];", 7, ", N = 2, W[2]"),
+    (ANY, RING, "reduce A(int32) with max to @W[N+7];", 7, ", N = 2, W[9]"),
+    ("3..max", "role V, role W[1..N]", "A() from @V[1] to W[1];", 7, ", N = 3, V[1]"),
+    ("3..max", "role V, role W[1..N]", "A() from V to @W;", 7, ", N = 3, W[0]"),
+    (ANY, RING, "rec X { compute K at @W[2]; continue X; }", 7, ", N = 2, W[2]"),
+    (ANY, RING, "A() from W[0] to W[0]; compute K at @W[9];", 7, ", N = 2, W[9]"),
+    # 8
+    ("1..max", RING, f"@{PAIR}", 8, ", N = 1, W[0]"),
+    ("5..9", RING, "@A() from W[N-5] to W[4];", 8, ", N = 9, W[4]"),
+    (ANY, RING, "@A() from W to W[0];", 8, ", N = 2, W[0]"),
+    (ANY, RING, "@A() from W[i:0..N-1] to W[i];", 8, ", N = 2, W[0]"),
+    (ANY, RING, "@A() from W[i:0..N-1] to W[1];", 8, ", N = 2, W[1]"),
+    ("4..max", RING, "foreach (i:1..N-3) { @A() from W[3] to W[i+1]; }", 8, ", N = 5, W[3]"),
+    ("1..max", "role W[0..N+100000]", "@A() from W[N] to W[99999];\nB() from W[i:0..N] to W[i+100000];", 8, ", N = 99999, W[99999]"),
+    # The least rule, its first place.
+    (ANY, RING, "continue X; barrier; broadcast @A() from W[0];", 2, ""),
+    ("@0..max", "role W[3..N]", "", 5, ""),
+    # The limit between rule 5 and rule 6.
+    ("1..max", "role W[0..N+100000]", CROWD, "limit breakpoints", ""),
+    ("1..max", "role W[0..N+100000], role V[3..N]", CROWD, "limit breakpoints", ""),
+    ("@0..max", "role W[0..N+100000]", CROWD, 5, ""),
+    # Kept.
+    (ANY, RING, PAIR, None, ""),
+    (ANY, RING, "A() from W[i-1] to W[i:1..1]; A() from W[i:0..0] to W[i+1];", None, ""),
+    (ANY, RING, "rec X { rec Y { } } rec X { continue X; }", None, ""),
+    (ANY, RING, "rec X { choice K at W[0] { continue X; } or { barrier; } }", None, ""),
+    (ANY, RING, "reduce S(uint32) with sum to W[0];", None, ""),
+    (ANY, RING, "rec X { A() from W[0] to W[1]; continue X; }", None, ""),
+    (ANY, "role W[1..N]", "", None, ""),
+    (ANY, RING, "A() from W[i:0..N-2] to W[i+1];", None, ""),
+    ("3..3", "role M", "", None, ""),
+    ("100000..max", "role W[0..N+100000]", "A() from W[N] to W[99999];\nB() from W[i:0..N] to W[i+100000];", None, ""),
+    (ANY, RING, "foreach (i:0..N-3) { A() from W[i] to W[i+2]; }", None, ""),
+    ("2..3", RING, "foreach (i:5..4) { A() from W[i] to W[9]; }", None, ""),
+]
+
+
+def place_of(text):
+    """The text without its mark, and the mark's line and column."""
+    before, _, after = text.partition("@")
+    return before + after, f"{before.count(chr(10)) + 1}:{len(before) - before.rfind(chr(10))}"
+
+
+def difference(program, path, row):
+    """What is wrong with the program's answer, or None."""
+    span, roles, body, rule, told = row
+    name = "@P" if told == "P" else "P"
+    text = f"const N = {span};\nglobal protocol {name}({roles.replace('@', '') if told == 'P' else roles}) {{\n  {body}\n}}\n"
+    text, place = place_of(text)
+    path.write_text(text)
+    try:
+        done = subprocess.run([program, "gen", path], stdout=subprocess.PIPE, text=True, timeout=SECONDS)
+    except subprocess.TimeoutExpired:
+        return f"{row}: no answer in {SECONDS} seconds"
+    got = (done.returncode, done.stdout)
+    if rule is None:
+        return None if got[0] == 0 or got == NOT_BUILT else f"{row}: wanted no rule, got {got}"
+    line = f"rule {rule} at {place}{'' if told == 'P' else told}" if isinstance(rule, int) else rule
+    wanted = (1 if isinstance(rule, int) else 5, f"pabble: {line}\n")
+    return None if got == wanted else f"{row}: wanted {wanted}, got {got}"
+
+
+def main(program):
+    subprocess.run([program], stdout=subprocess.DEVNULL)  # builds it, before several processes want it
+    with tempfile.TemporaryDirectory() as folder, ThreadPoolExecutor(PROCESSES) as pool:
+        paths = [Path(folder, f"{number}.pbl") for number in range(len(ROWS))]
+        found = list(pool.map(difference, [program] * len(ROWS), paths, ROWS))
+    wrong = list(filter(None, found))
+    print(*wrong, f"{found.count(None)} passed, {len(wrong)} failed", sep="\n")
+    return 1 if wrong else 0
+
+
+if __name__ == "__main__":
+    sys.exit(main(sys.argv[1] if len(sys.argv) > 1 else FOLDER.parent / "pabble"))
