@@ -1,0 +1,16 @@
+pub mod Feeds
+pub mod Taken
+pub mod Tables
+pub mod Ahead
+pub mod Parted
+pub mod Bodied
+pub mod Heads
+pub mod Counts
+pub mod Stated
+pub mod Good
+pub mod Faulted
+pub mod Clean
+pub mod Cleared
+pub mod Ended
+pub mod Deciding
+pub mod Passing
