@@ -307,7 +307,7 @@ fn ends_that_break_a_rule(rt: HostRuntime) -> Result<(), Fail> {
 fn too_many_breakpoints(rt: HostRuntime) -> Result<(), Fail> {
     let mut body = String::new(rt.alloc());
     for k in 1..60 {
-        let line = format!(in rt.alloc(); "A() from W[{}] to W[N+{}];\n", k * 1000, k * 2)?;
+        let line = format!(in rt.alloc(); "A() from W[{k}000] to W[N+{k}0];\n")?;
         body.push_str(&line)?;
     }
     let text = file_of(rt.alloc(), "1..max", "role W[0..N+100000]", &body)?;
