@@ -1,3 +1,5 @@
 pub mod Tables
 mod Ranges
 mod Plains
+mod Smalls
+mod BranchSteps

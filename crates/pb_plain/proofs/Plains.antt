@@ -11,7 +11,7 @@ use Rattle.pb_core.specs.declared.protocol.CoreRole.{CoreRole}
 use Rattle.pb_core.specs.Tree.{Mark, StmtTree, choice}
 use Rattle.pb_core.specs.Flat as F
 use Rattle.pb_core.specs.FlatOf.{flat_stmt, flat_branches, from_one, rank_of}
-use Rattle.pb_plain.specs.declared.fault.PlainFault.{PlainFault}
+use Rattle.pb_text.specs.declared.memory.NoMemory.{NoMemory}
 use Rattle.pb_plain.specs.declared.flat.Flat.{Flat}
 use Rattle.pb_plain.specs.View.{view}
 use Rattle.pb_core.specs.Plain.{MarkedBlock, MarkedStmt, plain_block, plain_stmt, plain_kind, branches_of, kind_layer, block_layer, stmt_layer}
@@ -25,7 +25,7 @@ plain_choice s k at bs e =
 
 -- a choice whose branches are all built
 pub choice_done : (roles : List CoreRole) (n : ℤ) (ids : List ℕ) (i : ℤ) (m : Mark) (s : CoreStmt) (k : ℕ) (at : CoreEnd) (bs : Vec CoreBlock Global) (left : ℕ)
-    (built : F.Branches) (kept rest : F.Block) (r : Result Flat PlainFault) → kept ≡ rest → s.what ≡ Choice k at bs → left ≤ 0 →
+    (built : F.Branches) (kept rest : F.Block) (r : Result Flat NoMemory) → kept ≡ rest → s.what ≡ Choice k at bs → left ≤ 0 →
     built ≡ flat_branches roles n ids i (branches_of (map plain_block (drop left bs.items))) →
     IfOk r (λ v. view v ≡ F.choice (from_one m at n i) (rank_of roles n at i) k built kept) →
     IfOk r (λ v. view v ≡ flat_stmt roles n ids i m (plain_stmt s).stmt rest)

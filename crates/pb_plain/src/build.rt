@@ -1,21 +1,25 @@
-ghost use Rattle.std.specs.Prelude.{◌≡◌, map, IfOk};
-ghost use Rattle.pb_core.specs.Plain.{plain_block, plain_stmt, branches_of};
+ghost use Rattle.std.specs.Prelude.{◌≡◌, true, map, length, IfOk};
+ghost use Rattle.pb_affine.specs.Values.{IsNear};
+ghost use Rattle.pb_core.specs.Plain.{plain, plain_block, plain_stmt, branches_of};
 ghost use Rattle.pb_core.specs.Ranks.{seats};
+ghost use Rattle.pb_core.specs.Sound.{is_sound};
 ghost use Rattle.pb_core.specs.FlatOf.{flat_stmt, flat_block, flat_branches};
 ghost use Rattle.pb_core.specs.FlatOf as F;
 ghost use Rattle.pb_core.specs.Flat as B;
 ghost use Rattle.pb_plain.specs.Loops.{ids_of};
+ghost use Rattle.pb_plain.specs.Small.{IsTurn, is_small_block, is_small_stmt};
 ghost use Rattle.pb_plain.specs.View.{view, view_branches, mark_of, seat_of, origin_of, collective_of};
 
 use crate::{
-    Branches, Collective, Ends, Flat, Mark, Opens, Origin, PlainFault, Seat, Site, from_one,
-    from_two, mark, range, rank_of, value,
+    Branches, Collective, Ends, Flat, Mark, NoMemory, Opens, Origin, Seat, Site, from_one,
+    from_two, mark, rank_of, turns,
 };
 use pb_core::{Core, CoreBlock, CoreEnd, CoreKind, CoreStmt};
 use std::alloc::Global;
 
 /// The statements of the block before the rest, inside these loops and with i for the variable.
 #[cycle(flat)]
+#[tactic(auto, using(crate::proofs::Smalls::all_small))]
 pub fn flat_block(
     alloc: Global,
     block: &CoreBlock,
@@ -23,8 +27,11 @@ pub fn flat_block(
     site: &Site,
     i: &i64,
     rest: Flat,
-) -> Result<Flat, PlainFault>
-    requires { map seat_of site.now.seats.now ≡ seats site.now.roles.now site.now.n }
+) -> Result<Flat, NoMemory>
+    requires seats { map seat_of site.now.seats.now ≡ seats site.now.roles.now site.now.n }
+    requires n { IsNear site.now.n }
+    requires i { IsTurn i.now }
+    requires small { is_small_block (length (ids_of opens.now)) (plain_block block.now).block ≡ true }
     ensures { IfOk result (λ v. view v ≡ flat_block site.now.roles.now site.now.n (ids_of opens.now) i.now (plain_block block.now).block (view rest)) }
 {
     let mut built = rest;
@@ -38,7 +45,7 @@ pub fn flat_block(
 
 /// The statement before the rest.
 #[cycle(flat)]
-#[tactic(auto, using(crate::proofs::Plains::plain_choice))]
+#[tactic(auto, using(crate::proofs::Plains::plain_choice, crate::proofs::Smalls::small_low, crate::proofs::Smalls::small_high, crate::proofs::Smalls::small_items, crate::proofs::Smalls::small_body, crate::proofs::Smalls::few_loops, crate::proofs::Smalls::all_small_branches))]
 pub fn flat_stmt(
     alloc: Global,
     stmt: &CoreStmt,
@@ -46,8 +53,11 @@ pub fn flat_stmt(
     site: &Site,
     i: &i64,
     rest: Flat,
-) -> Result<Flat, PlainFault>
-    requires { map seat_of site.now.seats.now ≡ seats site.now.roles.now site.now.n }
+) -> Result<Flat, NoMemory>
+    requires seats { map seat_of site.now.seats.now ≡ seats site.now.roles.now site.now.n }
+    requires n { IsNear site.now.n }
+    requires i { IsTurn i.now }
+    requires small { is_small_stmt (length (ids_of opens.now)) (plain_stmt stmt.now).stmt ≡ true }
     ensures { IfOk result (λ v. view v ≡ flat_stmt site.now.roles.now site.now.n (ids_of opens.now) i.now (plain_stmt stmt.now).mark (plain_stmt stmt.now).stmt (view rest)) }
 {
     match &stmt.what {
@@ -55,9 +65,7 @@ pub fn flat_stmt(
             message(alloc, stmt, *label, from, to, site, *i, rest)
         }
         CoreKind::Foreach { low, high, items } => {
-            let first = value(*low, site.n, *i)?;
-            let last = value(*high, site.n, *i)?;
-            let numbers = range(alloc, first, last)?;
+            let numbers = turns(alloc, *low, *high, site.n, *i)?;
             let mut built = rest;
             let mut left = numbers.len();
             while left > 0 {
@@ -71,7 +79,7 @@ pub fn flat_stmt(
             looped(alloc, stmt, inside, rest)
         }
         CoreKind::Again { id } => Ok(Flat::Again {
-            between: opens.between(*id)?,
+            between: opens.between(*id),
         }),
         CoreKind::Choice {
             kernel,
@@ -93,17 +101,17 @@ pub fn flat_stmt(
         CoreKind::Broadcast { label, root } => {
             let joint = Collective::Broadcast {
                 label: *label,
-                root: rank_of(root, site, *i)?,
+                root: rank_of(root, site, *i),
             };
-            together(alloc, from_one(stmt, root, site.n, *i)?, joint, rest)
+            together(alloc, from_one(stmt, root, site.n, *i), joint, rest)
         }
         CoreKind::Reduce { label, op, root } => {
             let joint = Collective::Reduce {
                 label: *label,
                 op: *op,
-                root: rank_of(root, site, *i)?,
+                root: rank_of(root, site, *i),
             };
-            together(alloc, from_one(stmt, root, site.n, *i)?, joint, rest)
+            together(alloc, from_one(stmt, root, site.n, *i), joint, rest)
         }
         CoreKind::Allreduce { label, op } => {
             let joint = Collective::Allreduce {
@@ -139,13 +147,15 @@ fn message(
     site: &Site,
     i: i64,
     rest: Flat,
-) -> Result<Flat, PlainFault>
-    requires { map seat_of site.now.seats.now ≡ seats site.now.roles.now site.now.n }
+) -> Result<Flat, NoMemory>
+    requires seats { map seat_of site.now.seats.now ≡ seats site.now.roles.now site.now.n }
+    requires n { IsNear site.now.n }
+    requires i { IsTurn i }
     ensures { IfOk result (λ v. view v ≡ B.message (F.from_two (plain_stmt stmt.now).mark from.now to.now site.now.n i) (F.rank_of site.now.roles.now site.now.n from.now i) (F.rank_of site.now.roles.now site.now.n to.now i) label (view rest)) }
 {
-    let origin = from_two(stmt, from, to, site.n, i)?;
-    let sender = rank_of(from, site, i)?;
-    let receiver = rank_of(to, site, i)?;
+    let origin = from_two(stmt, from, to, site.n, i);
+    let sender = rank_of(from, site, i);
+    let receiver = rank_of(to, site, i);
     Ok(Flat::Message {
         origin,
         from: sender,
@@ -163,12 +173,14 @@ fn compute(
     site: &Site,
     i: i64,
     rest: Flat,
-) -> Result<Flat, PlainFault>
-    requires { map seat_of site.now.seats.now ≡ seats site.now.roles.now site.now.n }
+) -> Result<Flat, NoMemory>
+    requires seats { map seat_of site.now.seats.now ≡ seats site.now.roles.now site.now.n }
+    requires n { IsNear site.now.n }
+    requires i { IsTurn i }
     ensures { IfOk result (λ v. view v ≡ B.compute (F.from_one (plain_stmt stmt.now).mark at.now site.now.n i) (F.rank_of site.now.roles.now site.now.n at.now i) kernel (view rest)) }
 {
-    let origin = from_one(stmt, at, site.n, i)?;
-    let rank = rank_of(at, site, i)?;
+    let origin = from_one(stmt, at, site.n, i);
+    let rank = rank_of(at, site, i);
     Ok(Flat::Compute {
         origin,
         at: rank,
@@ -177,12 +189,7 @@ fn compute(
     })
 }
 
-fn together(
-    alloc: Global,
-    origin: Origin,
-    joint: Collective,
-    rest: Flat,
-) -> Result<Flat, PlainFault>
+fn together(alloc: Global, origin: Origin, joint: Collective, rest: Flat) -> Result<Flat, NoMemory>
     ensures { IfOk result (λ v. view v ≡ B.together (origin_of origin) (collective_of joint) (view rest)) }
 {
     Ok(Flat::Together {
@@ -192,7 +199,7 @@ fn together(
     })
 }
 
-fn looped(alloc: Global, stmt: &CoreStmt, body: Flat, rest: Flat) -> Result<Flat, PlainFault>
+fn looped(alloc: Global, stmt: &CoreStmt, body: Flat, rest: Flat) -> Result<Flat, NoMemory>
     ensures { IfOk result (λ v. view v ≡ B.looped (F.from_none (plain_stmt stmt.now).mark) (view body) (view rest)) }
 {
     Ok(Flat::Looped {
@@ -207,7 +214,7 @@ fn branch(
     block: &CoreBlock,
     first: Flat,
     rest: Branches,
-) -> Result<Branches, PlainFault>
+) -> Result<Branches, NoMemory>
     ensures { IfOk result (λ v. view_branches v ≡ B.branch (plain_block block.now).mark (view first) (view_branches rest)) }
 {
     Ok(Branches::Branch {
@@ -229,12 +236,14 @@ fn choice(
     site: &Site,
     i: &i64,
     rest: Flat,
-) -> Result<Flat, PlainFault>
-    requires { map seat_of site.now.seats.now ≡ seats site.now.roles.now site.now.n }
+) -> Result<Flat, NoMemory>
+    requires seats { map seat_of site.now.seats.now ≡ seats site.now.roles.now site.now.n }
+    requires n { IsNear site.now.n }
+    requires i { IsTurn i.now }
     ensures { IfOk result (λ v. view v ≡ B.choice (F.from_one (plain_stmt stmt.now).mark at.now site.now.n i.now) (F.rank_of site.now.roles.now site.now.n at.now i.now) kernel (view_branches branches) (view rest)) }
 {
-    let origin = from_one(stmt, at, site.n, *i)?;
-    let rank = rank_of(at, site, *i)?;
+    let origin = from_one(stmt, at, site.n, *i);
+    let rank = rank_of(at, site, *i);
     Ok(Flat::Choice {
         origin,
         at: rank,
@@ -244,9 +253,12 @@ fn choice(
     })
 }
 
-/// The flat protocol of a core at N = n, among these ranks.
-pub fn flat_of(alloc: Global, core: &Core, ranks: &[Seat], n: i64) -> Result<Flat, PlainFault>
-    requires { map seat_of ranks.now ≡ seats core.now.roles.items n }
+/// The flat protocol of a sound core at N = n, within 2^40 of zero, among these ranks.
+#[tactic(auto, using(crate::proofs::Smalls::sound_small))]
+pub fn flat_of(alloc: Global, core: &Core, ranks: &[Seat], n: i64) -> Result<Flat, NoMemory>
+    requires sound { is_sound (plain core.now) ≡ true }
+    requires n { IsNear n }
+    requires seats { map seat_of ranks.now ≡ seats core.now.roles.items n }
     ensures { IfOk result (λ v. view v ≡ F.flat core.now.roles.items n (plain_block core.now.body).block) }
 {
     let site = Site {

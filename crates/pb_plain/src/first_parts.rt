@@ -1,19 +1,22 @@
-ghost use Rattle.std.specs.Prelude.{◌≡◌, ◌++◌, map, OnOk};
+ghost use Rattle.std.specs.Prelude.{◌≡◌, ◌++◌, true, map, length, OnOk};
+ghost use Rattle.pb_affine.specs.Values.{IsNear};
 ghost use Rattle.pb_core.specs.Plain.{plain_block, plain_stmt};
 ghost use Rattle.pb_core.specs.Ranks.{seats};
 ghost use Rattle.pb_core.specs.Parts.{firsts_within, firsts_below};
 ghost use Rattle.pb_plain.specs.Alone.{firsts_if};
 ghost use Rattle.pb_plain.specs.Finds.{outcome_of};
 ghost use Rattle.pb_plain.specs.Loops.{ids_of, held_at};
+ghost use Rattle.pb_plain.specs.Small.{is_small_block, is_small_stmt};
 ghost use Rattle.pb_plain.specs.View.{seat_of};
 
 use crate::parts::is_in_body;
-use crate::{Flat, Held, Opens, Outcome, PlainFault, Site, firsts, flat_block};
+use crate::{Flat, Held, NoMemory, Opens, Outcome, Site, firsts, flat_block};
 use pb_core::{CoreBlock, CoreKind, CoreStmt};
 use std::alloc::Global;
 
 /// Adds what the rank finds first in the block with this number, which stands inside this block and these loops.
 #[cycle(first_parts)]
+#[tactic(auto, using(crate::proofs::Smalls::small_at))]
 pub fn add_firsts_within(
     alloc: Global,
     block: &CoreBlock,
@@ -23,8 +26,10 @@ pub fn add_firsts_within(
     site: &Site,
     rank: u64,
     out: &mut Vec<Outcome>,
-) -> Result<(), PlainFault>
-    requires { map seat_of site.now.seats.now ≡ seats site.now.roles.now site.now.n }
+) -> Result<(), NoMemory>
+    requires seats { map seat_of site.now.seats.now ≡ seats site.now.roles.now site.now.n }
+    requires n { IsNear site.now.n }
+    requires small { is_small_block (length (ids_of opens.now)) (plain_block block.now).block ≡ true }
     ensures { OnOk result (map outcome_of out.new.items ≡ map outcome_of out.old.items ++ firsts_within site.now.roles.now site.now.n rank number (ids_of opens.now) (held_at rank held.now) (plain_block block.now).block) }
 {
     for stmt in &block.list {
@@ -35,6 +40,7 @@ pub fn add_firsts_within(
 
 /// Adds it where the block stands inside this statement.
 #[cycle(first_parts)]
+#[tactic(auto, using(crate::proofs::Smalls::small_loop, crate::proofs::Smalls::small_body, crate::proofs::Smalls::small_branch_at))]
 fn add_firsts_below(
     alloc: Global,
     stmt: &CoreStmt,
@@ -44,8 +50,10 @@ fn add_firsts_below(
     site: &Site,
     rank: u64,
     out: &mut Vec<Outcome>,
-) -> Result<(), PlainFault>
-    requires { map seat_of site.now.seats.now ≡ seats site.now.roles.now site.now.n }
+) -> Result<(), NoMemory>
+    requires seats { map seat_of site.now.seats.now ≡ seats site.now.roles.now site.now.n }
+    requires n { IsNear site.now.n }
+    requires small { is_small_stmt (length (ids_of opens.now)) (plain_stmt stmt.now).stmt ≡ true }
     ensures { OnOk result (map outcome_of out.new.items ≡ map outcome_of out.old.items ++ firsts_below site.now.roles.now site.now.n rank number (ids_of opens.now) (held_at rank held.now) (plain_stmt stmt.now).stmt) }
 {
     match &stmt.what {
@@ -84,8 +92,10 @@ pub fn add_firsts_if(
     site: &Site,
     rank: u64,
     out: &mut Vec<Outcome>,
-) -> Result<(), PlainFault>
-    requires { map seat_of site.now.seats.now ≡ seats site.now.roles.now site.now.n }
+) -> Result<(), NoMemory>
+    requires seats { map seat_of site.now.seats.now ≡ seats site.now.roles.now site.now.n }
+    requires n { IsNear site.now.n }
+    requires small { is_small_block (length (ids_of opens.now)) (plain_block block.now).block ≡ true }
     ensures { OnOk result (map outcome_of out.new.items ≡ map outcome_of out.old.items ++ firsts_if site.now.roles.now site.now.n rank number (ids_of opens.now) (held_at rank held.now) (plain_block block.now)) }
 {
     if number == block.number {

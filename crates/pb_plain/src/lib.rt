@@ -3,7 +3,6 @@
 #![tactic(auto)]
 
 mod build;
-mod fault;
 mod first_parts;
 mod flat;
 mod held;
@@ -17,12 +16,11 @@ mod site;
 mod takes;
 
 pub use build::{flat_block, flat_of, flat_stmt};
-pub use fault::PlainFault;
 pub use first_parts::{add_firsts_if, add_firsts_within};
 pub use flat::{Asked, Branches, Collective, Ends, Flat, Mark, Origin, Seat};
 pub use held::Held;
 pub use numbered::{firsts_in, takes_part_in};
-pub use numbers::{range, value};
+pub use numbers::{range, turns, value};
 pub use opens::Opens;
 pub use outcomes::{Outcome, firsts, firsts_among};
 pub use parts::{is_in_body, takes_part_within};

@@ -1,17 +1,21 @@
-ghost use Rattle.std.specs.Prelude.{◌≡◌, map, IfOk};
+ghost use Rattle.std.specs.Prelude.{◌≡◌, true, map, IfOk};
+ghost use Rattle.pb_affine.specs.Values.{IsNear};
 ghost use Rattle.pb_core.specs.Plain.{plain};
 ghost use Rattle.pb_core.specs.Ranks.{seats};
+ghost use Rattle.pb_core.specs.Sound.{is_sound};
 ghost use Rattle.pb_core.specs.Parts.{takes_part_in, firsts_in};
 ghost use Rattle.pb_plain.specs.Finds.{outcome_of};
 ghost use Rattle.pb_plain.specs.View.{seat_of};
 
 use crate::first_parts::{add_firsts_if, add_firsts_within};
-use crate::{Held, Opens, Outcome, PlainFault, Seat, Site, takes_part_within};
+use crate::{Held, NoMemory, Opens, Outcome, Seat, Site, takes_part_within};
 use pb_core::Core;
 use std::alloc::Global;
 
-/// Whether the rank takes part in the statement with this number at N = n. The ranks are all ranks at n. False where the
+/// Whether the rank takes part in the statement with this number of a sound core at N = n, within 2^40 of zero. The
+/// ranks are all ranks at n. False where the
 /// statement stands in a foreach.
+#[tactic(auto, using(crate::proofs::Smalls::sound_small))]
 pub fn takes_part_in(
     alloc: Global,
     core: &Core,
@@ -19,8 +23,10 @@ pub fn takes_part_in(
     n: i64,
     number: u32,
     rank: u64,
-) -> Result<bool, PlainFault>
-    requires { map seat_of ranks.now ≡ seats core.now.roles.items n }
+) -> Result<bool, NoMemory>
+    requires sound { is_sound (plain core.now) ≡ true }
+    requires n { IsNear n }
+    requires seats { map seat_of ranks.now ≡ seats core.now.roles.items n }
     ensures { IfOk result (λ b. b ≡ takes_part_in (plain core.now) n number rank) }
 {
     let site = Site {
@@ -39,8 +45,10 @@ pub fn takes_part_in(
     )
 }
 
-/// What the rank finds first in the block with this number at N = n. The ranks are all ranks at n. Nothing is listed where the
+/// What the rank finds first in the block with this number of a sound core at N = n, within 2^40 of zero. The
+/// ranks are all ranks at n. Nothing is listed where the
 /// block stands in a foreach.
+#[tactic(auto, using(crate::proofs::Smalls::sound_small))]
 pub fn firsts_in(
     alloc: Global,
     core: &Core,
@@ -48,8 +56,10 @@ pub fn firsts_in(
     n: i64,
     number: u32,
     rank: u64,
-) -> Result<Vec<Outcome>, PlainFault>
-    requires { map seat_of ranks.now ≡ seats core.now.roles.items n }
+) -> Result<Vec<Outcome>, NoMemory>
+    requires sound { is_sound (plain core.now) ≡ true }
+    requires n { IsNear n }
+    requires seats { map seat_of ranks.now ≡ seats core.now.roles.items n }
     ensures { IfOk result (λ v. map outcome_of v.items ≡ firsts_in (plain core.now) n number rank) }
 {
     let site = Site {

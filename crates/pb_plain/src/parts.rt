@@ -1,18 +1,21 @@
-ghost use Rattle.std.specs.Prelude.{◌≡◌, map, IfOk};
+ghost use Rattle.std.specs.Prelude.{◌≡◌, suc, true, map, length, IfOk};
+ghost use Rattle.pb_affine.specs.Values.{IsNear};
 ghost use Rattle.pb_core.specs.Plain.{plain_block, plain_stmt};
 ghost use Rattle.pb_core.specs.Ranks.{seats};
 ghost use Rattle.pb_core.specs.Parts.{is_in_body, takes_part_within};
 ghost use Rattle.pb_plain.specs.Alone.{takes_part_alone, takes_part_at};
 ghost use Rattle.pb_plain.specs.Loops.{ids_of, held_at};
+ghost use Rattle.pb_plain.specs.Small.{is_small_block, is_small_stmt};
 ghost use Rattle.pb_plain.specs.View.{seat_of};
 
-use crate::{Flat, Held, Opens, PlainFault, Site, flat_block, flat_stmt, takes_part};
+use crate::{Flat, Held, NoMemory, Opens, Site, flat_block, flat_stmt, takes_part};
 use pb_core::{CoreBlock, CoreKind, CoreStmt};
 use std::alloc::Global;
 
 /// Whether the rank takes part in the statement with this number, which stands in the block, inside these loops. Statements
 /// inside a foreach aren't looked at.
 #[cycle(parts)]
+#[tactic(auto, using(crate::proofs::Smalls::small_at))]
 pub fn takes_part_within(
     alloc: Global,
     block: &CoreBlock,
@@ -21,8 +24,10 @@ pub fn takes_part_within(
     held: &Held,
     site: &Site,
     rank: u64,
-) -> Result<bool, PlainFault>
-    requires { map seat_of site.now.seats.now ≡ seats site.now.roles.now site.now.n }
+) -> Result<bool, NoMemory>
+    requires seats { map seat_of site.now.seats.now ≡ seats site.now.roles.now site.now.n }
+    requires n { IsNear site.now.n }
+    requires small { is_small_block (length (ids_of opens.now)) (plain_block block.now).block ≡ true }
     ensures { IfOk result (λ b. b ≡ takes_part_within site.now.roles.now site.now.n rank number (ids_of opens.now) (held_at rank held.now) (plain_block block.now).block) }
 {
     for stmt in &block.list {
@@ -35,6 +40,7 @@ pub fn takes_part_within(
 
 /// Whether it is this statement and the rank takes part in it, or it is one inside in which the rank does.
 #[cycle(parts)]
+#[tactic(auto, using(crate::proofs::Smalls::small_loop, crate::proofs::Smalls::small_body, crate::proofs::Smalls::small_branch_at))]
 fn takes_part_at(
     alloc: Global,
     stmt: &CoreStmt,
@@ -43,8 +49,10 @@ fn takes_part_at(
     held: &Held,
     site: &Site,
     rank: u64,
-) -> Result<bool, PlainFault>
-    requires { map seat_of site.now.seats.now ≡ seats site.now.roles.now site.now.n }
+) -> Result<bool, NoMemory>
+    requires seats { map seat_of site.now.seats.now ≡ seats site.now.roles.now site.now.n }
+    requires n { IsNear site.now.n }
+    requires small { is_small_stmt (length (ids_of opens.now)) (plain_stmt stmt.now).stmt ≡ true }
     ensures { IfOk result (λ b. b ≡ takes_part_at site.now.roles.now site.now.n rank number (ids_of opens.now) (held_at rank held.now) (plain_stmt stmt.now)) }
 {
     if number == stmt.number && is_in_stmt(alloc, stmt, opens, held, site, rank)? {
@@ -91,8 +99,10 @@ fn is_in_stmt(
     held: &Held,
     site: &Site,
     rank: u64,
-) -> Result<bool, PlainFault>
-    requires { map seat_of site.now.seats.now ≡ seats site.now.roles.now site.now.n }
+) -> Result<bool, NoMemory>
+    requires seats { map seat_of site.now.seats.now ≡ seats site.now.roles.now site.now.n }
+    requires n { IsNear site.now.n }
+    requires small { is_small_stmt (length (ids_of opens.now)) (plain_stmt stmt.now).stmt ≡ true }
     ensures { IfOk result (λ b. b ≡ takes_part_alone site.now.roles.now site.now.n rank (ids_of opens.now) (held_at rank held.now) (plain_stmt stmt.now)) }
 {
     let alone = flat_stmt(alloc, stmt, opens, site, &0, Flat::Stop)?;
@@ -100,6 +110,7 @@ fn is_in_stmt(
 }
 
 /// Whether the rank takes part in the body of the loop with this id for a reason other than its continue.
+#[tactic(auto, using(crate::proofs::Smalls::small_inside))]
 pub fn is_in_body(
     alloc: Global,
     body: &CoreBlock,
@@ -108,8 +119,10 @@ pub fn is_in_body(
     held: &Held,
     site: &Site,
     rank: u64,
-) -> Result<bool, PlainFault>
-    requires { map seat_of site.now.seats.now ≡ seats site.now.roles.now site.now.n }
+) -> Result<bool, NoMemory>
+    requires seats { map seat_of site.now.seats.now ≡ seats site.now.roles.now site.now.n }
+    requires n { IsNear site.now.n }
+    requires small { is_small_block (suc (length (ids_of opens.now))) (plain_block body.now).block ≡ true }
     ensures { IfOk result (λ b. b ≡ is_in_body site.now.roles.now site.now.n rank (ids_of opens.now) (held_at rank held.now) id (plain_block body.now).block) }
 {
     let inside = flat_block(alloc, body, &Opens::Loop(id, &*opens), site, &0, Flat::Stop)?;

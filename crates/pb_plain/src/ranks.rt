@@ -1,13 +1,15 @@
 ghost use Rattle.std.specs.Prelude.{◌≡◌, ◌++◌, pos, map, length, IfOk, OnOk};
+ghost use Rattle.pb_affine.specs.Values.{IsNear};
 ghost use Rattle.pb_core.specs.Ranks.{seats, seat_eq, number_in};
 ghost use Rattle.pb_plain.specs.View.{seat_of, seats_of, seats_of_role};
 
-use crate::{PlainFault, Seat, range, value};
+use crate::{NoMemory, Seat, range, value};
 use pb_core::CoreRole;
 use std::alloc::Global;
 
-/// All ranks at N = n, in the order of their numbers: roles in declared order, indices ascending.
-pub fn seats(alloc: Global, roles: &[CoreRole], n: i64) -> Result<Vec<Seat>, PlainFault>
+/// All ranks at N = n, within 2^40 of zero, in the order of their numbers: roles in declared order, indices ascending.
+pub fn seats(alloc: Global, roles: &[CoreRole], n: i64) -> Result<Vec<Seat>, NoMemory>
+    requires { IsNear n }
     ensures { IfOk result (λ v. map seat_of v.items ≡ seats roles.now n) }
 {
     let mut list = Vec::new(alloc);
@@ -23,16 +25,17 @@ fn add_role(
     number: u64,
     role: &CoreRole,
     n: i64,
-) -> Result<(), PlainFault>
+) -> Result<(), NoMemory>
+    requires { IsNear n }
     ensures { OnOk result (map seat_of list.new.items ≡ map seat_of list.old.items ++ seats_of number role.now n) }
 {
-    let low = value(role.low, n, 0)?;
-    let high = value(role.high, n, 0)?;
+    let low = value(role.low, n, 0);
+    let high = value(role.high, n, 0);
     let indices = range(alloc, low, high)?;
     add_indices(list, number, &indices)
 }
 
-fn add_indices(list: &mut Vec<Seat>, role: u64, indices: &[i64]) -> Result<(), PlainFault>
+fn add_indices(list: &mut Vec<Seat>, role: u64, indices: &[i64]) -> Result<(), NoMemory>
     ensures { OnOk result (map seat_of list.new.items ≡ map seat_of list.old.items ++ seats_of_role role indices.now) }
 {
     for index in indices {

@@ -1,10 +1,12 @@
-ghost use Rattle.std.specs.Prelude.{◌≡◌, ◌+◌, ◌*◌, map, IfOk};
+ghost use Rattle.std.specs.Prelude.{◌≡◌, ◌+◌, ◌*◌, map};
+ghost use Rattle.pb_affine.specs.Values.{IsNear};
 ghost use Rattle.pb_core.specs.Ranks.{seats};
 ghost use Rattle.pb_core.specs.FlatOf as F;
 ghost use Rattle.pb_core.specs.Plain.{plain_stmt};
+ghost use Rattle.pb_plain.specs.Small.{IsTurn};
 ghost use Rattle.pb_plain.specs.View.{mark_of, seat_of, asked_of, origin_of};
 
-use crate::{Asked, Ends, Mark, Origin, PlainFault, Seat, number_in, value};
+use crate::{Asked, Ends, Mark, Origin, Seat, number_in, value};
 use pb_core::{CoreEnd, CoreRole, CoreStmt};
 
 /// Where a protocol is flattened: its roles and ranks at N = n.
@@ -15,25 +17,29 @@ pub struct Site<'a> {
     pub n: i64,
 }
 
-/// The number of an end's rank, with i for the variable.
-pub fn rank_of(end: &CoreEnd, site: &Site, i: i64) -> Result<u64, PlainFault>
-    requires { map seat_of site.now.seats.now ≡ seats site.now.roles.now site.now.n }
-    ensures { IfOk result (λ p. p ≡ F.rank_of site.now.roles.now site.now.n end.now i) }
+/// The number of an end's rank, with i for the variable. N is within 2^40 of zero and i within 2^41, here and below.
+pub fn rank_of(end: &CoreEnd, site: &Site, i: i64) -> u64
+    requires seats { map seat_of site.now.seats.now ≡ seats site.now.roles.now site.now.n }
+    requires n { IsNear site.now.n }
+    requires i { IsTurn i }
+    ensures { result ≡ F.rank_of site.now.roles.now site.now.n end.now i }
 {
-    let index = value(end.at, site.n, i)?;
+    let index = value(end.at, site.n, i);
     let seat = Seat {
         role: u64::from(end.role),
         index,
     };
-    Ok(number_in(&seat, site.seats))
+    number_in(&seat, site.seats)
 }
 
 /// The end as it stands in the file, with this number.
-pub fn asked(end: &CoreEnd, number: u64, n: i64, i: i64) -> Result<Asked, PlainFault>
-    ensures { IfOk result (λ a. asked_of a ≡ F.asked end.now number n i) }
+pub fn asked(end: &CoreEnd, number: u64, n: i64, i: i64) -> Asked
+    requires n { IsNear n }
+    requires i { IsTurn i }
+    ensures { asked_of result ≡ F.asked end.now number n i }
 {
-    let index = value(end.at, n, i)?;
-    Ok(Asked {
+    let index = value(end.at, n, i);
+    Asked {
         mark: Mark {
             number,
             place: end.place,
@@ -42,7 +48,7 @@ pub fn asked(end: &CoreEnd, number: u64, n: i64, i: i64) -> Result<Asked, PlainF
             role: u64::from(end.role),
             index,
         },
-    })
+    }
 }
 
 /// The number and the place of a statement.
@@ -56,30 +62,28 @@ pub fn mark(stmt: &CoreStmt) -> Mark
 }
 
 /// Where a statement with one end comes from.
-pub fn from_one(stmt: &CoreStmt, end: &CoreEnd, n: i64, i: i64) -> Result<Origin, PlainFault>
-    ensures { IfOk result (λ o. origin_of o ≡ F.from_one (plain_stmt stmt.now).mark end.now n i) }
+pub fn from_one(stmt: &CoreStmt, end: &CoreEnd, n: i64, i: i64) -> Origin
+    requires n { IsNear n }
+    requires i { IsTurn i }
+    ensures { origin_of result ≡ F.from_one (plain_stmt stmt.now).mark end.now n i }
 {
-    let first = asked(end, 2 * u64::from(stmt.number), n, i)?;
-    Ok(Origin {
+    let first = asked(end, 2 * u64::from(stmt.number), n, i);
+    Origin {
         mark: mark(stmt),
         ends: Ends::One(first),
-    })
+    }
 }
 
 /// Where a message comes from.
-pub fn from_two(
-    stmt: &CoreStmt,
-    from: &CoreEnd,
-    to: &CoreEnd,
-    n: i64,
-    i: i64,
-) -> Result<Origin, PlainFault>
-    ensures { IfOk result (λ o. origin_of o ≡ F.from_two (plain_stmt stmt.now).mark from.now to.now n i) }
+pub fn from_two(stmt: &CoreStmt, from: &CoreEnd, to: &CoreEnd, n: i64, i: i64) -> Origin
+    requires n { IsNear n }
+    requires i { IsTurn i }
+    ensures { origin_of result ≡ F.from_two (plain_stmt stmt.now).mark from.now to.now n i }
 {
-    let first = asked(from, 2 * u64::from(stmt.number), n, i)?;
-    let second = asked(to, 2 * u64::from(stmt.number) + 1, n, i)?;
-    Ok(Origin {
+    let first = asked(from, 2 * u64::from(stmt.number), n, i);
+    let second = asked(to, 2 * u64::from(stmt.number) + 1, n, i);
+    Origin {
         mark: mark(stmt),
         ends: Ends::Two(first, second),
-    })
+    }
 }

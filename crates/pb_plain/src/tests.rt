@@ -1,5 +1,8 @@
 use super::*;
-use pb_core::{Base, CoreBlock, CoreEnd, CoreKind, CoreRole, CoreStmt, Lin, NRange, Name};
+use pb_core::{
+    Base, CoreBlock, CoreEnd, CoreKind, CoreLabel, CoreRole, CoreStmt, Lin, NRange, Name, Payload,
+};
+use pb_sound::is_sound;
 use std::alloc::Global;
 use std::test::Fail;
 
@@ -44,7 +47,7 @@ fn message(number: u32, label: u32, from: Lin, to: Lin) -> CoreStmt {
     )
 }
 
-/// A protocol over `W[0..N-1]`.
+/// A protocol over `W[0..N-1]` with one label.
 fn protocol(alloc: Global, body: CoreBlock) -> Result<Core, Fail> {
     let name = Name::of(b"W").ok_or("a name")?;
     let role = CoreRole {
@@ -53,11 +56,15 @@ fn protocol(alloc: Global, body: CoreBlock) -> Result<Core, Fail> {
         low: lin(Base::Fixed, 0),
         high: lin(Base::Param, -1),
     };
+    let label = CoreLabel {
+        name,
+        payload: Payload::Unit,
+    };
     Ok(Core {
         protocol: name,
         range: NRange { low: 2, high: None },
         roles: vec![in alloc; role]?,
-        labels: Vec::new(alloc),
+        labels: vec![in alloc; label]?,
         kernels: Vec::new(alloc),
         body,
         statements: 0,
@@ -81,6 +88,7 @@ fn ring(alloc: Global) -> Result<Core, Fail> {
 fn ring_at_three(rt: HostRuntime) -> Result<(), Fail> {
     let alloc = rt.alloc();
     let core = ring(alloc)?;
+    assert!(rt; is_sound(&core));
     let ranks = seats(alloc, &core.roles, 3)?;
     assert_eq!(rt; ranks.len(), 3);
     let block = flat_of(alloc, &core, &ranks, 3)?;

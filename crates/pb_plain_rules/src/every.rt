@@ -1,6 +1,8 @@
-ghost use Rattle.std.specs.Prelude.{◌≡◌, [], ◌++◌, map, length, OnOk, IfOk};
+ghost use Rattle.std.specs.Prelude.{◌≡◌, [], ◌++◌, true, map, length, OnOk, IfOk};
+ghost use Rattle.pb_affine.specs.Values.{IsNear};
 ghost use Rattle.pb_core.specs.Plain.{plain};
 ghost use Rattle.pb_core.specs.Ranks.{seats, seat_at};
+ghost use Rattle.pb_core.specs.Sound.{is_sound};
 ghost use Rattle.pb_core.specs.Rules.{breaches, over_below, ranked, misfits, each_origin, somebody, nobody, deserted};
 ghost use Rattle.pb_plain.specs.View.{view, mark_of, seat_of};
 ghost use Rattle.pb_plain_rules.specs.Breaches.{breach_of, all_broken};
@@ -8,15 +10,17 @@ ghost use Rattle.pb_plain_rules.specs.Ends.{breaks};
 ghost use Rattle.pb_plain_rules.specs.Fits.{fits};
 
 use crate::{
-    Breach, Core, EndRule, Flat, Held, Mark, NoMemory, PlainFault, Seat, TellRule, add_breaks,
-    add_deserted, add_ends, add_marks, add_ranked, empty_roles, misfits,
+    Breach, Core, EndRule, Flat, Held, Mark, NoMemory, Seat, TellRule, add_breaks, add_deserted,
+    add_ends, add_marks, add_ranked, empty_roles, misfits,
 };
 use pb_plain::{flat_of, seats};
 use std::alloc::Global;
 
-/// Every place at which one of the rules 6 to 12 is broken at N = n: one rule after the other, each in the order of the file, and
-/// the rules 10 to 12 rank by rank.
-pub fn breaches(alloc: Global, core: &Core, n: i64) -> Result<Vec<Breach>, PlainFault>
+/// Every place at which a sound core breaks one of the rules 6 to 12 at N = n, within 2^40 of zero: one rule after the other, each
+/// in the order of the file, and the rules 10 to 12 rank by rank.
+pub fn breaches(alloc: Global, core: &Core, n: i64) -> Result<Vec<Breach>, NoMemory>
+    requires sound { is_sound (plain core.now) ≡ true }
+    requires n { IsNear n }
     ensures { IfOk result (λ v. map breach_of v.items ≡ breaches (plain core.now) n) }
 {
     let ranks = seats(alloc, &core.roles, n)?;

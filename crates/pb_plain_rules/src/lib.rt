@@ -17,7 +17,7 @@ pub use deserted::add_deserted;
 pub use end_rule::{EndRule, add_breaks};
 pub use every::breaches;
 pub use pb_core::{Core, Place};
-pub use pb_plain::{Asked, Branches, Flat, Held, Mark, Outcome, PlainFault, Seat};
+pub use pb_plain::{Asked, Branches, Flat, Held, Mark, Outcome, Seat};
 pub use pb_text::NoMemory;
 pub use roles::empty_roles;
 pub use round::holds_again;

@@ -1,5 +1,9 @@
 use super::*;
-use pb_core::{Base, CoreBlock, CoreEnd, CoreKind, CoreRole, CoreStmt, Lin, NRange, Name};
+use pb_core::{
+    Base, CoreBlock, CoreEnd, CoreKernel, CoreKind, CoreLabel, CoreRole, CoreStmt, KernelKind, Lin,
+    NRange, Name, Payload,
+};
+use pb_sound::is_sound;
 use std::alloc::Global;
 use std::test::Fail;
 
@@ -79,7 +83,7 @@ fn messages(
     Ok(stmt(number, what))
 }
 
-/// A protocol over `W[low..high]` with these statements.
+/// A protocol over `W[low..high]` with two labels, a kernel and these statements.
 fn protocol(alloc: Global, low: Lin, high: Lin, list: Vec<CoreStmt>) -> Result<Core, Fail> {
     let name = Name::of(b"W").ok_or("a name")?;
     let role = CoreRole {
@@ -88,12 +92,20 @@ fn protocol(alloc: Global, low: Lin, high: Lin, list: Vec<CoreStmt>) -> Result<C
         low,
         high,
     };
+    let label = CoreLabel {
+        name,
+        payload: Payload::Unit,
+    };
+    let kernel = CoreKernel {
+        name,
+        kind: KernelKind::Choice,
+    };
     Ok(Core {
         protocol: name,
         range: NRange { low: 1, high: None },
         roles: vec![in alloc; role]?,
-        labels: Vec::new(alloc),
-        kernels: Vec::new(alloc),
+        labels: vec![in alloc; label, label]?,
+        kernels: vec![in alloc; kernel]?,
         body: block(0, LABEL, list),
         statements: 0,
         blocks: 0,
@@ -124,6 +136,7 @@ fn ring(alloc: Global, high: Lin) -> Result<Core, Fail> {
 fn ring_keeps_all(rt: HostRuntime) -> Result<(), Fail> {
     let alloc = rt.alloc();
     let core = ring(alloc, last(-2))?;
+    assert!(rt; is_sound(&core));
     assert!(rt; breaches(alloc, &core, 2)?.is_empty());
     assert!(rt; breaches(alloc, &core, 5)?.is_empty());
     Ok(())
@@ -133,6 +146,7 @@ fn ring_keeps_all(rt: HostRuntime) -> Result<(), Fail> {
 fn ring_of_one(rt: HostRuntime) -> Result<(), Fail> {
     let alloc = rt.alloc();
     let core = ring(alloc, last(-2))?;
+    assert!(rt; is_sound(&core));
     let found = breaches(alloc, &core, 1)?;
     assert_eq!(rt; found.as_slice(), [breach(8, 2, LABEL, seat(0))].as_slice());
     Ok(())
@@ -142,6 +156,7 @@ fn ring_of_one(rt: HostRuntime) -> Result<(), Fail> {
 fn ring_that_goes_too_far(rt: HostRuntime) -> Result<(), Fail> {
     let alloc = rt.alloc();
     let core = ring(alloc, last(-1))?;
+    assert!(rt; is_sound(&core));
     let found = breaches(alloc, &core, 2)?;
     assert_eq!(rt;
         found.as_slice(),
@@ -172,6 +187,7 @@ fn choice(alloc: Global, high: Lin, label: u32) -> Result<Core, Fail> {
 fn last_rank_is_not_told(rt: HostRuntime) -> Result<(), Fail> {
     let alloc = rt.alloc();
     let core = choice(alloc, fixed(3), 1)?;
+    assert!(rt; is_sound(&core));
     assert!(rt; breaches(alloc, &core, 4)?.is_empty());
     let found = breaches(alloc, &core, 5)?;
     assert_eq!(rt;
@@ -185,6 +201,7 @@ fn last_rank_is_not_told(rt: HostRuntime) -> Result<(), Fail> {
 fn both_branches_have_one_label(rt: HostRuntime) -> Result<(), Fail> {
     let alloc = rt.alloc();
     let core = choice(alloc, last(-1), 0)?;
+    assert!(rt; is_sound(&core));
     let found = breaches(alloc, &core, 2)?;
     assert_eq!(rt;
         found.as_slice(),
@@ -212,6 +229,7 @@ fn rounds(alloc: Global) -> Result<Core, Fail> {
 fn nobody_goes_round(rt: HostRuntime) -> Result<(), Fail> {
     let alloc = rt.alloc();
     let core = rounds(alloc)?;
+    assert!(rt; is_sound(&core));
     let found = breaches(alloc, &core, 3)?;
     assert_eq!(rt; found.as_slice(), [breach(9, 0, LABEL, None)].as_slice());
     assert!(rt; breaches(alloc, &core, 4)?.is_empty());
@@ -223,6 +241,7 @@ fn role_has_no_index(rt: HostRuntime) -> Result<(), Fail> {
     let alloc = rt.alloc();
     let sent = message(0, 0, fixed(0), last(-1));
     let core = protocol(alloc, fixed(3), last(0), vec![in alloc; sent]?)?;
+    assert!(rt; is_sound(&core));
     let found = breaches(alloc, &core, 2)?;
     let all = [
         breach(6, 0, NAMED, None),
