@@ -88,11 +88,14 @@ pub decided : (file : PlainFile) (p : Protocol) (e : RuleFault) → broken file 
 decided file p (G.Broken rule place n at) keeps means why = rw means (told_of (subst R.HasFewCases means why.0) (subst (λ (q : Protocol). R.IsFirstAt q rule place n at) means why.1))
   where
     told_of : R.HasFewCases (meaning file) → R.IsFirstAt (meaning file) rule place n at → IsBrokenAt file rule place (Some n) (named_rank (meaning file).roles at)
-    told_of few f = inr (few, (
-      f.b,
-      record { earlier = keeps; broken_at = f.first },
-      (f.of_index, (f.rule_is, (f.place_is, (ap (λ (m : ℤ). Some m) f.n_is, seat_is (meaning file).roles at ∙ ap (named_seat (meaning file).roles) f.at_is)))),
-    ))
+    told_of few f = inr (
+      few,
+      (
+        f.b,
+        record { earlier = keeps; broken_at = f.first },
+        (f.of_index, (f.rule_is, (f.place_is, (ap (λ (m : ℤ). Some m) f.n_is, seat_is (meaning file).roles at ∙ ap (named_seat (meaning file).roles) f.at_is)))),
+      ),
+    )
 decided file p G.TooManyCases keeps means why = (keeps, subst (λ (q : Protocol). HasTooMany q.range (cuts q)) means why)
 decided file p G.NoMemory keeps means why = tt
 
