@@ -1,0 +1,3 @@
+pub mod Bodied
+pub mod Held
+pub mod Only
