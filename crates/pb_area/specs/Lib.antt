@@ -1,0 +1,5 @@
+pub mod Areas
+pub mod Fits
+pub mod First
+pub mod Joins
+pub mod Small

@@ -1,0 +1,24 @@
+//! Areas: the indices of a role between two cuts, for the numbers N between two others. Lists of areas are sets of
+//! ranks for every N at once, and are cut, taken apart and put together by comparing lins.
+#![tactic(auto)]
+
+mod area;
+mod cut;
+mod empty;
+mod first;
+mod guard;
+mod join;
+mod numbers;
+mod pair;
+mod sets;
+#[cfg(test)]
+mod tests;
+
+pub use area::{Area, since, until};
+pub use cut::Two;
+pub use first::first_of;
+pub use guard::{guard_of, guards_of};
+pub use join::push;
+pub use numbers::{is_param, meet};
+pub use pb_text::NoMemory;
+pub use sets::{absorb, add_all, common, one, without};
