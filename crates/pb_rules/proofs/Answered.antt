@@ -11,7 +11,9 @@ use Rattle.pb_rules.specs.declared.found.Found.{Found}
 use Rattle.pb_rules.specs.declared.fault.RuleFault.TheVariants as R
 use Rattle.pb_rules.specs.Sites.{best_of}
 use Rattle.pb_rules.specs.Traps.{broken_of}
+use Rattle.pb_rules.specs.CutLists.{HaveSame}
 use Rattle.pb_rules.specs.Verdict.{KeepsIndex, HasFewCases, IsFault, fault_of}
+use Rattle.pb_rules.proofs.CutSets.{same_too_many}
 use Rattle.pb_rules.proofs.Whole.{first_found, none_found}
 
 pub keeps_index : (p : Protocol) (o : Option Found) → is_sound p ≡ true → o ≡ best_of p → o ≡ None → KeepsIndex p
@@ -22,6 +24,6 @@ is_fault p o f sound few e is =
     let t = first_found p sound f (sym e ∙ is) in
     (few, record { b = broken_of f; first = t.0; of_index = t.1; rule_is = refl; place_is = refl; n_is = refl; at_is = refl })
 
-pub case_fault : (p : Protocol) (list : List Lin) (e : CaseFault) → list ≡ cuts p → Explains p.range list e → IsFault p (fault_of e)
-case_fault p list C.TooManyCases same h = subst (λ l. HasTooMany p.range l) same h
-case_fault p list C.NoMemory same h = tt
+pub case_fault : (p : Protocol) (list v : List Lin) (e : CaseFault) → list ≡ v → HaveSame v (cuts p) → Explains p.range list e → IsFault p (fault_of e)
+case_fault p list v C.TooManyCases is same h = same_too_many p.range v (cuts p) same (subst (λ l. HasTooMany p.range l) is h)
+case_fault p list v C.NoMemory is same h = tt

@@ -1,5 +1,5 @@
 -- The best of many traps is a breach of one of them, and no breach of theirs comes before it.
-use Rattle.std.proofs.Common.{◌≡◌, ℤ, ◌≤ℤ◌, true, false, int_le, ◌⊎◌, inl, inr, Option, Some, None, List, [], ◌∷◌, ◌++◌, if◌then◌else◌, refl, sym, ap, ◌∙◌, subst, arith}
+use Rattle.std.proofs.Common.{◌≡◌, ℤ, ◌≤ℤ◌, true, false, int_le, ◌⊎◌, inl, inr, Option, Some, None, List, [], ◌∷◌, if◌then◌else◌, refl, sym, ap, subst, arith}
 use Rattle.std.proofs.lemmas.Bool.{cases_Bool}
 use Rattle.std.proofs.lemmas.Int.{ints}
 use Rattle.pb_core.specs.Verdict.{Broken, is_before, is_before_seat}

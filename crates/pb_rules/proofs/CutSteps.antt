@@ -67,7 +67,7 @@ plain_foreach s low high items e =
     ∙ ap plain_kind (e ∙ sym (rolls-Foreach low high items))
     ∙ fold-roll-CoreKind StmtTree MarkedBlock MarkedStmt kind_layer block_layer stmt_layer (Layer.Foreach low high items)
 
-on_ok : {T E : Type 0} (r : Result T E) (P Q : Type 0) → (P → Q) → OnOk r P → OnOk r Q
+pub on_ok : {T E : Type 0} (r : Result T E) (P Q : Type 0) → (P → Q) → OnOk r P → OnOk r Q
 on_ok (Ok x) P Q f h = f h
 on_ok (Err e) P Q f h = tt
 

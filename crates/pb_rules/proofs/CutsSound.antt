@@ -1,5 +1,5 @@
 -- The cuts of a sound protocol are small.
-use Rattle.std.proofs.Common.{◌≡◌, ℕ, ◌<◌, ◌≤◌, ℤ, pos, negsuc, ◌+ℤ◌, ◌≤ℤ◌, int_le, Bool, true, false, ◌&&◌, ◌||◌, nat_lt, nat_le, Option, Some, None, List, [], ◌∷◌, ◌++◌, length, refl, sym, ap, ◌∙◌, subst, arith}
+use Rattle.std.proofs.Common.{◌≡◌, ℕ, ◌≤◌, ℤ, pos, negsuc, ◌+ℤ◌, ◌≤ℤ◌, int_le, Bool, true, false, nat_lt, nat_le, Option, Some, None, List, [], ◌∷◌, ◌++◌, length, refl, sym, ap, ◌∙◌, subst, arith}
 use Rattle.std.specs.List.{All}
 use Rattle.std.proofs.lemmas.Bool.{and_parts, and_from, true≢false, leb-true}
 use Rattle.std.proofs.lemmas.Int.{ints}
@@ -16,8 +16,9 @@ use Rattle.pb_core.specs.Plain.{Protocol}
 use Rattle.pb_core.specs.Cuts.{edges, moving, lin_cuts, end_cuts, stmt_cuts, block_cuts, branches_cuts, role_cuts, cuts}
 use Rattle.pb_core.specs.Sound.{is_small, is_over_n, is_bound, Rows, is_end, is_stmt, is_block, are_branches, has_branch, are_roles, reaches, is_range, rows_of, is_sound}
 use Rattle.pb_rules.specs.Verdict.{HasFewCases}
-use Rattle.pb_rules.specs.CutLists.{is_cut, are_cuts}
+use Rattle.pb_rules.specs.CutLists.{is_cut, are_cuts, HaveSame}
 use Rattle.pb_rules.proofs.CutSteps.{cuts_both}
+use Rattle.pb_rules.proofs.CutSets.{same_cuts, same_division}
 
 le_true : (a b : ℤ) → int_le a b ≡ true → a ≤ℤ b
 le_true a b h = grind (arith, ints)
@@ -163,8 +164,8 @@ all_cuts : (ls : List Lin) → are_cuts ls ≡ true → All IsCut ls
 all_cuts [] h = All-nil IsCut
 all_cuts (l ∷ ls) h = let p = and_parts (is_cut l) (are_cuts ls) h in All-cons IsCut l ls (is_one l p.0) (all_cuts ls p.1)
 
-pub are_all : (p : Protocol) (list : List Lin) → is_sound p ≡ true → list ≡ cuts p → All IsCut list
-are_all p list sound e = all_cuts list (ap are_cuts e ∙ small_cuts p sound)
+pub are_all : (p : Protocol) (list v : List Lin) → is_sound p ≡ true → list ≡ v → HaveSame v (cuts p) → All IsCut list
+are_all p list v sound e same = subst (All IsCut) (sym e) (same_cuts v (cuts p) same (all_cuts (cuts p) (small_cuts p sound)))
 
 up_to_high : (low : ℕ) (high : Option ℕ) → reaches low high ≡ true → is_up_to (pos low) high ≡ true
 up_to_high low None h = refl
@@ -177,10 +178,10 @@ has_first_n p sound =
     let r = and_parts (is_range p.range) _ sound in
     up_to_high p.range.low p.range.high (and_parts (nat_le p.range.low 100000) _ (and_parts (nat_lt 0 p.range.low) _ r.0).1).1
 
-pub few_cases : (p : Protocol) (list : List Lin) (d : Division) → list ≡ cuts p → d.range ≡ p.range → d.cuts ≡ list → IsDivision d → length d.breakpoints ≤ 4096 → HasFewCases p
-few_cases p list d e r c division few = record {
+pub few_cases : (p : Protocol) (list v : List Lin) (d : Division) → list ≡ v → HaveSame v (cuts p) → d.range ≡ p.range → d.cuts ≡ list → IsDivision d → length d.breakpoints ≤ 4096 → HasFewCases p
+few_cases p list v d e same r c division few = record {
   breakpoints = d.breakpoints;
   division = subst (λ x. IsDivision (record { range = x; cuts = cuts p; breakpoints = d.breakpoints })) r
-      (subst (λ l. IsDivision (record { range = d.range; cuts = l; breakpoints = d.breakpoints })) (c ∙ e) division);
+      (same_division d.range v (cuts p) d.breakpoints same (subst (λ l. IsDivision (record { range = d.range; cuts = l; breakpoints = d.breakpoints })) (c ∙ e) division));
   few = few;
 }

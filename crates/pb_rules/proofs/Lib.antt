@@ -1,5 +1,6 @@
 pub mod Steps
 pub mod CutSteps
+pub mod CutSets
 pub mod Lists
 pub mod Places
 pub mod Order

@@ -1,5 +1,5 @@
 -- The order of breaches: what is not before another, which is not before a third, is not before the third.
-use Rattle.std.proofs.Common.{◌≡◌, ℕ, ◌≤◌, ℤ, ◌≤ℤ◌, Bool, true, false, ◌||◌, ◌&&◌, nat_eq, nat_lt, ◌⊎◌, inl, inr, Option, Some, None, refl, sym, ◌∙◌, arith}
+use Rattle.std.proofs.Common.{◌≡◌, ℕ, ◌≤◌, ℤ, ◌≤ℤ◌, Bool, true, false, ◌||◌, ◌&&◌, nat_eq, nat_lt, inl, inr, Option, Some, None, refl, sym, ◌∙◌, arith}
 use Rattle.std.specs.Prelude.{int_lt}
 use Rattle.std.specs.Ordering.{int_eq}
 use Rattle.std.proofs.lemmas.Bool.{true≢false, or_parts, or_from, or_cases, and_parts, and_cases, and_left, and_right, cases_Bool, ltb-true, ltb-false, le-ltb, eq-eqb, eqb-true}

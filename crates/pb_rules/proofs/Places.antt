@@ -1,5 +1,5 @@
 -- What a flat protocol has at each statement, it has at a site at a value of its variable, and at each site.
-use Rattle.std.proofs.Common.{◌≡◌, ℕ, ◌+◌, ◌*◌, ℤ, pos, ◌≤ℤ◌, true, false, ◌&&◌, not, ◌||◌, nat_lt, if◌then◌else◌, ◌⊎◌, inl, inr, Option, Some, None, List, [], ◌∷◌, ◌++◌, refl, sym, ap, ◌∙◌, subst}
+use Rattle.std.proofs.Common.{◌≡◌, ℕ, ℤ, pos, true, false, ◌&&◌, not, ◌||◌, nat_lt, if◌then◌else◌, ◌⊎◌, inl, inr, Option, Some, None, List, [], ◌∷◌, ◌++◌, refl, sym, ap, subst}
 use Rattle.std.proofs.lemmas.Bool.{and_parts, cond-false, cases_Bool, true≢false}
 use Rattle.pb_affine.specs.Values.{value, range}
 use Rattle.pb_core.specs.declared.protocol.CoreRole.{CoreRole}

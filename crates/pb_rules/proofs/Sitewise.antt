@@ -1,5 +1,5 @@
 -- The best of sites is a breach at one of them, and no breach at them comes before it.
-use Rattle.std.proofs.Common.{◌≡◌, ℕ, ◌+◌, ◌*◌, ℤ, Bool, true, false, not, ◌⊎◌, inl, inr, Option, Some, IsSome, List, [], ◌∷◌, ◌++◌, if◌then◌else◌, refl, sym, ap, ap₂, ◌∙◌, subst, arith}
+use Rattle.std.proofs.Common.{◌≡◌, ℕ, ◌+◌, ◌*◌, ℤ, Bool, true, false, not, ◌⊎◌, inl, inr, Option, Some, IsSome, List, [], ◌∷◌, if◌then◌else◌, refl, sym, ap, ap₂, ◌∙◌, subst, arith}
 use Rattle.std.specs.List.{slice_get}
 use Rattle.std.proofs.lemmas.Bool.{not-true, not_from_false}
 use Rattle.pb_affine.specs.declared.range.NRange.{NRange}

@@ -1,5 +1,5 @@
 -- The first breach of a protocol's traps is its first of the rules 6 to 8.
-use Rattle.std.proofs.Common.{◌≡◌, ℕ, zero, suc, ◌≤◌, ◌<◌, ℤ, Bool, true, false, ◌&&◌, ◌⊎◌, inl, inr, Option, Some, None, List, [], ◌∷◌, ◌++◌, map, refl, ap, ◌∙◌, subst, arith}
+use Rattle.std.proofs.Common.{◌≡◌, ℕ, zero, suc, ◌≤◌, ◌<◌, ℤ, Bool, true, false, ◌⊎◌, inl, inr, Option, Some, None, List, [], ◌++◌, map, refl, ap, subst, arith}
 use Rattle.std.proofs.lemmas.Bool.{and_parts}
 use Rattle.pb_core.specs.Ranks.{Seat, seats, seat_at}
 use Rattle.pb_core.specs.Tree.{Mark}

@@ -3,9 +3,10 @@ ghost use Rattle.pb_affine.specs.Values.{shifted};
 ghost use Rattle.pb_core.specs.Plain.{plain, plain_block, plain_stmt, branches_of};
 ghost use Rattle.pb_core.specs.Cuts.{edges, end_cuts, stmt_cuts, block_cuts, branches_cuts, role_cuts, cuts};
 ghost use Rattle.pb_rules.specs.Traps.{bounds_if};
-ghost use Rattle.pb_rules.specs.CutLists.{is_cut, are_cuts, lin_of};
+ghost use Rattle.pb_rules.specs.CutLists.{is_cut, are_cuts, lin_of, listed, HaveSame, AreApart};
 
 use crate::ends::Over;
+use crate::offsets::Offsets;
 use pb_affine::{Base, Lin};
 use pb_core::{Core, CoreBlock, CoreEnd, CoreKind, CoreRole, CoreStmt};
 use pb_text::NoMemory;
@@ -18,27 +19,30 @@ pub struct Wide {
     pub off: i64,
 }
 
-/// The cuts of the protocol: of the roles, the ends and the foreaches, in the order of the file.
+/// The cuts of the protocol, of the roles, the ends and the foreaches, each once. Takes time in proportion to the
+/// statements.
 pub fn cuts_of(alloc: Global, core: &Core) -> Result<Vec<Lin>, NoMemory>
     requires { are_cuts (cuts (plain core.now)) ≡ true }
-    ensures { IfOk result (λ v. v.items ≡ cuts (plain core.now)) }
+    ensures same { IfOk result (λ v. HaveSame v.items (cuts (plain core.now))) }
+    ensures once { IfOk result (λ v. AreApart v.items) }
 {
     let mut wide = Vec::new(alloc);
     add_roles(&core.roles, &mut wide)?;
     add_block(&core.body, None, &mut wide)?;
-    narrowed(alloc, &wide)
+    let offsets = offsets_of(alloc, &wide)?;
+    offsets.cuts(alloc)
 }
 
-#[tactic(auto, using(crate::proofs::CutSteps::cuts_both))]
-fn narrowed(alloc: Global, wide: &[Wide]) -> Result<Vec<Lin>, NoMemory>
+#[tactic(auto, using(crate::proofs::CutSteps::cuts_both, crate::proofs::CutSets::nothing_listed))]
+fn offsets_of(alloc: Global, wide: &[Wide]) -> Result<Offsets, NoMemory>
     requires { are_cuts (map lin_of wide.now) ≡ true }
-    ensures { IfOk result (λ v. v.items ≡ map lin_of wide.now) }
+    ensures { IfOk result (λ offsets. HaveSame (listed offsets) (map lin_of wide.now)) }
 {
-    let mut cuts = Vec::new(alloc);
+    let mut offsets = Offsets::new(alloc);
     for one in wide {
-        cuts.push(narrow(*one))?;
+        offsets.add(narrow(*one))?;
     }
-    Ok(cuts)
+    Ok(offsets)
 }
 
 fn narrow(one: Wide) -> Lin

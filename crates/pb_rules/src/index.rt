@@ -16,7 +16,7 @@ use std::alloc::Global;
 /// Whether the protocol keeps the rules 6 to 8 at every N of its range: each role has an index, each index lies in its
 /// role's range, and the sender and the receiver of each message differ. `TooManyCases` exactly where the cuts have more
 /// than 4,096 breakpoints, whether or not a rule is broken; `Broken` at the least breach. Takes time in proportion to the
-/// statements, and to the product of the cuts for the breakpoints.
+/// statements, and to the product of the cuts, each counted once, for the breakpoints.
 pub fn check_index(alloc: Global, core: &Core) -> Result<(), RuleFault>
     requires { is_sound (plain core.now) ≡ true }
     ensures keeps { OnOk result (KeepsIndex (plain core.now)) }
@@ -29,7 +29,7 @@ pub fn check_index(alloc: Global, core: &Core) -> Result<(), RuleFault>
     }
 }
 
-#[tactic(auto, using(crate::proofs::CutsSound::has_first_n, crate::proofs::CutsSound::few_cases, crate::proofs::Answered::case_fault))]
+#[tactic(auto, using(crate::proofs::CutsSound::has_first_n))]
 fn check_cases(alloc: Global, core: &Core) -> Result<(), RuleFault>
     requires { is_sound (plain core.now) ≡ true }
     ensures few { OnOk result (HasFewCases (plain core.now)) }

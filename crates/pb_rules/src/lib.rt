@@ -8,6 +8,7 @@ mod fault;
 mod found;
 mod index;
 mod line;
+mod offsets;
 mod span;
 #[cfg(test)]
 mod tests;
