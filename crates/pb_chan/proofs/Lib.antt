@@ -1,3 +1,5 @@
 pub mod Positions
+pub mod Seen
 pub mod Written
 pub mod Counts
+pub mod Remaining

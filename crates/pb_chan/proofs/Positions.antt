@@ -1,5 +1,5 @@
 -- One more message looked at.
-use Rattle.std.proofs.Common.{◌≡◌, ◌<◌, ◌≤◌, ℕ, zero, suc, ◌+◌, List, [], ◌∷◌, length, drop, get_or, ap, ◌∙◌, sym, refl, Option, Some, None, Bool, true, false, nat_eq, if◌then◌else◌, drop-cons, drop_of_length-le, add-one}
+use Rattle.std.proofs.Common.{◌≡◌, ◌<◌, ◌≤◌, ℕ, suc, ◌+◌, List, length, drop, get_or, ap, ◌∙◌, sym, Some, None, true, false, nat_eq, if◌then◌else◌, drop-cons, drop_of_length-le, add-one}
 use Rattle.pb_chan.specs.declared.message.Message.{Message}
 use Rattle.pb_chan.specs.Lists.{position}
 

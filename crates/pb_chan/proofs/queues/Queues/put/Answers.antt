@@ -1,9 +1,9 @@
-use Rattle.std.proofs.Common.{◌≡◌, ◌&&◌, nat_eq, true, ◌∷◌, ◌++◌, [], refl, ap, sym, subst, ◌∙◌}
+use Rattle.std.proofs.Common.{◌&&◌, nat_eq, true, ◌∷◌, ◌++◌, [], refl, ap, sym, subst, ◌∙◌}
 use Rattle.std.specs.HashMap.{get, PutsEntry}
 use Rattle.std.specs.List.Sorted.{IsPermutation}
 use Rattle.std.specs.Option.{IsSome}
 use Rattle.pb_chan.proofs.Counts.{pushed_words, kept_words, inserted_words}
-use Rattle.pb_chan.specs.Lists.{items_of, messages}
+use Rattle.pb_chan.specs.Shown.{items_of}
 use Rattle.pb_chan.proofs.Written.{on_err, Updated, pushed, kept}
 use Rattle.pb_chan.proofs.queues.Queues.put.Goals as goal
 

@@ -1,7 +1,7 @@
 use Rattle.std.proofs.Common.{◌≡◌, ◌<◌, length, remove, get_or, refl, ap, sym, subst, ◌∙◌}
 use Rattle.std.proofs.lemmas.Option.{slice_get_read}
 use Rattle.std.specs.Option.{IsSome, IfSome, OnSome, option_copied_mut}
-use Rattle.pb_chan.specs.Lists.{items_of, messages}
+use Rattle.pb_chan.specs.Shown.{items_of, list_at}
 use Rattle.pb_chan.proofs.Counts.{removed_words}
 use Rattle.pb_chan.proofs.Written.{removed}
 use Rattle.pb_chan.proofs.queues.Queues.take.Goals as goal
@@ -12,7 +12,7 @@ returns-clause-taken c =
     let message = c.unwrap-message.result in
     let value = subst (λ o. IfSome o (λ y. y ≡ get_or c.unwrap-queue.result.now.items c.args.at y)) c.unwrap-message.ensures c.remove.ensures.value in (
       message.label,
-      slice_get_read (messages c.args.self.now.map c.args.from c.args.to) (length (messages c.args.self.now.map c.args.from c.args.to)) c.args.at message refl c.requires
+      slice_get_read (list_at c.args.self.now.map c.args.from c.args.to) (length (list_at c.args.self.now.map c.args.from c.args.to)) c.args.at message refl c.requires
           (subst (λ l. message ≡ get_or l c.args.at message) (ap items_of had) value),
     )
 

@@ -1,0 +1,5 @@
+pub mod Draws
+pub mod Formats
+pub mod Logged
+pub mod Outcomes
+pub mod Parts

@@ -1,0 +1,15 @@
+use pb_text::Mode;
+
+/// Who makes an event, and in which mode.
+#[derive(Clone, Copy, Debug, PartialEq, Eq)]
+pub struct Turn {
+    pub rank: u32,
+    pub mode: Mode,
+}
+
+/// The seed of a run, and its events in order.
+#[derive(Debug, Drop)]
+pub struct Schedule {
+    pub seed: u64,
+    pub turns: Vec<Turn>,
+}
