@@ -137,12 +137,16 @@ make_program() {
 //! Reads a C text and prints it again. Writes the number of its bytes, and the microseconds that each took.
 #![tactic(auto)]
 
+ghost use Rattle.pb_ctree.specs.Texts.{Spells};
+
 use pb_cprint::print_c;
 use pb_cread::{CText, read_c};
 use std::time::Instant;
 use std::{env, fs, io};
 
-fn print(rt: &HostRuntime, bytes: &[u8], text: CText) -> io::Result<()> {
+fn print(rt: &HostRuntime, bytes: &[u8], text: CText) -> io::Result<()>
+    requires { Spells text.tree text.bodies bytes.now }
+{
     let start = Instant::now(rt)?;
     let printed = print_c(rt.alloc(), &text.tree, &text.bodies);
     let time = start.elapsed(rt)?;
@@ -167,7 +171,7 @@ fn read(rt: &HostRuntime, what: &str, path: &str) -> io::Result<()> {
 }
 
 fn main(rt: HostRuntime) -> io::Result<()> {
-    let words = env::args(&rt)?.skip(1).collect(rt.alloc())?;
+    let words: Vec<String> = env::args(&rt)?.skip(1).collect(rt.alloc())?;
     match words.as_slice() {
         [what, path] => read(&rt, what.as_str(), path.as_str()),
         _ => println!(rt; "read FILE, or print FILE"),
