@@ -1,7 +1,7 @@
 #!/usr/bin/env bash
-# Gives the C text that the built program prints for each file of examples/ to gcc and to clang, where they are installed,
-# with `-std=c99 -pedantic -Wall -Wextra -fsyntax-only`, and prints what they say. Further FILEs may be named. A file that
-# the program doesn't print yet is named and passed over.
+# Gives the text of the reader's tests, and the C text that the built program prints for each file of examples/, to gcc
+# and to clang, where they are installed, with `-std=c99 -pedantic -Wall -Wextra -fsyntax-only`, and prints what they say.
+# Further protocol files may be named. A file that the program doesn't print yet is named and passed over.
 #
 # The text includes <mpi.h>; this script writes one with the names that a text may use, declared as MPI 3.1 declares them.
 # So it shows that a text is C and calls MPI with arguments of the right types. It shows nothing of what the text does:
@@ -43,6 +43,21 @@ END
 
 wrong=0
 count=0
+
+# Gives text.c to both compilers; its name is told where one complains.
+compile() {
+    for compiler in gcc clang; do
+        command -v "$compiler" >/dev/null || { echo "$compiler isn't installed"; continue; }
+        count=$((count + 1))
+        "$compiler" "${flags[@]}" "$work/text.c" || { echo "$1: $compiler"; wrong=$((wrong + 1)); }
+    done
+}
+
+# The text of the reader's tests, which has every statement, stands there as a list of lines.
+texts=crates/pb_texts/src/tests.rt
+sed -n 's/^    b"\(.*\)\\n",$/\1/p' "$top/$texts" | sed 's/\\"/"/g' >"$work/text.c"
+compile "$texts"
+
 for file in "$top"/examples/*.pbl "$@"; do
     said=$("$top/pabble" gen "$file")
     status=$?
@@ -51,11 +66,7 @@ for file in "$top"/examples/*.pbl "$@"; do
         13) echo "$file: not printed yet"; continue ;;
         *) echo "$file: status $status, $said"; wrong=$((wrong + 1)); continue ;;
     esac
-    for compiler in gcc clang; do
-        command -v "$compiler" >/dev/null || { echo "$compiler isn't installed"; continue; }
-        count=$((count + 1))
-        "$compiler" "${flags[@]}" "$work/text.c" || { echo "$file: $compiler"; wrong=$((wrong + 1)); }
-    done
+    compile "$file"
 done
 echo "$count tries, $wrong wrong"
 [ "$wrong" = 0 ] && [ "$count" != 0 ]

@@ -42,7 +42,7 @@ const LINES: [&[u8]; 141] = [
     b"static void make_U(int32_t N, int32_t role, int32_t index, uint32_t *v)\n",
     b"{\n",
     b"/*@ kernel make_U */\n",
-    b"  v[0] = 1; }\n",
+    b"  v[0] = 1; // }\n",
     b"/*@ end */\n",
     b"}\n",
     b"static void take_U(int32_t N, int32_t role, int32_t index, const uint32_t *v)\n",
