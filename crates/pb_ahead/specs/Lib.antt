@@ -1,0 +1,9 @@
+pub mod Numbers
+pub mod Peers
+pub mod Heights
+pub mod Place
+pub mod Meaning
+pub mod Calls
+pub mod View
+pub mod Safe
+pub mod Shown

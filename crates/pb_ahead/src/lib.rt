@@ -1,0 +1,23 @@
+//! What a rank of a printed text does next at a place of its tree, and where that leads: guards, peers, tests and paths.
+#![tactic(auto)]
+
+mod ahead;
+mod call;
+mod me;
+mod next;
+mod numbers;
+mod peers;
+mod place;
+mod state;
+mod step;
+
+pub use ahead::{Ahead, Go};
+pub use call::Call;
+pub use me::Me;
+pub use numbers::tested;
+pub use pb_ctree::{Formula, Op, Stmt, Test};
+pub use state::State;
+pub use step::Step;
+
+#[cfg(test)]
+mod tests;

@@ -1,0 +1,6 @@
+pub mod Moves
+pub mod Views
+pub mod Ranges
+pub mod Counting
+pub mod Phases
+pub mod Samples

@@ -1,0 +1,4 @@
+pub mod Acts
+pub mod Seats
+pub mod Steps
+pub mod Sample

@@ -1,0 +1,9 @@
+use pb_ahead::Call;
+
+/// Whether a rank goes on, is in a collective, or read a label for which there is no test.
+#[derive(Clone, Copy, Debug, PartialEq, Eq)]
+pub enum Phase {
+    Going,
+    Joined(Call),
+    Misled,
+}
