@@ -1,14 +1,16 @@
 -- Areas as guards.
-use Rattle.std.proofs.Common.{◌≡◌, ℤ, pos, negsuc, ◌+ℤ◌, ℕ, Bool, false, ◌||◌, refl, arith, ap, sym, ◌∙◌, List, [], ◌∷◌, ◌++◌, Option, Some, subst}
+use Rattle.std.proofs.Common.{◌≡◌, ℤ, pos, negsuc, ◌+ℤ◌, ◌≤ℤ◌, ℕ, Bool, false, ◌||◌, refl, arith, ap, sym, ◌∙◌, List, [], ◌∷◌, ◌++◌, Option, Some, subst}
 use Rattle.std.proofs.lemmas.Int.{ints}
 use Rattle.std.specs.List.{Contains}
 use Rattle.pb_affine.specs.declared.lin.Lin.{Lin}
 use Rattle.pb_affine.specs.declared.guard.Guard.{Guard}
-use Rattle.pb_affine.specs.Values.{holds, hold, shifted}
+use Rattle.pb_affine.specs.declared.range.NRange.{NRange}
+use Rattle.pb_affine.specs.Values.{holds, hold, shifted, IsSmall}
 use Rattle.pb_cases.specs.Breakpoints.{Division}
 use Rattle.pb_cases.specs.Bounds.{IsAligned, IsEdgeIf, after}
 use Rattle.pb_area.specs.declared.area.Area.{Area}
 use Rattle.pb_area.specs.Fits.{Fits}
+use Rattle.pb_area.specs.Small.{IsSmallArea}
 use Rattle.pb_area.proofs.Bools as bools
 
 back : (a : ℤ) → (a +ℤ negsuc 0) +ℤ pos 1 ≡ a
@@ -37,3 +39,13 @@ hold_pushed xs ys g h n role x e eh =
 
 pub or_nothing : (o h : Bool) → h ≡ false → o ≡ o || h
 or_nothing o h e = bools.or_false o ∙ ap (λ z. o || z) (sym e)
+
+one_less : (x : ℤ) → negsuc 999998 ≤ℤ x → x ≤ℤ pos 1000000 → IsSmall (x +ℤ negsuc 0)
+one_less x h k = record { low = omega (arith, ints, h); high = omega (arith, ints, k) }
+
+near_zero : (x : ℤ) → negsuc 999998 ≤ℤ x → x ≤ℤ pos 1000000 → IsSmall x
+near_zero x h k = record { low = omega (arith, ints, h); high = k }
+
+-- an area that fits can be said by a guard
+pub fits_small : (range : NRange) (cuts : List Lin) (a : Area) → Fits range cuts a → IsSmallArea a
+fits_small range cuts a f = record { low = near_zero a.low.off f.low.least f.low.most; end = one_less a.end.off f.end.least f.end.most }

@@ -1,5 +1,5 @@
 -- Areas whose ends are cuts, for numbers N between breakpoints.
-use Rattle.std.specs.Prelude.{◌≡◌, ◌≢◌, ℕ, ℤ, pos, ◌<ℤ◌, ◌⊎◌, Option, Some, None, List, false}
+use Rattle.std.specs.Prelude.{◌≡◌, ◌≢◌, ℕ, ℤ, pos, negsuc, ◌<ℤ◌, ◌≤ℤ◌, ◌⊎◌, Option, Some, None, List, false}
 use Rattle.std.specs.List.{Contains}
 use Rattle.pb_affine.specs.declared.lin.Base.TheVariants.{Var}
 use Rattle.pb_affine.specs.declared.lin.Lin.{Lin}
@@ -9,10 +9,12 @@ use Rattle.pb_cases.specs.Breakpoints.{IsBreakpoint}
 use Rattle.pb_area.specs.declared.area.Area.{Area}
 use Rattle.pb_area.specs.declared.cut.Two.{Two}
 
--- one of the cuts, and no variable
+-- one of the cuts, no variable, and with a small offset, as the lin before it has
 pub record IsCutOf (cuts : List Lin) (l : Lin) : Type 0 where
   pub there : Contains cuts l
   pub no_var : l.base ≢ Var
+  pub least : negsuc 999998 ≤ℤ l.off
+  pub most : l.off ≤ℤ pos 1000000
 
 -- a breakpoint, a number below the range, or one above it
 pub record IsEdgeOf (range : NRange) (cuts : List Lin) (m : ℤ) : Type 0 where

@@ -14,11 +14,11 @@ mod sets;
 #[cfg(test)]
 mod tests;
 
-pub use area::{Area, since, until};
+pub use area::{Area, nowhere, since, until};
 pub use cut::Two;
 pub use first::first_of;
 pub use guard::{guard_of, guards_of};
 pub use join::push;
 pub use numbers::{is_param, meet};
 pub use pb_text::NoMemory;
-pub use sets::{absorb, add_all, common, one, without};
+pub use sets::{absorb, add_all, add_new, common, copied, one, without};

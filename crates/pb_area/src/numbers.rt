@@ -1,4 +1,4 @@
-ghost use Rattle.std.specs.Prelude.{◌≡◌, ℤ, pos, ◌+ℤ◌, ◌&&◌, int_le, int_lt, true, false, List};
+ghost use Rattle.std.specs.Prelude.{◌≡◌, ℤ, pos, ◌+ℤ◌, ◌-ℤ◌, ◌≤ℤ◌, ◌⊎◌, ◌&&◌, int_le, int_lt, true, false, List};
 ghost use Rattle.pb_affine.specs.declared.lin.Lin.{Lin};
 ghost use Rattle.pb_affine.specs.declared.range.NRange.{NRange};
 ghost use Rattle.pb_area.specs.Areas.{at, is_before, is_param};
@@ -43,6 +43,14 @@ pub fn is_param(base: Base) -> bool
     }
 }
 
+/// How far the first offset is above the second.
+fn gap(high: Lin, low: Lin) -> u32
+    requires { low.off ≤ℤ high.off }
+    ensures { pos result ≡ high.off -ℤ low.off }
+{
+    (i64::from(high.off) - i64::from(low.off)) as u32
+}
+
 #[tactic(auto, using(crate::proofs::Meets::meet_at_once, crate::proofs::Meets::zero_edge))]
 /// The first N from 0 on at which a cut that grows with N isn't below one that doesn't. Takes no memory.
 pub fn meet(fixed: Lin, param: Lin) -> u32
@@ -50,11 +58,12 @@ pub fn meet(fixed: Lin, param: Lin) -> u32
     requires grows { is_param param.base ≡ true }
     ensures is { (n : ℤ) → int_le (pos result) n ≡ int_le (pos 0) n && int_le (at fixed n) (at param n) }
     ensures edge { (range : NRange) (cuts : List Lin) → IsCutOf cuts fixed → IsCutOf cuts param → IsEdgeOf range cuts (pos result) }
+    ensures value { (result ≡ 0) ⊎ (pos result ≡ fixed.off -ℤ param.off) }
 {
     if fixed.off <= param.off {
         0
     } else {
-        (i64::from(fixed.off) - i64::from(param.off)) as u32
+        gap(fixed, param)
     }
 }
 

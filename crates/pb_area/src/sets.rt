@@ -89,14 +89,33 @@ fn missing(alloc: Global, a: Area, list: &[Area]) -> Result<Vec<Area>, NoMemory>
     Ok(left)
 }
 
+/// Adds what the area holds of, as far as it isn't there.
+pub fn add_new(alloc: Global, out: &mut Vec<Area>, a: Area) -> Result<(), NoMemory>
+    ensures is { OnOk result ((n : ℤ) (role : ℕ) (x : ℤ) → have out.new.items n role x ≡ have out.old.items n role x || has a n role x) }
+    ensures fits { OnOk result ((range : NRange) (cuts : List Lin) → All (Fits range cuts) out.old.items → Fits range cuts a → All (Fits range cuts) out.new.items) }
+{
+    let new = missing(alloc, a, out)?;
+    add_all(out, &new)?;
+    Ok(())
+}
+
 /// Adds what the list holds of, as far as it isn't there.
 pub fn absorb(alloc: Global, out: &mut Vec<Area>, more: &[Area]) -> Result<(), NoMemory>
     ensures is { OnOk result ((n : ℤ) (role : ℕ) (x : ℤ) → have out.new.items n role x ≡ have out.old.items n role x || have more.now n role x) }
     ensures fits { OnOk result ((range : NRange) (cuts : List Lin) → All (Fits range cuts) out.old.items → All (Fits range cuts) more.now → All (Fits range cuts) out.new.items) }
 {
     for a in more {
-        let new = missing(alloc, *a, out)?;
-        add_all(out, &new)?;
+        add_new(alloc, out, *a)?;
     }
     Ok(())
+}
+
+/// The same ranks once more.
+pub fn copied(alloc: Global, list: &[Area]) -> Result<Vec<Area>, NoMemory>
+    ensures is { IfOk result (λ v. (n : ℤ) (role : ℕ) (x : ℤ) → have v.items n role x ≡ have list.now n role x) }
+    ensures fits { IfOk result (λ v. (range : NRange) (cuts : List Lin) → All (Fits range cuts) list.now → All (Fits range cuts) v.items) }
+{
+    let mut copy = Vec::new(alloc);
+    add_all(&mut copy, list)?;
+    Ok(copy)
 }

@@ -1,14 +1,11 @@
 use Rattle.pb_area.specs.Joins.{blank}
-use Rattle.pb_area.proofs.Lists.{add_step, add_end, absorbed}
+use Rattle.pb_area.proofs.Lists.{add_step, add_end}
 use Rattle.pb_area.proofs.sets.absorb.Goals as goal
 
 pub loop-a-preserved : goal.loop-a-preserved
 loop-a-preserved c = record {
-  is = λ n role x. add_step _ _ _ _ _ n role x c.loop-a-test.true (absorbed _ _ _ _ (rw c.deref.ensures.value at (c.in_ok-new.ensures.is n role x)) (rw c.deref-in-loop-a.ensures.value at (c.in_ok-add_all.ensures.is n role x))) (c.loop-a.invariant.is n role x);
-  fits = λ range cuts h f.
-      let old = c.loop-a.invariant.fits range cuts h f in
-      (rw c.deref-in-loop-a.ensures.value at (c.in_ok-add_all.ensures.fits range cuts)) old
-      ((rw c.deref.ensures.value at (c.in_ok-new.ensures.fits range cuts)) (f c.loop-a.a-index blank c.loop-a-test.true) old);
+  is = λ n role x. add_step _ _ _ _ _ n role x c.loop-a-test.true (c.in_ok-add_new.ensures.is n role x) (c.loop-a.invariant.is n role x);
+  fits = λ range cuts h f. c.in_ok-add_new.ensures.fits range cuts (c.loop-a.invariant.fits range cuts h f) (f c.loop-a.a-index blank c.loop-a-test.true);
 }
 
 pub returns-clause-is : goal.returns-clause-is
