@@ -1,0 +1,77 @@
+#!/usr/bin/env bash
+# Times `check` of the built program on large protocols: relative messages over eight roles, the mix of four kinds of
+# statement, a choice of 64 branches with 60 messages each, 31 loops that continue each other, and two messages whose ends
+# lie 100,000 apart. RUNS may be given; the best of the runs counts, in milliseconds of processor time.
+top=$(cd "$(dirname "$0")/.." && pwd) || exit 1
+runs=${RUNS:-5}
+work=$(mktemp -d) || exit 1
+trap 'rm -rf "$work"' EXIT
+"$top/pabble" >/dev/null
+program=$top/crates/pb_cli/out/pb_cli
+[ -x "$program" ] || exit 1
+
+relative() {
+    awk -v count="$1" 'BEGIN {
+        printf "const N = 2..max;\nglobal protocol P("
+        for (r = 0; r < 8; r++) printf "%srole W%d[0..N-1]", r ? ", " : "", r
+        print ") {"
+        for (k = 0; k < count; k++) printf "  A%d() from W%d[i:0..N-2] to W%d[i+1];\n", k, k % 8, (k + k % 3) % 8
+        print "}"
+    }'
+}
+
+mixed() {
+    awk -v count="$1" 'BEGIN {
+        print "const N = 2..max;\nglobal protocol Demo(role W[0..N-1]) {"
+        for (k = 0; k < count; k++) {
+            if (k % 4 == 0) print "  A(uint32[4]) from W[i:0..N-2] to W[i+1];"
+            if (k % 4 == 1) print "  B() from W[N-1] to W[0];"
+            if (k % 4 == 2) print "  compute Tick at W[0];"
+            if (k % 4 == 3) print "  allreduce S(uint32[2]) with sum;"
+        }
+        print "}"
+    }'
+}
+
+# Each branch tells the ranks 1 to 60 one by one, under a label of its own.
+choice() {
+    awk 'BEGIN {
+        print "const N = 61..max;\nglobal protocol P(role W[0..N-1]) {\n  choice K at W[0] {"
+        for (b = 0; b < 64; b++) {
+            if (b) print "  } or {"
+            for (k = 1; k <= 60; k++) printf "    L%d() from W[0] to W[%d];\n", b, k
+        }
+        print "  }\n}"
+    }'
+}
+
+# Each loop has a choice that continues it, the one around it, or the next one inside.
+loops() {
+    awk 'BEGIN {
+        print "const N = 2..max;\nglobal protocol P(role W[0..N-1]) {"
+        for (k = 0; k < 31; k++) printf "rec X%d { choice K%d at W[0] { A%d() from W[0] to W[1]; continue X%d; } or { B%d() from W[0] to W[1]; ", k, k, k, k ? k - 1 : 0, k
+        print "C() from W[0] to W[1];"
+        for (k = 0; k < 31; k++) printf "} }"
+        print "\n}"
+    }'
+}
+
+distant() {
+    printf 'const N = 100000..max;\nglobal protocol P(role W[0..N+100000]) {\n  A() from W[N] to W[99999];\n  B() from W[i:0..N] to W[i+100000];\n}\n'
+}
+
+# The best processor time of a check, in milliseconds, and the answer.
+checked() {
+    local TIMEFORMAT='%3U %3S'
+    for ((run = 0; run < runs; run++)); do
+        { time "$program" check "$work/$1.pbl" >"$work/said"; } 2>&1
+    done | awk '{ time = ($1 + $2) * 1000; if (NR == 1 || time < best) best = time } END { printf "%.0f", best }'
+    echo " ms: $1, $(stat -c %s "$work/$1.pbl") bytes: $(cat "$work/said")"
+}
+
+relative 4000 >"$work/relative.pbl"
+mixed 4000 >"$work/mixed.pbl"
+choice >"$work/choice.pbl"
+loops >"$work/loops.pbl"
+distant >"$work/distant.pbl"
+for name in relative mixed choice loops distant; do checked "$name"; done
