@@ -1,0 +1,13 @@
+use Rattle.pb_first.specs.Firsts.{is_small_kind}
+use Rattle.pb_choice.specs.Clashes.{fork}
+use Rattle.pb_choice.proofs.Anys.{far_step, far_done}
+use Rattle.pb_choice.proofs.areas.add_forks.Goals as goal
+
+pub loop-other-preserved : goal.loop-other-preserved
+loop-other-preserved c =
+    far_step (is_small_kind c.args.entry.kind) (fork c.args.entry) c.args.others.now c.loop-other.other-index _ c.args.out.now.items c.loop-other.out.items c.add_fork.new.out.items
+    c.loop-other-test.true c.in_ok-add_fork.ensures c.loop-other.invariant
+
+pub returns : goal.returns
+returns c =
+    far_done (is_small_kind c.args.entry.kind) (fork c.args.entry) c.args.others.now c.loop-other.other-index c.args.out.now.items c.loop-other.out.items c.loop-other-test.false c.loop-other.invariant

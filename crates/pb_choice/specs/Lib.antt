@@ -1,0 +1,10 @@
+pub mod Flaws
+pub mod Found
+pub mod Scenes
+pub mod Walks
+pub mod Told
+pub mod Plainly
+pub mod Verdict
+pub mod Clashes
+pub mod Empties
+pub mod Rounds

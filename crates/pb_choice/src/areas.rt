@@ -1,0 +1,230 @@
+ghost use Rattle.std.specs.Prelude.{◌≡◌, ℕ, ℤ, ◌&&◌, ◌||◌, true, not, IfOk, OnOk};
+ghost use Rattle.pb_area.specs.Areas.{has, have};
+ghost use Rattle.pb_first.specs.Firsts.{is_small_kind, is_small_off, are_small};
+ghost use Rattle.pb_choice.specs.Clashes.{AddsWhere, agrees, clash, clash_any, clashes, fork, fork_any, forks, is_strange, same_label, strange};
+
+use crate::agree::agreement;
+use crate::told::copy_of;
+use pb_affine::Base;
+use pb_area::{Area, add_all, common, one, push, without};
+use pb_first::{Entry, Kind, Source};
+use pb_text::NoMemory;
+use std::alloc::Global;
+
+/// The areas of those that find nothing, or first something that is no receive.
+pub fn strangers(alloc: Global, here: &[Entry], left: &[Area]) -> Result<Vec<Area>, NoMemory>
+    ensures { IfOk result (λ v. (n : ℤ) (role : ℕ) (x : ℤ) → have v.items n role x ≡ have left.now n role x || strange here.now n role x) }
+{
+    let mut out = copy_of(alloc, left)?;
+    for entry in here {
+        add_strange(&mut out, *entry)?;
+    }
+    Ok(out)
+}
+
+fn add_strange(out: &mut Vec<Area>, entry: Entry) -> Result<(), NoMemory>
+    ensures { OnOk result ((n : ℤ) (role : ℕ) (x : ℤ) → have out.new.items n role x ≡ have out.old.items n role x || is_strange entry n role x) }
+{
+    match entry.kind {
+        Kind::Receive { .. } => Ok(()),
+        Kind::Other | Kind::Again => push(out, entry.area),
+    }
+}
+
+/// The areas of those that find a label first that some of them found before.
+pub fn clashes(alloc: Global, here: &[Entry], before: &[Entry]) -> Result<Vec<Area>, NoMemory>
+    ensures { IfOk result (λ v. (n : ℤ) (role : ℕ) (x : ℤ) → have v.items n role x ≡ clashes here.now before.now n role x) }
+{
+    let mut out = Vec::new(alloc);
+    for entry in here {
+        add_clashes(alloc, &mut out, *entry, before)?;
+    }
+    Ok(out)
+}
+
+fn add_clashes(
+    alloc: Global,
+    out: &mut Vec<Area>,
+    entry: Entry,
+    before: &[Entry],
+) -> Result<(), NoMemory>
+    ensures { OnOk result ((n : ℤ) (role : ℕ) (x : ℤ) → have out.new.items n role x ≡ have out.old.items n role x || clash_any before.now entry n role x) }
+{
+    for other in before {
+        add_clash(alloc, out, entry, *other)?;
+    }
+    Ok(())
+}
+
+fn add_clash(alloc: Global, out: &mut Vec<Area>, entry: Entry, other: Entry) -> Result<(), NoMemory>
+    ensures { OnOk result ((n : ℤ) (role : ℕ) (x : ℤ) → have out.new.items n role x ≡ have out.old.items n role x || clash entry other n role x) }
+{
+    if is_same_label(entry.kind, other.kind) {
+        add_common(alloc, out, entry.area, other.area)
+    } else {
+        Ok(())
+    }
+}
+
+fn is_same_label(a: Kind, b: Kind) -> bool
+    ensures { result ≡ same_label a b }
+{
+    match a {
+        Kind::Receive { label, .. } => is_label(b, label),
+        Kind::Other | Kind::Again => false,
+    }
+}
+
+ghost use Rattle.pb_choice.specs.Clashes.{is_label};
+
+fn is_label(kind: Kind, wanted: u32) -> bool
+    ensures { result ≡ is_label wanted kind }
+{
+    match kind {
+        Kind::Receive { label, .. } => wanted == label,
+        Kind::Other | Kind::Again => false,
+    }
+}
+
+fn add_common(alloc: Global, out: &mut Vec<Area>, a: Area, b: Area) -> Result<(), NoMemory>
+    ensures { OnOk result ((n : ℤ) (role : ℕ) (x : ℤ) → have out.new.items n role x ≡ have out.old.items n role x || (has a n role x && has b n role x)) }
+{
+    let both = overlap(alloc, a, b)?;
+    add_all(out, &both)?;
+    Ok(())
+}
+
+fn overlap(alloc: Global, a: Area, b: Area) -> Result<Vec<Area>, NoMemory>
+    ensures { IfOk result (λ v. (n : ℤ) (role : ℕ) (x : ℤ) → have v.items n role x ≡ has a n role x && has b n role x) }
+{
+    let first = one(alloc, a)?;
+    let second = one(alloc, b)?;
+    let both = common(alloc, &first, &second)?;
+    Ok(both)
+}
+
+/// The areas of those that receive from two ranks first, by these entries and by others or these.
+pub fn forks(alloc: Global, here: &[Entry], before: &[Entry]) -> Result<Vec<Area>, NoMemory>
+    ensures { IfOk result (λ v. are_small here.now ≡ true → are_small before.now ≡ true →
+        AreWhere v.items (λ n role x. forks here.now before.now n role x || forks here.now here.now n role x)) }
+{
+    let mut out = Vec::new(alloc);
+    add_all_forks(alloc, &mut out, here, before)?;
+    add_all_forks(alloc, &mut out, here, here)?;
+    Ok(out)
+}
+
+ghost use Rattle.pb_choice.specs.Clashes.{AreWhere};
+
+fn add_all_forks(
+    alloc: Global,
+    out: &mut Vec<Area>,
+    here: &[Entry],
+    others: &[Entry],
+) -> Result<(), NoMemory>
+    ensures { OnOk result (are_small here.now ≡ true → are_small others.now ≡ true → AddsWhere out.old.items out.new.items (forks here.now others.now)) }
+{
+    for entry in here {
+        add_forks(alloc, out, *entry, others)?;
+    }
+    Ok(())
+}
+
+fn add_forks(
+    alloc: Global,
+    out: &mut Vec<Area>,
+    entry: Entry,
+    others: &[Entry],
+) -> Result<(), NoMemory>
+    ensures { OnOk result (is_small_kind entry.kind ≡ true → are_small others.now ≡ true → AddsWhere out.old.items out.new.items (fork_any others.now entry)) }
+{
+    for other in others {
+        add_fork(alloc, out, entry, *other)?;
+    }
+    Ok(())
+}
+
+fn add_fork(alloc: Global, out: &mut Vec<Area>, entry: Entry, other: Entry) -> Result<(), NoMemory>
+    ensures { OnOk result (is_small_kind entry.kind ≡ true → is_small_kind other.kind ≡ true → AddsWhere out.old.items out.new.items (fork entry other)) }
+{
+    match entry.kind {
+        Kind::Receive { from, .. } => add_from(alloc, out, entry.area, from, other),
+        Kind::Other | Kind::Again => Ok(()),
+    }
+}
+
+ghost use Rattle.pb_choice.specs.Clashes.{fork_from};
+
+fn add_from(
+    alloc: Global,
+    out: &mut Vec<Area>,
+    area: Area,
+    from: Source,
+    other: Entry,
+) -> Result<(), NoMemory>
+    ensures { OnOk result (is_small_off from.at.off ≡ true → is_small_kind other.kind ≡ true → AddsWhere out.old.items out.new.items (fork_from area from other)) }
+{
+    match other.kind {
+        Kind::Receive { from: second, .. } => add_unless_same(
+            alloc, out, area, from, other.area, second,
+        ),
+        Kind::Other | Kind::Again => Ok(()),
+    }
+}
+
+// The same sender by both needs no look at the areas.
+fn add_unless_same(
+    alloc: Global,
+    out: &mut Vec<Area>,
+    a: Area,
+    from: Source,
+    b: Area,
+    second: Source,
+) -> Result<(), NoMemory>
+    ensures { OnOk result (is_small_off from.at.off ≡ true → is_small_off second.at.off ≡ true →
+        AddsWhere out.old.items out.new.items (λ n role x. (has a n role x && has b n role x) && not (agrees from second n x))) }
+{
+    if is_same(from, second) {
+        Ok(())
+    } else {
+        add_apart(alloc, out, a, from, b, second)
+    }
+}
+
+ghost use Rattle.std.specs.Prelude.{nat_eq};
+ghost use Rattle.std.specs.Ordering.{int_eq};
+ghost use Rattle.pb_choice.specs.Clashes.{same_base};
+
+fn is_same(a: Source, b: Source) -> bool
+    ensures { result ≡ (nat_eq a.role b.role && same_base a.at.base b.at.base && int_eq a.at.off b.at.off) }
+{
+    a.role == b.role && is_same_base(a.at.base, b.at.base) && a.at.off == b.at.off
+}
+
+fn is_same_base(a: Base, b: Base) -> bool
+    ensures { result ≡ same_base a b }
+{
+    match a {
+        Base::Fixed => matches!(&b, Base::Fixed),
+        Base::Param => matches!(&b, Base::Param),
+        Base::Var => matches!(&b, Base::Var),
+    }
+}
+
+fn add_apart(
+    alloc: Global,
+    out: &mut Vec<Area>,
+    a: Area,
+    from: Source,
+    b: Area,
+    second: Source,
+) -> Result<(), NoMemory>
+    ensures { OnOk result (is_small_off from.at.off ≡ true → is_small_off second.at.off ≡ true →
+        AddsWhere out.old.items out.new.items (λ n role x. (has a n role x && has b n role x) && not (agrees from second n x))) }
+{
+    let both = overlap(alloc, a, b)?;
+    let met = one(alloc, agreement(a, from, second))?;
+    let apart = without(alloc, both, &met)?;
+    add_all(out, &apart)?;
+    Ok(())
+}

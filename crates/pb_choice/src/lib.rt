@@ -1,0 +1,24 @@
+//! Decides the rules 9 to 12 of a protocol for every N of its range at once: each loop that comes round has somebody in it,
+//! and each rank that is told of a choice learns which branch was chosen from what it receives first.
+#![tactic(auto)]
+
+mod agree;
+mod areas;
+mod branch;
+mod empty;
+mod flow;
+mod found;
+mod least;
+mod lone;
+mod past;
+mod round;
+mod rule;
+mod setting;
+#[cfg(test)]
+mod tests;
+mod told;
+mod walk;
+
+pub use flow::check_flow;
+pub use pb_core::Core;
+pub use pb_rules::{At, RuleFault};

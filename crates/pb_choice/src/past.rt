@@ -1,0 +1,10 @@
+use pb_area::Area;
+use pb_first::Entry;
+use std::alloc::Global;
+
+/// What was found first in the branches so far: the receives, and the ranks that receive from more than one rank.
+#[derive(Debug, Drop)]
+pub struct Past {
+    pub entries: Vec<Entry>,
+    pub mixed: Vec<Area>,
+}

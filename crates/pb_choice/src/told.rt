@@ -1,0 +1,51 @@
+ghost use Rattle.std.specs.Prelude.{◌≡◌, ℕ, ℤ, IfOk, map};
+ghost use Rattle.pb_area.specs.Areas.{have};
+ghost use Rattle.pb_core.specs.Plain.{plain_block, branches_of};
+ghost use Rattle.pb_choice.specs.Told.{AreTold, AreAmong};
+
+use crate::setting::Setting;
+use pb_area::{Area, add_all, one, without};
+use pb_core::{CoreBlock, CoreEnd};
+use pb_part::{Held, end_area, takers_in};
+use pb_text::NoMemory;
+use std::alloc::Global;
+
+/// The areas of those that are told of a choice: they take part in some branch, and aren't the chooser.
+pub fn told_of(
+    branches: &[CoreBlock],
+    alloc: Global,
+    setting: &Setting,
+    held: &[Held],
+    at: &CoreEnd,
+) -> Result<Vec<Area>, NoMemory>
+    ensures { IfOk result (λ v. AreTold setting.now.range setting.now.whole.now held.now at.now (branches_of (map plain_block branches.now)) v.items) }
+{
+    let takers = takers_among(branches, alloc, setting, held)?;
+    let chooser = one(alloc, end_area(*at))?;
+    let told = without(alloc, takers, &chooser)?;
+    Ok(told)
+}
+
+fn takers_among(
+    branches: &[CoreBlock],
+    alloc: Global,
+    setting: &Setting,
+    held: &[Held],
+) -> Result<Vec<Area>, NoMemory>
+    ensures { IfOk result (λ v. AreAmong setting.now.range setting.now.whole.now held.now (branches_of (map plain_block branches.now)) v.items) }
+{
+    let mut areas = Vec::new(alloc);
+    for branch in branches {
+        takers_in(branch, alloc, setting.whole, held, &mut areas)?;
+    }
+    Ok(areas)
+}
+
+/// A copy of the areas.
+pub fn copy_of(alloc: Global, areas: &[Area]) -> Result<Vec<Area>, NoMemory>
+    ensures { IfOk result (λ v. (n : ℤ) (role : ℕ) (x : ℤ) → have v.items n role x ≡ have areas.now n role x) }
+{
+    let mut copy = Vec::new(alloc);
+    add_all(&mut copy, areas)?;
+    Ok(copy)
+}

@@ -1,0 +1,12 @@
+pub mod Meets
+pub mod Narrowed
+pub mod Plains
+pub mod Outcomes
+pub mod VisitLists
+pub mod EndAreas
+pub mod Singles
+pub mod EachSteps
+pub mod Steps
+pub mod TakersAs
+pub mod EndFits
+pub mod Searches

@@ -1,0 +1,6 @@
+pub mod Takers
+pub mod Firsts
+pub mod Stopping
+pub mod Visits
+pub mod Fitting
+pub mod Answers

@@ -1,0 +1,21 @@
+//! What a rank finds first in a block, for every N at once.
+#![tactic(auto)]
+
+mod each;
+mod ends;
+mod firsts;
+mod lins;
+mod meet;
+mod search;
+mod single;
+mod stop;
+mod takers;
+#[cfg(test)]
+mod tests;
+mod visit;
+mod walk;
+
+pub use firsts::{Entry, Kind, Source};
+pub use pb_part::Held;
+pub use takers::{takers_in, with_loop};
+pub use walk::firsts_in;
