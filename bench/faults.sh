@@ -23,7 +23,20 @@ asks() {
     fi
 }
 
-not_built="pabble: not built at 1:1"
+# fits: `check` on the bytes of standard input finds no fault of syntax and no limit
+fits() {
+    cat >"$work/p"
+    local said
+    said=$("$top/pabble" check "$work/p")
+    count=$((count + 1))
+    case $said in
+    "pabble: syntax "* | "pabble: limit "*)
+        wrong=$((wrong + 1))
+        echo "$said; and not within the limits: $(head -c 200 "$work/p")"
+        ;;
+    esac
+}
+
 head="const N = 2..max;global protocol P(role W){"
 
 # again PIECE COUNT
@@ -33,13 +46,13 @@ again() { for ((k = 0; k < $2; k++)); do printf '%b' "$1"; done; }
 repeats() {
     for extra in 0 1; do
         { printf '%b' "$1"; again "$2" $(($5 + extra)); printf '%b' "$3"; again "$4" $(($5 + extra)); } >"$work/q"
-        if [ "$extra" = 0 ]; then asks 13 "$not_built" <"$work/q"; else asks 5 "pabble: limit $6" <"$work/q"; fi
+        if [ "$extra" = 0 ]; then fits <"$work/q"; else asks 5 "pabble: limit $6" <"$work/q"; fi
     done
 }
 
 # numbers BEFORE MOST PAST BEHIND LINE
 numbers() {
-    asks 13 "$not_built" < <(printf '%s' "$1$2$4")
+    fits < <(printf '%s' "$1$2$4")
     asks 5 "pabble: limit $5" < <(printf '%s' "$1$3$4")
 }
 

@@ -1,5 +1,5 @@
 #!/usr/bin/env bash
-# Times the built program on protocol files of 1,048,576 bytes that parse and go no further: one of 4,000 statements, one
+# Times the built program on protocol files of 1,048,576 bytes that parse and then break a rule: one of 4,000 statements, one
 # of comments, and one of 4,000 statements below 63 open loops. Prints the least processor time of the runs in MB/s, and
 # beside it `cat` of the same file and, where it is installed, `clang -fsyntax-only` on a C file of that size. RUNS says how many runs.
 top=$(cd "$(dirname "$0")/.." && pwd) || exit 1
@@ -53,7 +53,7 @@ speed() {
 for name in statements comments loops; do
     "$name" | fill >"$work/$name.pbl"
     said=$("$top/pabble" gen "$work/$name.pbl")
-    [ "$said" = "pabble: not built at 1:1" ] || { echo "$name: $said"; exit 1; }
+    [[ $said == "pabble: rule "* ]] || { echo "$name: $said"; exit 1; }
     echo "$name: pabble $(speed "$top/crates/pb_cli/out/pb_cli" gen "$work/$name.pbl"), cat $(speed cat "$work/$name.pbl")"
 done
 if command -v clang >/dev/null; then

@@ -1,8 +1,8 @@
 #!/usr/bin/env python3
-"""Runs the program on files that break one of the rules 1 to 8, or keep them all: `rules.py [PROGRAM]`, by default the
-`pabble` beside this folder. A row has the range of N, the roles, the body, the rule, and what is told of N and a rank.
-An `@` marks the place that the status line must name, and is no part of the file. A row without a rule keeps the rules
-1 to 8: its text is printed, or it is of a form that isn't built yet.
+"""Runs `check` and `gen` on files that break one of the twelve rules, or keep them all: `rules.py [PROGRAM]`, by default
+the `pabble` beside this folder. A row has the range of N, the roles, the body, the rule, and what is told of N and a
+rank. An `@` marks the place that the status line must name, and is no part of the file. A row without a rule keeps them
+all: it is accepted, and its text is printed, or it is of a form that isn't built yet.
 """
 import subprocess
 import sys
@@ -12,7 +12,8 @@ from pathlib import Path
 
 FOLDER = Path(__file__).resolve().parent
 ANY, RING, PAIR = "2..max", "role W[0..N-1]", "A() from W[0] to W[N-1];"
-NOT_BUILT = (13, "pabble: not built at 1:1\n")
+NOT_BUILT, ACCEPTED = (13, "pabble: not built at 1:1\n"), (0, "accepted\n")
+COMMANDS = ["check", "gen"]
 PROCESSES, SECONDS = 4, 60
 # 59 fixed cuts and 59 that move, which meet at more than 4,096 numbers
 CROWD = "\n".join(f"A() from W[{k * 1000}] to W[N+{k * 2}];" for k in range(1, 60))
@@ -127,6 +128,24 @@ ROWS = [
     (ANY, RING, "@A() from W[i:0..N-1] to W[1];", 8, ", N = 2, W[1]"),
     ("4..max", RING, "foreach (i:1..N-3) { @A() from W[3] to W[i+1]; }", 8, ", N = 5, W[3]"),
     ("1..max", "role W[0..N+100000]", "@A() from W[N] to W[99999];\nB() from W[i:0..N] to W[i+100000];", 8, ", N = 99999, W[99999]"),
+    # 9
+    (ANY, RING, "@rec X { continue X; }", 9, ", N = 2"),
+    (ANY, RING, "rec X { rec Y { } } @rec X { continue X; }", 9, ", N = 2"),
+    ("3..max", RING, "@rec X { foreach (i:1..N-3) { A() from W[i] to W[i+1]; } continue X; }", 9, ", N = 3"),
+    ("2..5", RING, "@rec X { foreach (i:5..N) { compute K at W[i-5]; } continue X; }", 9, ", N = 2"),
+    # 10
+    ("4..max", RING, "choice K at W[0] { A() from W[0] to W[i:1..N-1]; } or @{ B() from W[0] to W[i:1..3]; }", 10, ", N = 5, W[4]"),
+    (ANY, RING, "rec X { choice K at W[0] { A() from W[0] to W[1]; continue X; } or @{ } }", 10, ", N = 2, W[1]"),
+    (ANY, RING, "rec X { choice K at W[0] @{ continue X; } or { barrier; } }", 10, ", N = 2, W[1]"),
+    (ANY, RING, "choice K at W[0] @{ barrier; } or { barrier; }", 10, ", N = 2, W[1]"),
+    (ANY, RING, "choice K at W[0] @{ A() from W[1] to W[0]; } or { B() from W[0] to W[1]; }", 10, ", N = 2, W[1]"),
+    ("2..9", RING, "choice K at W[N-1] { A() from W[N-1] to W[0]; } or @{ }", 10, ", N = 2, W[0]"),
+    # 11
+    ("3..max", RING, "choice K at W[0] { A() from W[0] to W[2]; D() from W[0] to W[1]; } or @{ B() from W[0] to W[1]; C() from W[1] to W[2]; }", 11, ", N = 3, W[2]"),
+    # 12
+    (ANY, RING, "choice K at W[0] { A() from W[0] to W[1]; } or @{ A() from W[0] to W[1]; compute L at W[1]; }", 12, ", N = 2, W[1]"),
+    (ANY, RING, "choice K at W[0] { A() from W[0] to W[1]; } or { B() from W[0] to W[1]; } or @{ A() from W[0] to W[1]; }", 12, ", N = 2, W[1]"),
+    ("3..max", RING, "choice K at W[0] { A() from W[0] to W[1]; } or @{ rec X { A() from W[0] to W[1]; continue X; } }", 12, ", N = 3, W[1]"),
     # The least rule, its first place.
     (ANY, RING, "continue X; barrier; broadcast @A() from W[0];", 2, ""),
     ("@0..max", "role W[3..N]", "", 5, ""),
@@ -137,8 +156,8 @@ ROWS = [
     # Kept.
     (ANY, RING, PAIR, None, ""),
     (ANY, RING, "A() from W[i-1] to W[i:1..1]; A() from W[i:0..0] to W[i+1];", None, ""),
-    (ANY, RING, "rec X { rec Y { } } rec X { continue X; }", None, ""),
-    (ANY, RING, "rec X { choice K at W[0] { continue X; } or { barrier; } }", None, ""),
+    (ANY, RING, "rec X { rec Y { } } rec X { A() from W[0] to W[1]; continue X; }", None, ""),
+    (ANY, RING, "rec X { choice K at W[0] { continue X; } or { compute L at W[0]; } }", None, ""),
     (ANY, RING, "reduce S(uint32) with sum to W[0];", None, ""),
     (ANY, RING, "rec X { A() from W[0] to W[1]; continue X; }", None, ""),
     (ANY, "role W[1..N]", "", None, ""),
@@ -146,6 +165,12 @@ ROWS = [
     ("3..3", "role M", "", None, ""),
     ("100000..max", "role W[0..N+100000]", "A() from W[N] to W[99999];\nB() from W[i:0..N] to W[i+100000];", None, ""),
     (ANY, RING, "foreach (i:0..N-3) { A() from W[i] to W[i+2]; }", None, ""),
+    ("4..max", RING, "rec X { foreach (i:1..N-3) { A() from W[i] to W[i+1]; } continue X; }", None, ""),
+    ("3..max", RING, "rec X { foreach (i:1..N-3) { A() from W[i] to W[i+1]; } }", None, ""),
+    ("4..4", RING, "choice K at W[0] { A() from W[0] to W[i:1..N-1]; } or { B() from W[0] to W[i:1..3]; }", None, ""),
+    (ANY, RING, "choice K at W[0] { Go() from W[0] to W[i:1..N-1]; barrier; } or { Stop() from W[0] to W[i:1..N-1]; barrier; }", None, ""),
+    ("3..max", RING, "choice K at W[0] { Go() from W[i:0..N-2] to W[i+1]; } or { Stop() from W[i:0..N-2] to W[i+1]; }", None, ""),
+    ("4..max", RING, "rec X { choice K at W[0] { Go() from W[0] to W[1]; continue X; } or { Stop() from W[0] to W[1]; } } A() from W[2] to W[3];", None, ""),
     ("2..3", RING, "foreach (i:5..4) { A() from W[i] to W[9]; }", None, ""),
 ]
 
@@ -156,23 +181,37 @@ def place_of(text):
     return before + after, f"{before.count(chr(10)) + 1}:{len(before) - before.rfind(chr(10))}"
 
 
-def difference(program, path, row):
-    """What is wrong with the program's answer, or None."""
+def file_and_line(row):
+    """The row's file, and the exit status and the line that both commands must give, or None where no rule is broken."""
     span, roles, body, rule, told = row
     name = "@P" if told == "P" else "P"
     text = f"const N = {span};\nglobal protocol {name}({roles.replace('@', '') if told == 'P' else roles}) {{\n  {body}\n}}\n"
     text, place = place_of(text)
-    path.write_text(text)
-    try:
-        done = subprocess.run([program, "gen", path], stdout=subprocess.PIPE, text=True, timeout=SECONDS)
-    except subprocess.TimeoutExpired:
-        return f"{row}: no answer in {SECONDS} seconds"
-    got = (done.returncode, done.stdout)
     if rule is None:
-        return None if got[0] == 0 or got == NOT_BUILT else f"{row}: wanted no rule, got {got}"
+        return text, None
     line = f"rule {rule} at {place}{'' if told == 'P' else told}" if isinstance(rule, int) else rule
-    wanted = (1 if isinstance(rule, int) else 5, f"pabble: {line}\n")
-    return None if got == wanted else f"{row}: wanted {wanted}, got {got}"
+    return text, (1 if isinstance(rule, int) else 5, f"pabble: {line}\n")
+
+
+def difference(program, path, row):
+    """What is wrong with the program's answers, or None."""
+    text, wanted = file_and_line(row)
+    path.write_text(text)
+    for command in COMMANDS:
+        try:
+            done = subprocess.run([program, command, path], stdout=subprocess.PIPE, text=True, timeout=SECONDS)
+        except subprocess.TimeoutExpired:
+            return f"{command} {row}: no answer in {SECONDS} seconds"
+        got = (done.returncode, done.stdout)
+        if wanted is not None:
+            is_right = got == wanted
+        elif command == "check":
+            is_right = got == ACCEPTED
+        else:
+            is_right = got == NOT_BUILT or (got[0] == 0 and got[1].startswith("/* pabble 1 */\n"))
+        if not is_right:
+            return f"{command} {row}: wanted {wanted or 'no rule'}, got {got}"
+    return None
 
 
 def main(program):

@@ -1,4 +1,4 @@
-pub mod Accepted
+pub mod Answered
 pub mod Endpoints
 pub mod Fronts
 pub mod Messages

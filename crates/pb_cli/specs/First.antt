@@ -1,6 +1,6 @@
 -- Protocol files of the first form, which have one role [0..N-1] and messages without payload between fixed ends, and the
 -- endpoint program of each.
-use Rattle.std.specs.Prelude.{◌≡◌, ℕ, ℤ, pos, negsuc, ◌≤◌, Bool, true, false, ◌&&◌, ◌||◌, not, nat_eq, if◌then◌else◌, IsTrue, Option, Some, None, unwrap_or, List, [], ◌∷◌, ◌++◌, length, map, All}
+use Rattle.std.specs.Prelude.{◌≡◌, ℕ, ℤ, pos, negsuc, ◌≤◌, Bool, ◌&&◌, ◌||◌, not, nat_eq, if◌then◌else◌, IsTrue, Option, Some, None, unwrap_or, List, [], ◌∷◌, ◌++◌, length, map, All}
 use Rattle.std.specs.Cmp.Lexicographic.{pointwise}
 use Rattle.pb_text.specs.declared.place.Spot.{Spot}
 use Rattle.pb_text.specs.Tables.{position_of}

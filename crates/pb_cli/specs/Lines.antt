@@ -1,4 +1,4 @@
--- The status of a refusal, and the line that tells it.
+-- The status of a refusal, the line that tells it, and the line of a file that is accepted.
 use Rattle.std.specs.Prelude.{ℕ, ℤ, List, [], ◌++◌, Option, Some, None, codes, decimal}
 use Rattle.std.specs.Fmt.{signed_decimal}
 use Rattle.pb_text.specs.declared.place.Place.{Place}
@@ -73,3 +73,7 @@ line_of (refusal.Limit limit place) = line_at (limit_words limit) place
 line_of refusal.Breakpoints = codes "pabble: limit breakpoints\n"
 line_of (refusal.Broken rule place n at) = rule_line rule place n at
 line_of (refusal.NotBuilt place) = line_at (codes "pabble: not built") place
+
+-- the line of a file that is accepted
+abbrev pub accepted_line : List ℕ
+accepted_line = codes "accepted\n"

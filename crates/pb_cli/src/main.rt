@@ -4,6 +4,7 @@
 //! system's files and standard output, and ends with the code of its status.
 #![tactic(auto)]
 
+mod answer;
 mod broken;
 mod call;
 mod first;

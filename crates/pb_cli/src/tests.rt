@@ -85,7 +85,17 @@ fn strings(alloc: Global, words: &[&str]) -> Result<Vec<String>, AllocError> {
 
 /// The status of `gen p` where p has these bytes, and what was written.
 fn generated(alloc: Global, text: &[u8]) -> Result<(Status, Vec<u8>), Fail> {
-    let words = strings(alloc, &["gen", "p"])?;
+    answered(alloc, "gen", text)
+}
+
+/// The same of `check p`.
+fn checked(alloc: Global, text: &[u8]) -> Result<(Status, Vec<u8>), Fail> {
+    answered(alloc, "check", text)
+}
+
+/// The same of this command.
+fn answered(alloc: Global, command: &str, text: &[u8]) -> Result<(Status, Vec<u8>), Fail> {
+    let words = strings(alloc, &[command, "p"])?;
     let mut folder = MemFolder::new(files(alloc, text)?, Vec::new(alloc));
     let mut out = MemSink::new(alloc, 8192, 8192, Vec::new(alloc))?;
     let status = pabble(alloc, &words, &mut folder, &mut out, word);
@@ -164,7 +174,7 @@ fn file_of(alloc: Global, range: &str, roles: &str, body: &str) -> Result<String
     format!(in alloc; "const N = {range};\nglobal protocol P({roles}) {{\n{body}\n}}\n")
 }
 
-/// Whether a file with this range, these roles and this body is refused with this line.
+/// Whether both commands refuse a file with this range, these roles and this body with this line.
 fn is_refused(
     alloc: Global,
     range: &str,
@@ -175,7 +185,9 @@ fn is_refused(
     let text = file_of(alloc, range, roles, body)?;
     let line = format!(in alloc; "pabble: {what}\n")?;
     let (status, written) = generated(alloc, text.as_bytes())?;
-    Ok(status == Status::Refused && written.as_slice() == line.as_bytes())
+    let is_so = status == Status::Refused && written.as_slice() == line.as_bytes();
+    let (status, written) = checked(alloc, text.as_bytes())?;
+    Ok(is_so && status == Status::Refused && written.as_slice() == line.as_bytes())
 }
 
 #[test]
@@ -304,6 +316,78 @@ fn ends_that_break_a_rule(rt: HostRuntime) -> Result<(), Fail> {
 }
 
 #[test]
+fn loops_and_choices_that_break_a_rule(rt: HostRuntime) -> Result<(), Fail> {
+    for (range, body, what) in [
+        (
+            "3..max",
+            "  rec X { foreach (i:1..N-3) { A() from W[i] to W[i+1]; } continue X; }",
+            "rule 9 at 3:3, N = 3",
+        ),
+        (
+            "4..max",
+            "  choice K at W[0] {
+    A() from W[0] to W[i:1..N-1];
+  } or {
+    B() from W[0] to W[i:1..3];
+  }",
+            "rule 10 at 5:8, N = 5, W[4]",
+        ),
+        (
+            "3..max",
+            "  choice K at W[0] {
+    A() from W[0] to W[2]; D() from W[0] to W[1];
+  } or {
+    B() from W[0] to W[1]; C() from W[1] to W[2];
+  }",
+            "rule 11 at 5:8, N = 3, W[2]",
+        ),
+        (
+            "2..max",
+            "  choice K at W[0] {
+    A() from W[0] to W[i:1..N-1];
+  } or {
+    A() from W[0] to W[i:1..N-1];
+  }",
+            "rule 12 at 5:8, N = 2, W[1]",
+        ),
+    ] {
+        let is_so = is_refused(rt.alloc(), range, "role W[0..N-1]", body, what)?;
+        assert!(rt; is_so, "{body} {what}");
+    }
+    Ok(())
+}
+
+#[test]
+fn check_accepts_other_forms(rt: HostRuntime) -> Result<(), Fail> {
+    for (range, roles, body) in [
+        ("2..max", "role W[0..N-1]", "A() from W[0] to W[N-1];"),
+        ("1..max", "role M, role W[1..N]", "A(int32) from M to W[N];"),
+        (
+            "2..max",
+            "role W[0..N-1]",
+            "A() from W[i:0..N-2] to W[i+1]; barrier;",
+        ),
+        ("3..3", "role M", ""),
+        (
+            "4..max",
+            "role W[0..N-1]",
+            "rec X { choice K at W[0] { Go() from W[0] to W[1]; continue X; } or { Stop() from W[0] to W[1]; } } A() from W[2] to W[3];",
+        ),
+        (
+            "3..max",
+            "role W[0..N-1]",
+            "choice K at W[0] { Go() from W[i:0..N-2] to W[i+1]; } or { Stop() from W[i:0..N-2] to W[i+1]; }",
+        ),
+    ] {
+        let text = file_of(rt.alloc(), range, roles, body)?;
+        let (status, line) = checked(rt.alloc(), text.as_bytes())?;
+        assert_eq!(rt; status, Status::Done, "{text}");
+        assert_eq!(rt; line.as_slice(), b"accepted\n".as_slice(), "{text}");
+    }
+    Ok(())
+}
+
+#[test]
 fn too_many_breakpoints(rt: HostRuntime) -> Result<(), Fail> {
     let mut body = String::new(rt.alloc());
     for k in 1..60 {
@@ -311,9 +395,15 @@ fn too_many_breakpoints(rt: HostRuntime) -> Result<(), Fail> {
         body.push_str(&line)?;
     }
     let text = file_of(rt.alloc(), "1..max", "role W[0..N+100000]", &body)?;
-    let (status, line) = generated(rt.alloc(), text.as_bytes())?;
-    assert_eq!(rt; status, Status::Limit);
-    assert_eq!(rt; line.as_slice(), b"pabble: limit breakpoints\n".as_slice());
+    for command in ["gen", "check"] {
+        let (status, line) = answered(rt.alloc(), command, text.as_bytes())?;
+        assert_eq!(rt; status, Status::Limit, "{command}");
+        assert_eq!(rt;
+            line.as_slice(),
+            b"pabble: limit breakpoints\n".as_slice(),
+            "{command}"
+        );
+    }
     Ok(())
 }
 
@@ -342,22 +432,27 @@ fn faults_and_limits_at_their_places(rt: HostRuntime) -> Result<(), Fail> {
     ] {
         let text = with_body(rt.alloc(), body)?;
         let line = format!(in rt.alloc(); "pabble: {what}\n")?;
-        let (status, written) = generated(rt.alloc(), text.as_bytes())?;
-        assert_eq!(rt; status, expected, "{text}");
-        assert_eq!(rt; written.as_slice(), line.as_bytes(), "{text}");
+        for command in ["gen", "check"] {
+            let (status, written) = answered(rt.alloc(), command, text.as_bytes())?;
+            assert_eq!(rt; status, expected, "{command} {text}");
+            assert_eq!(rt; written.as_slice(), line.as_bytes(), "{command} {text}");
+        }
     }
     Ok(())
 }
 
 #[test]
 fn words_in_no_form(rt: HostRuntime) -> Result<(), Fail> {
-    let forms: [&[&str]; 7] = [
+    let forms: [&[&str]; 10] = [
         &[],
         &["gen"],
         &["gen", "-p"],
         &["gen", "-"],
         &["gen", "p", "q"],
-        &["check", "p"],
+        &["check"],
+        &["check", "-p"],
+        &["check", "p", "q"],
+        &["project", "p"],
         &["-", "p"],
     ];
     for form in forms {
@@ -435,6 +530,26 @@ fn a_file_may_have_1048576_bytes(rt: HostRuntime) -> Result<(), Fail> {
     Ok(())
 }
 
+#[test]
+fn check_has_the_faults_of_its_files(rt: HostRuntime) -> Result<(), Fail> {
+    let words = strings(rt.alloc(), &["check", "p"])?;
+    // The read that fails, the room, the status, and what is taken.
+    let rows: [(u64, usize, Status, &str); 3] = [
+        (0, 64, Status::ReadFault, "pabble: read fault\n"),
+        (9, 64, Status::Done, "accepted\n"),
+        (9, 8, Status::WriteFault, "accepted"),
+    ];
+    for (failing, room, expected, taken) in rows {
+        let fails = [failing].to_vec(rt.alloc())?;
+        let mut folder = MemFolder::new(files(rt.alloc(), FIRST.as_bytes())?, fails);
+        let mut out = MemSink::new(rt.alloc(), room, 64, Vec::new(rt.alloc()))?;
+        let status = pabble(rt.alloc(), &words, &mut folder, &mut out, word);
+        assert_eq!(rt; status, expected, "{failing} {room}");
+        assert_eq!(rt; out.taken(), taken.as_bytes(), "{failing} {room}");
+    }
+    Ok(())
+}
+
 /// The status over a folder and a sink that never fail.
 fn sure(alloc: Global, words: &[String], folder: &mut SureFolder, out: &mut SureSink) -> Status
     ensures read { result ≡ Status.ReadFault → ⊥ }
@@ -446,11 +561,12 @@ fn sure(alloc: Global, words: &[String], folder: &mut SureFolder, out: &mut Sure
 #[test]
 fn sure_ones_have_no_fault(rt: HostRuntime) -> Result<(), Fail> {
     let mut folder = SureFolder::new(files(rt.alloc(), FIRST.as_bytes())?);
-    for (file, expected, count) in [
-        ("p", Status::Done, FIRST_TEXT.len()),
-        ("q", Status::Refused, 22),
+    for (command, file, expected, count) in [
+        ("gen", "p", Status::Done, FIRST_TEXT.len()),
+        ("check", "p", Status::Done, 9),
+        ("check", "q", Status::Refused, 22),
     ] {
-        let words = strings(rt.alloc(), &["gen", file])?;
+        let words = strings(rt.alloc(), &[command, file])?;
         let mut out = SureSink::new();
         let status = sure(rt.alloc(), &words, &mut folder, &mut out);
         assert_eq!(rt; status, expected);
