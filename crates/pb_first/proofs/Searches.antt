@@ -41,15 +41,15 @@ answers_as {roles = roles} {passed = passed} {old = old} outs outs2 same a = rec
 }
 
 pub answers_none : {range : NRange} {roles : List CoreRole} {passed : List Area} {old : List Entry} → Answers range roles passed passed old old (λ n role x. [])
-answers_none = record { out = λ n role x o w r e. or_false _; rest = λ n role x w r. or_false _; }
+answers_none = record { out = λ n role x o w r e. or_false _; rest = λ n role x w r. or_false _ }
 
 pub answers_both : {range : NRange} {roles : List CoreRole} {passed mid all : List Area} {old now new : List Entry} (outs outs2 : ℤ → ℕ → ℤ → List Outcome) →
     Answers range roles passed mid old now outs → Answers range roles mid all now new outs2 → Answers range roles passed all old new (λ n role x. outs n role x ++ outs2 n role x)
 answers_both {roles = roles} {passed = passed} {mid = mid} {all = all} {old = old} {now = now} {new = new} outs outs2 a b = record {
   out = λ n role x o w r e. twice (finds roles old n role x o) (finds roles now n role x o) (finds roles new n role x o) (is_outcome o (outs n role x)) (is_outcome o (outs2 n role x)) (a.out n role x o w r e) (b.out n role x o w r e)
-    ∙ ap (λ z. finds roles old n role x o || z) (sym (is_append (outs n role x) (outs2 n role x) o));
+      ∙ ap (λ z. finds roles old n role x o || z) (sym (is_append (outs n role x) (outs2 n role x) o));
   rest = λ n role x w r. twice (have passed n role x) (have mid n role x) (have all n role x) (is_outcome nothing_first (outs n role x)) (is_outcome nothing_first (outs2 n role x)) (a.rest n role x w r) (b.rest n role x w r)
-    ∙ ap (λ z. have passed n role x || z) (sym (is_append (outs n role x) (outs2 n role x) nothing_first));
+      ∙ ap (λ z. have passed n role x || z) (sym (is_append (outs n role x) (outs2 n role x) nothing_first));
 }
 
 -- ---- one block
@@ -87,7 +87,7 @@ pub within_step : {range : NRange} {roles : List CoreRole} {passed mid all : Lis
     Answers range roles passed all old new (within_of roles held k (tree_of (drop i items)))
 within_step {roles = roles} held k items i s lt is a b = answers_as _ _ (λ n role x w r.
     ap (λ y. within_of roles held k (tree_of (y ∷ drop (i + 1) items)) n role x) is ∙ sym (at_drop_more (λ z. within_of roles held k (tree_of z) n role x) items i s lt))
-  (answers_both (below_of roles held k (plain_stmt s).stmt) (within_of roles held k (tree_of (drop (i + 1) items))) a b)
+    (answers_both (below_of roles held k (plain_stmt s).stmt) (within_of roles held k (tree_of (drop (i + 1) items))) a b)
 
 pub within_done : {range : NRange} {roles : List CoreRole} {passed mid : List Area} {old now : List Entry} (held : List Held) (k : ℕ) (b : CoreBlock) (items : List CoreStmt) (i : ℕ) → items ≡ (out-CoreBlock b).list.items → length items ≤ i →
     ((all : List Area) (new : List Entry) → Answers range roles mid all now new (within_of roles held k (tree_of (drop i items))) → Answers range roles passed all old new (within_of roles held k (tree_of items))) →
@@ -101,7 +101,7 @@ pub across_step : {range : NRange} {roles : List CoreRole} {passed one two all :
     Answers range roles two all later new (across_of roles held k (trees_of (drop (i + 1) items))) → Answers range roles passed all old new (across_of roles held k (trees_of (drop i items)))
 across_step {roles = roles} held k items i b lt is a c d = answers_as _ _ (λ n role x w r.
     ap (λ y. across_of roles held k (trees_of (y ∷ drop (i + 1) items)) n role x) is ∙ sym (at_drop_more (λ z. across_of roles held k (trees_of z) n role x) items i b lt))
-  (answers_both (numbered roles held k (plain_block b).mark (plain_block b).block) _ a (answers_both (within_of roles held k (plain_block b).block) (across_of roles held k (trees_of (drop (i + 1) items))) c d))
+    (answers_both (numbered roles held k (plain_block b).mark (plain_block b).block) _ a (answers_both (within_of roles held k (plain_block b).block) (across_of roles held k (trees_of (drop (i + 1) items))) c d))
 
 pub across_done : {range : NRange} {roles : List CoreRole} {passed mid : List Area} {old now : List Entry} (held : List Held) (k : ℕ) (items : List CoreBlock) (i : ℕ) → length items ≤ i →
     ((all : List Area) (new : List Entry) → Answers range roles mid all now new (across_of roles held k (trees_of (drop i items))) → Answers range roles passed all old new (across_of roles held k (trees_of items))) →
@@ -122,10 +122,10 @@ below_in_loop {roles = roles} held none inner empty start areas m id k body e0 e
     let me : ℕ = rank roles n role x in
     let in_none : held_of none n role x ≡ false ∷ held_of held n role x = hn n role x ∙ ap (λ z. have z n role x ∷ held_of held n role x) e0 in
     let in_body : have areas n role x ≡ takes_part (false ∷ held_of held n role x) me (flat_block roles n (id ∷ ids_of held) (pos 0) body stop) =
-      adds.is n role x w r ∙ ap (λ z. have z n role x || part_in roles none body n role x) e1
-      ∙ ap₂ (λ y z. takes_part y me (flat_block roles n z (pos 0) body stop)) in_none en in
+    adds.is n role x w r ∙ ap (λ z. have z n role x || part_in roles none body n role x) e1
+    ∙ ap₂ (λ y z. takes_part y me (flat_block roles n z (pos 0) body stop)) in_none en in
     ap₂ (λ y z. (if nat_eq k m.number then firsts y me (flat_block roles n z (pos 0) body stop) else []) ++ firsts_within roles n me k z y body) (hi n role x ∙ ap (λ z. z ∷ held_of held n role x) in_body) ei)
-  (answers_both (numbered roles inner k m body) (within_of roles inner k body) a b)
+    (answers_both (numbered roles inner k m body) (within_of roles inner k body) a b)
 
 pub below_as : {range : NRange} {roles : List CoreRole} {passed all : List Area} {old new : List Entry} (held : List Held) (k : ℕ) (s t : StmtTree) → s ≡ t → Answers range roles passed all old new (below_of roles held k t) → Answers range roles passed all old new (below_of roles held k s)
 below_as {roles = roles} held k s t e a = answers_as _ _ (λ n role x w r. ap (λ z. below_of roles held k z n role x) (sym e)) a

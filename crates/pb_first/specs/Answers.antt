@@ -18,9 +18,9 @@ use Rattle.pb_first.specs.Firsts.{finds, first_in}
 -- the new entries give all ranks these outcomes besides the old ones, and those with Nothing are added to those passed
 pub record Answers (range : NRange) (roles : List CoreRole) (passed all : List Area) (old new : List Entry) (outs : ℤ → ℕ → ℤ → List Outcome) : Type 0 where
   pub out : (n : ℤ) (role : ℕ) (x : ℤ) (o : Outcome) → IsIn range n → is_rank roles n role x ≡ true → is_nothing o ≡ false →
-    finds roles new n role x o ≡ finds roles old n role x o || is_outcome o (outs n role x)
+      finds roles new n role x o ≡ finds roles old n role x o || is_outcome o (outs n role x)
   pub rest : (n : ℤ) (role : ℕ) (x : ℤ) → IsIn range n → is_rank roles n role x ≡ true →
-    have all n role x ≡ have passed n role x || is_outcome nothing_first (outs n role x)
+      have all n role x ≡ have passed n role x || is_outcome nothing_first (outs n role x)
 
 -- a block, if it has the number; and those with the number in a statement, in a block and in branches
 abbrev pub numbered : List CoreRole → List Held → ℕ → Mark → BlockTree → ℤ → ℕ → ℤ → List Outcome

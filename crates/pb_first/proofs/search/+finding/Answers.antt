@@ -14,7 +14,7 @@ use Rattle.pb_first.proofs.Searches.{within_step, within_done, across_step, acro
 use Rattle.pb_first.proofs.search.+finding.Goals as goal
 
 pub within-loop-stmt-init : goal.within-loop-stmt-init
-within-loop-stmt-init t c = record { sound = λ rows h. h; gives = λ range roles rows w h all new g. g; fits = λ range cuts rows h a w d f. f; among = λ cuts a. a; }
+within-loop-stmt-init t c = record { sound = λ rows h. h; gives = λ range roles rows w h all new g. g; fits = λ range cuts rows h a w d f. f; among = λ cuts a. a }
 
 pub within-loop-stmt-preserved : goal.within-loop-stmt-preserved
 within-loop-stmt-preserved t c =
@@ -25,11 +25,11 @@ within-loop-stmt-preserved t c =
     record {
       sound = λ rows h. rest_sound rows (ids_of held) items i s c.loop-stmt-test.true c.stmt-item.is (c.loop-stmt.invariant.sound rows h);
       gives = λ range roles rows w h all new g.
-        c.loop-stmt.invariant.gives range roles rows w h all new (within_step held c.args.number items i s c.loop-stmt-test.true c.stmt-item.is
+          c.loop-stmt.invariant.gives range roles rows w h all new (within_step held c.args.number items i s c.loop-stmt-test.true c.stmt-item.is
           (c.in_ok-below.ensures.gives range roles rows w (stmt_sound rows (ids_of held) items i s c.loop-stmt-test.true c.stmt-item.is (c.loop-stmt.invariant.sound rows h))) g);
       fits = λ range cuts rows h a w d f.
-        c.in_ok-below.ensures.fits range cuts rows (stmt_sound rows (ids_of held) items i s c.loop-stmt-test.true c.stmt-item.is (c.loop-stmt.invariant.sound rows h))
-        (stmt_among cuts items i s c.loop-stmt-test.true c.stmt-item.is (c.loop-stmt.invariant.among cuts a)) w d (c.loop-stmt.invariant.fits range cuts rows h a w d f);
+          c.in_ok-below.ensures.fits range cuts rows (stmt_sound rows (ids_of held) items i s c.loop-stmt-test.true c.stmt-item.is (c.loop-stmt.invariant.sound rows h))
+          (stmt_among cuts items i s c.loop-stmt-test.true c.stmt-item.is (c.loop-stmt.invariant.among cuts a)) w d (c.loop-stmt.invariant.fits range cuts rows h a w d f);
       among = λ cuts a. rest_among cuts items i s c.loop-stmt-test.true c.stmt-item.is (c.loop-stmt.invariant.among cuts a);
     }
 
@@ -47,7 +47,7 @@ within-returns-clause-fits t c = λ range cuts rows h a w d f.
     c.loop-stmt.invariant.fits range cuts rows (tree_sound rows (ids_of c.args.held.now) c.args.block.now items same h) (tree_among cuts c.args.block.now items same a) w d f
 
 pub across-loop-branch-init : goal.across-loop-branch-init
-across-loop-branch-init t c = record { sound = λ rows h. h; gives = λ range roles rows w h all new g. g; fits = λ range cuts rows h a w d f. f; among = λ cuts a. a; }
+across-loop-branch-init t c = record { sound = λ rows h. h; gives = λ range roles rows w h all new g. g; fits = λ range cuts rows h a w d f. f; among = λ cuts a. a }
 
 pub across-loop-branch-preserved : goal.across-loop-branch-preserved
 across-loop-branch-preserved t c =
@@ -58,13 +58,13 @@ across-loop-branch-preserved t c =
     record {
       sound = λ rows h. others_sound rows (ids_of held) items i b c.loop-branch-test.true c.branch-item.is (c.loop-branch.invariant.sound rows h);
       gives = λ range roles rows w h all new g.
-        let one = branch_sound rows (ids_of held) items i b c.loop-branch-test.true c.branch-item.is (c.loop-branch.invariant.sound rows h) in
-        c.loop-branch.invariant.gives range roles rows w h all new
-        (across_step held c.args.number items i b c.loop-branch-test.true c.branch-item.is (c.in_ok-here.ensures.gives range roles rows w one) (c.in_ok-within.ensures.gives range roles rows w one) g);
+          let one = branch_sound rows (ids_of held) items i b c.loop-branch-test.true c.branch-item.is (c.loop-branch.invariant.sound rows h) in
+          c.loop-branch.invariant.gives range roles rows w h all new
+          (across_step held c.args.number items i b c.loop-branch-test.true c.branch-item.is (c.in_ok-here.ensures.gives range roles rows w one) (c.in_ok-within.ensures.gives range roles rows w one) g);
       fits = λ range cuts rows h a w d f.
-        let one = branch_sound rows (ids_of held) items i b c.loop-branch-test.true c.branch-item.is (c.loop-branch.invariant.sound rows h) in
-        let among = branch_among cuts items i b c.loop-branch-test.true c.branch-item.is (c.loop-branch.invariant.among cuts a) in
-        c.in_ok-within.ensures.fits range cuts rows one among w d (c.in_ok-here.ensures.fits range cuts rows one among w d (c.loop-branch.invariant.fits range cuts rows h a w d f));
+          let one = branch_sound rows (ids_of held) items i b c.loop-branch-test.true c.branch-item.is (c.loop-branch.invariant.sound rows h) in
+          let among = branch_among cuts items i b c.loop-branch-test.true c.branch-item.is (c.loop-branch.invariant.among cuts a) in
+          c.in_ok-within.ensures.fits range cuts rows one among w d (c.in_ok-here.ensures.fits range cuts rows one among w d (c.loop-branch.invariant.fits range cuts rows h a w d f));
       among = λ cuts a. others_among cuts items i b c.loop-branch-test.true c.branch-item.is (c.loop-branch.invariant.among cuts a);
     }
 
@@ -113,15 +113,15 @@ pub below-returns-in-Choice-clause-gives : goal.below-returns-in-Choice-clause-g
 below-returns-in-Choice-clause-gives t c =
     let is = plain_choice c.args.stmt.now c.in-Choice.kernel c.in-Choice.at c.in-Choice.branches c.in-Choice.is in
     on_ok_weaker c.across.result (λ g range roles rows w h. below_as c.args.held.now c.args.number _ _ is
-      ((rw c.deref.ensures.value at (g range roles rows)) w (choice_sound rows (ids_of c.args.held.now) c.in-Choice.kernel c.in-Choice.at (trees_of c.in-Choice.branches.items) (turned_sound rows (ids_of c.args.held.now) _ _ is h)))) c.across.ensures.gives
+    ((rw c.deref.ensures.value at (g range roles rows)) w (choice_sound rows (ids_of c.args.held.now) c.in-Choice.kernel c.in-Choice.at (trees_of c.in-Choice.branches.items) (turned_sound rows (ids_of c.args.held.now) _ _ is h)))) c.across.ensures.gives
 
 pub below-returns-in-Choice-clause-fits : goal.below-returns-in-Choice-clause-fits
 below-returns-in-Choice-clause-fits t c =
     let is = plain_choice c.args.stmt.now c.in-Choice.kernel c.in-Choice.at c.in-Choice.branches c.in-Choice.is in
     let bs = trees_of c.in-Choice.branches.items in
     on_ok_weaker c.across.result (λ g range cuts rows h a w d f.
-      (rw c.deref.ensures.value at (g range cuts rows)) (choice_sound rows (ids_of c.args.held.now) c.in-Choice.kernel c.in-Choice.at bs (turned_sound rows (ids_of c.args.held.now) _ _ is h))
-      (among_right (end_cuts None c.in-Choice.at) (branches_cuts None bs) cuts (turned_among cuts _ _ is a)) w d f) c.across.ensures.fits
+    (rw c.deref.ensures.value at (g range cuts rows)) (choice_sound rows (ids_of c.args.held.now) c.in-Choice.kernel c.in-Choice.at bs (turned_sound rows (ids_of c.args.held.now) _ _ is h))
+    (among_right (end_cuts None c.in-Choice.at) (branches_cuts None bs) cuts (turned_among cuts _ _ is a)) w d f) c.across.ensures.fits
 
 pub below-returns-in-Message-clause-gives : goal.below-returns-in-Message-clause-gives
 below-returns-in-Message-clause-gives t c = λ range roles rows w h. below_none c.args.held.now c.args.number _ _ (plain_message c.args.stmt.now c.in-Message.label c.in-Message.from c.in-Message.to c.in-Message.is) (λ n role x. refl)
@@ -136,7 +136,7 @@ pub below-returns-in-Run-clause-gives : goal.below-returns-in-Run-clause-gives
 below-returns-in-Run-clause-gives t c = λ range roles rows w h. below_none c.args.held.now c.args.number _ _ (plain_run c.args.stmt.now c.in-Run.kernel c.in-Run.at c.in-Run.is) (λ n role x. refl)
 
 pub below-returns-in-Barrier-clause-gives : goal.below-returns-in-Barrier-clause-gives
-below-returns-in-Barrier-clause-gives t c = λ range roles rows w h. below_none c.args.held.now c.args.number _ _ (plain_barrier c.args.stmt.now  c.in-Barrier.is) (λ n role x. refl)
+below-returns-in-Barrier-clause-gives t c = λ range roles rows w h. below_none c.args.held.now c.args.number _ _ (plain_barrier c.args.stmt.now c.in-Barrier.is) (λ n role x. refl)
 
 pub below-returns-in-Broadcast-clause-gives : goal.below-returns-in-Broadcast-clause-gives
 below-returns-in-Broadcast-clause-gives t c = λ range roles rows w h. below_none c.args.held.now c.args.number _ _ (plain_broadcast c.args.stmt.now c.in-Broadcast.label c.in-Broadcast.root c.in-Broadcast.is) (λ n role x. refl)

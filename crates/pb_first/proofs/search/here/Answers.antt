@@ -14,7 +14,7 @@ returns-in_ok-absorb-clause-gives c = λ range roles rows w h.
 pub returns-in_ok-absorb-clause-fits : goal.returns-in_ok-absorb-clause-fits
 returns-in_ok-absorb-clause-fits c = λ range cuts rows h a w d f.
     let now = c.in_ok-left.ensures.fits range cuts rows h a w d (c.in_ok-told.ensures.fits range cuts w) f.entries in
-    record { areas = c.in_ok-absorb.ensures.fits range cuts f.areas (subst (All (Fits range cuts)) (sym c.deref.ensures.value) now.areas); entries = now.entries; }
+    record { areas = c.in_ok-absorb.ensures.fits range cuts f.areas (subst (All (Fits range cuts)) (sym c.deref.ensures.value) now.areas); entries = now.entries }
 
 pub returns-else-number-block-clause-gives : goal.returns-else-number-block-clause-gives
 returns-else-number-block-clause-gives c = λ range roles rows w h. here_not c.args.held.now c.args.number c.args.block.now c.if-number-block.false
