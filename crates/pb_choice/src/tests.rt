@@ -127,3 +127,79 @@ fn one_label_in_two_branches(rt: HostRuntime) -> Result<(), Fail> {
     assert!(rt; first_of(&clashes(alloc, &here, &before[..1])?, range).is_none());
     Ok(())
 }
+
+fn end(at: Lin) -> CoreEnd {
+    CoreEnd {
+        role: 0,
+        at,
+        place: HERE,
+    }
+}
+
+fn message(number: u32, label: u32, from: Lin, to: Lin) -> CoreStmt {
+    let what = CoreKind::Message {
+        label,
+        from: end(from),
+        to: end(to),
+    };
+    stmt(number, what)
+}
+
+/// `choice K at W[0] { first } or { second }`.
+fn chosen(alloc: Global, first: CoreStmt, second: CoreStmt) -> Result<CoreBlock, Fail> {
+    let one = block(1, vec![in alloc; first]?);
+    let other = block(2, vec![in alloc; second]?);
+    let what = CoreKind::Choice {
+        kernel: 0,
+        at: end(lin(Base::Fixed, 0)),
+        branches: vec![in alloc; one, other]?,
+    };
+    Ok(block(0, vec![in alloc; stmt(0, what)]?))
+}
+
+#[test]
+fn the_chooser_tells_all(rt: HostRuntime) -> Result<(), Fail> {
+    let alloc = rt.alloc();
+    let chooser = lin(Base::Fixed, 0);
+    let last = lin(Base::Param, -1);
+    let body = chosen(
+        alloc,
+        message(1, 0, chooser, last),
+        message(2, 1, chooser, last),
+    )?;
+    assert!(rt; found_in(alloc, &body, 2)?.is_none());
+    Ok(())
+}
+
+#[test]
+fn a_rank_that_is_told_nothing(rt: HostRuntime) -> Result<(), Fail> {
+    let alloc = rt.alloc();
+    let chooser = lin(Base::Fixed, 0);
+    let second = lin(Base::Fixed, 1);
+    let last = lin(Base::Param, -1);
+    let body = chosen(
+        alloc,
+        message(1, 0, chooser, second),
+        message(2, 1, chooser, last),
+    )?;
+    let found = found_in(alloc, &body, 2)?.ok_or("a breach")?;
+    let at = found.at.ok_or("a rank")?;
+    assert!(rt; found.rule == 10 && found.mark.number == 1 && found.n == 3 && at.index == 2);
+    Ok(())
+}
+
+#[test]
+fn two_branches_with_one_label(rt: HostRuntime) -> Result<(), Fail> {
+    let alloc = rt.alloc();
+    let chooser = lin(Base::Fixed, 0);
+    let last = lin(Base::Param, -1);
+    let body = chosen(
+        alloc,
+        message(1, 0, chooser, last),
+        message(2, 0, chooser, last),
+    )?;
+    let found = found_in(alloc, &body, 2)?.ok_or("a breach")?;
+    let at = found.at.ok_or("a rank")?;
+    assert!(rt; found.rule == 12 && found.mark.number == 2 && found.n == 2 && at.index == 1);
+    Ok(())
+}
