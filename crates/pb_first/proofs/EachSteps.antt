@@ -1,5 +1,5 @@
 -- What a rank finds first in a foreach, one stop after the other.
-use Rattle.std.proofs.Common.{◌≡◌, ◌<◌, ◌≤◌, ◌+◌, ℕ, nat_lt, negsuc, ℤ, pos, ◌+ℤ◌, ◌-ℤ◌, neg_ℤ, ◌≤ℤ◌, Bool, true, false, ◌&&◌, List, [], ◌∷◌, ◌++◌, map, drop, length, get_or, refl, ap, sym, ◌∙◌, subst, arith, if◌then◌else◌, drop_of_length-le}
+use Rattle.std.proofs.Common.{◌≡◌, ◌<◌, ◌≤◌, ◌+◌, ℕ, nat_lt, ℤ, pos, ◌+ℤ◌, ◌-ℤ◌, neg_ℤ, true, false, ◌&&◌, List, [], ◌∷◌, ◌++◌, map, drop, length, get_or, refl, ap, sym, ◌∙◌, subst, arith, if◌then◌else◌, drop_of_length-le}
 use Rattle.std.proofs.lemmas.Bool.{and_parts, and_from}
 use Rattle.std.proofs.lemmas.Int.{ints}
 use Rattle.std.proofs.lemmas.Bool.Decides.{nat_tests}
@@ -10,10 +10,9 @@ use Rattle.pb_affine.specs.declared.range.NRange.{NRange}
 use Rattle.pb_affine.specs.Values.{value, put}
 use Rattle.pb_core.specs.declared.protocol.CoreRole.{CoreRole}
 use Rattle.pb_core.specs.declared.tree.CoreEnd.{CoreEnd}
-use Rattle.pb_core.specs.FlatOf.{rank_of}
-use Rattle.pb_core.specs.Outcomes.{Outcome, nothing_first, receives, other_first, again_first, or_then}
-use Rattle.pb_core.specs.Sound.{Rows, is_small, is_bound, is_end, is_stmt, is_block, is_item}
-use Rattle.pb_core.specs.Tree.{Mark, Bounds, StmtTree, message, foreach, loop, again, choice, run, barrier, broadcast, reduce, allreduce, BlockTree, nothing, more}
+use Rattle.pb_core.specs.Outcomes.{Outcome, nothing_first, receives, other_first, or_then}
+use Rattle.pb_core.specs.Sound.{Rows, is_small, is_bound, is_end, is_stmt, is_block}
+use Rattle.pb_core.specs.Tree.{Mark, StmtTree, message, foreach, loop, again, choice, run, barrier, broadcast, reduce, allreduce, BlockTree, nothing, more}
 use Rattle.pb_core.specs.Verdict.{IsIn}
 use Rattle.pb_area.specs.declared.area.Area.{Area}
 use Rattle.pb_area.specs.Areas.{has, have, at}
@@ -34,13 +33,12 @@ use Rattle.pb_first.specs.declared.visit.Finding.{Finding}
 use Rattle.pb_first.specs.declared.visit.Finding.TheVariants.{Acts, Gets}
 use Rattle.pb_first.specs.declared.visit.Visit.{Visit}
 use Rattle.pb_part.specs.Loops.{held_of, ids_of}
-use Rattle.pb_first.specs.Firsts.{outcome_of, Gives, is_small_kind, is_small_off}
+use Rattle.pb_first.specs.Firsts.{outcome_of, Gives, is_small_off}
 use Rattle.pb_first.specs.Stopping.{Stops, first_at}
 use Rattle.pb_first.specs.Visits.{visit_of, finding_of, is_narrow, is_narrow_finding, are_narrow, IsBounded}
-use Rattle.pb_first.proofs.Meets.{small_off, small_sum, small_back, small_back_sum, small_of_bound, over_of_bound}
+use Rattle.pb_first.proofs.Meets.{small_off, small_sum, small_back, over_of_bound}
 use Rattle.pb_first.proofs.Outcomes.{in_turn, given_as, stopped, none_stops, nobody_comes}
 use Rattle.pb_first.proofs.VisitLists.{narrow_at}
-use Rattle.pb_first.proofs.Singles.{from_zero}
 
 -- the end that stands past the last of a list
 abbrev pub blank : Visit

@@ -1,7 +1,7 @@
 -- The areas of ends.
-use Rattle.std.proofs.Common.{◌≡◌, ◌<◌, ◌≤◌, ◌+◌, ℕ, ℤ, pos, negsuc, ◌+ℤ◌, ◌≤ℤ◌, nat_eq, int_le, int_lt, Bool, true, false, not, ◌&&◌, ◌||◌, List, [], ◌∷◌, ◌++◌, map, drop, length, get_or, None, refl, ap, sym, ◌∙◌, subst, arith, drop_of_length-le}
+use Rattle.std.proofs.Common.{◌≡◌, ◌<◌, ◌≤◌, ◌+◌, ℕ, ℤ, pos, ◌+ℤ◌, ◌≤ℤ◌, nat_eq, int_le, int_lt, Bool, true, false, not, ◌&&◌, ◌||◌, List, [], map, drop, length, get_or, refl, ap, sym, ◌∙◌, subst, arith, drop_of_length-le}
 use Rattle.std.specs.Ordering.{int_eq}
-use Rattle.std.proofs.lemmas.Bool.{and_parts, false≢true}
+use Rattle.std.proofs.lemmas.Bool.{false≢true}
 use Rattle.std.proofs.lemmas.Bool.Decides.{nat_tests}
 use Rattle.std.proofs.lemmas.Int.{ints}
 use Rattle.std.proofs.lemmas.List.{at_drop_more}
@@ -11,16 +11,16 @@ use Rattle.pb_affine.specs.declared.lin.Lin.{Lin}
 use Rattle.pb_affine.specs.Values.{value, base_value, shifted}
 use Rattle.pb_core.specs.declared.protocol.CoreRole.{CoreRole}
 use Rattle.pb_core.specs.declared.tree.CoreEnd.{CoreEnd}
-use Rattle.pb_core.specs.Sound.{is_small, is_bound}
+use Rattle.pb_core.specs.Sound.{is_small}
 use Rattle.pb_area.specs.declared.area.Area.{Area}
-use Rattle.pb_area.specs.Areas.{has, have, at}
+use Rattle.pb_area.specs.Areas.{have, at}
 use Rattle.pb_flat.specs.Seated.{is_at}
 use Rattle.pb_flat.specs.Meets.{is_moving, is_passed, is_var}
 use Rattle.pb_flat.specs.Stops.{has_fixed}
 use Rattle.pb_first.specs.declared.ends.Turns.{Turns}
 use Rattle.pb_first.specs.declared.visit.Visit.{Visit}
 use Rattle.pb_first.specs.Firsts.{is_small_off}
-use Rattle.pb_first.specs.Visits.{visit_of, IsBounded, is_narrow, are_narrow}
+use Rattle.pb_first.specs.Visits.{visit_of, IsBounded}
 use Rattle.pb_first.proofs.Meets.{small_off, small_next, small_sum, small_sum_next, small_of_bound}
 
 at_shifted : (l : Lin) (c n : ℤ) → at (shifted l c) n ≡ at l n +ℤ c

@@ -1,9 +1,8 @@
 -- The areas of ends fit the cuts of a file.
-use Rattle.std.proofs.Common.{◌≡◌, ◌<◌, ◌+◌, ℕ, zero, suc, ℤ, pos, negsuc, ◌+ℤ◌, ◌≤ℤ◌, Bool, true, false, ◌&&◌, if◌then◌else◌, cond, Option, Some, None, List, [], ◌∷◌, ◌++◌, map, take, drop, length, get_or, int_le, refl, ap, sym, ◌∙◌, subst, arith}
+use Rattle.std.proofs.Common.{◌≡◌, ◌<◌, ℕ, zero, suc, ℤ, pos, ◌+ℤ◌, Bool, true, false, if◌then◌else◌, Some, None, List, [], ◌∷◌, ◌++◌, map, length, get_or, int_le, refl, ap, sym, ◌∙◌, subst, arith}
 use Rattle.std.specs.List.{Contains}
 use Rattle.std.proofs.lemmas.Int.{ints}
 use Rattle.std.proofs.lemmas.Bool.{false≢true}
-use Rattle.std.proofs.lemmas.List.{at_drop_more}
 use Rattle.pb_affine.specs.declared.lin.Base.{Base}
 use Rattle.pb_affine.specs.declared.lin.Base.TheVariants.{Fixed, Param, Var}
 use Rattle.pb_affine.specs.declared.lin.Lin.{Lin}
@@ -11,7 +10,7 @@ use Rattle.pb_affine.specs.declared.range.NRange.{NRange}
 use Rattle.pb_affine.specs.Values.{shifted}
 use Rattle.pb_core.specs.declared.tree.CoreEnd.{CoreEnd}
 use Rattle.pb_core.specs.Cuts.{edges, end_cuts, lin_cuts, moving, stmt_cuts, block_cuts}
-use Rattle.pb_core.specs.Sound.{is_small, is_bound, is_over_n}
+use Rattle.pb_core.specs.Sound.{is_small, is_over_n}
 use Rattle.pb_core.specs.Tree.{Bounds, StmtTree, message, foreach, loop, again, choice, run, barrier, broadcast, reduce, allreduce, BlockTree, nothing, more}
 use Rattle.pb_area.specs.declared.area.Area.{Area}
 use Rattle.pb_area.specs.Fits.{Fits, IsCutOf}
@@ -20,7 +19,7 @@ use Rattle.pb_flat.specs.Meets.{is_moving, is_var}
 use Rattle.pb_flat.specs.Stops as S
 use Rattle.pb_flat.specs.Stops.{visits, visits_of, put_behind, off_of}
 use Rattle.pb_part.specs.Pieces.{AreAmong}
-use Rattle.pb_part.proofs.Among.{IsNearZero, near, cut_of, over_base, end_still, end_moving, end_alike, among_left, among_right}
+use Rattle.pb_part.proofs.Among.{near, cut_of, over_base, end_still, end_moving, end_alike, among_left, among_right}
 use Rattle.pb_first.specs.declared.ends.Turns.{Turns}
 use Rattle.pb_first.specs.declared.visit.Visit.{Visit}
 use Rattle.pb_first.specs.Firsts.{is_small_off}

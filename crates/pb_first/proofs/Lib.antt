@@ -10,3 +10,4 @@ pub mod Steps
 pub mod TakersAs
 pub mod EndFits
 pub mod Searches
+pub mod Protocols

@@ -1,5 +1,5 @@
 -- Lins with small offsets.
-use Rattle.std.proofs.Common.{◌≡◌, ℤ, pos, true, refl, ap, ap₂, sym, ◌∙◌, subst}
+use Rattle.std.proofs.Common.{◌≡◌, ℤ, pos, true, refl, ap₂, sym, ◌∙◌, subst}
 use Rattle.pb_affine.specs.declared.lin.Base.{Base}
 use Rattle.pb_affine.specs.declared.lin.Lin.{Lin}
 use Rattle.pb_first.specs.Firsts.{is_small_off}

@@ -1,7 +1,6 @@
 -- Outcomes given one after the other.
-use Rattle.std.proofs.Common.{◌≡◌, ◌<◌, ◌≤◌, ◌+◌, ℕ, ℤ, pos, List, [], ◌∷◌, ◌++◌, Bool, true, false, not, ◌||◌, ◌&&◌, drop, length, get_or, refl, ap, ap₂, sym, ◌∙◌, arith, if◌then◌else◌, drop_of_length-le, subst}
-use Rattle.std.proofs.lemmas.List.{at_drop_more}
-use Rattle.std.proofs.lemmas.Bool.{and_parts, and_from, false≢true}
+use Rattle.std.proofs.Common.{◌≡◌, ◌<◌, ◌≤◌, ◌+◌, ℕ, ℤ, List, [], ◌∷◌, ◌++◌, Bool, true, false, not, ◌||◌, ◌&&◌, drop, length, get_or, refl, ap, sym, ◌∙◌, arith, if◌then◌else◌, drop_of_length-le, subst}
+use Rattle.std.proofs.lemmas.Bool.{and_parts, and_from}
 use Rattle.std.proofs.lemmas.Bool.Decides.{nat_tests}
 use Rattle.pb_affine.specs.declared.lin.Lin.{Lin}
 use Rattle.pb_affine.specs.declared.range.NRange.{NRange}
@@ -16,7 +15,6 @@ use Rattle.pb_first.specs.Fitting.{EntriesFit}
 use Rattle.pb_area.proofs.Lists.{common_step}
 use Rattle.pb_flat.specs.Seated.{is_rank}
 use Rattle.pb_flat.specs.OutcomeSets.{outcome_eq, is_nothing, is_outcome}
-use Rattle.pb_flat.specs.Stops.{Stop, first_of}
 use Rattle.pb_flat.proofs.OutcomeSets.{either_outcome}
 use Rattle.pb_first.specs.declared.firsts.Entry.{Entry}
 use Rattle.pb_first.specs.declared.firsts.Kind.{Kind}
@@ -32,7 +30,7 @@ or_assoc : (a b c : Bool) → a || (b || c) ≡ (a || b) || c
 or_assoc true b c = refl
 or_assoc false b c = refl
 
-finds_append : (roles : List CoreRole) (xs ys : List Entry) (n : ℤ) (role : ℕ) (x : ℤ) (o : Outcome) → finds roles (xs ++ ys) n role x o ≡ finds roles xs n role x o || finds roles ys n role x o
+pub finds_append : (roles : List CoreRole) (xs ys : List Entry) (n : ℤ) (role : ℕ) (x : ℤ) (o : Outcome) → finds roles (xs ++ ys) n role x o ≡ finds roles xs n role x o || finds roles ys n role x o
 finds_append roles [] ys n role x o = refl
 finds_append roles (f ∷ xs) ys n role x o =
     ap (λ z. (has f.area n role x && outcome_eq (outcome_of roles f.kind n x) o) || z) (finds_append roles xs ys n role x o)

@@ -1,15 +1,14 @@
 -- The plain trees of statements and blocks.
-use Rattle.std.proofs.Common.{◌≡◌, ℕ, List, map, ap, sym, ◌∙◌, Vec}
+use Rattle.std.proofs.Common.{◌≡◌, ℕ, map, ap, sym, ◌∙◌, Vec}
 use Rattle.std.specs.declared.alloc.Global.{Global}
 use Rattle.pb_affine.specs.declared.lin.Lin.{Lin}
-use Rattle.pb_syntax.specs.declared.tree.Op.{Op}
 use Rattle.pb_core.specs.declared.tree.CoreEnd.{CoreEnd}
 use Rattle.pb_core.specs.declared.tree.CoreBlock.{CoreBlock, fold_out-CoreBlock, out-CoreBlock}
 use Rattle.pb_core.specs.declared.tree.CoreStmt.{CoreStmt, fold_out-CoreStmt}
-use Rattle.pb_core.specs.declared.tree.CoreKind.{CoreKind, CoreKind-F, fold-roll-CoreKind}
-use Rattle.pb_core.specs.declared.tree.CoreKind.TheVariants.{Message, Foreach, Loop, Again, Choice, Run, Barrier, Broadcast, Reduce, Allreduce, rolls-Message, rolls-Foreach, rolls-Loop, rolls-Again, rolls-Choice, rolls-Run, rolls-Barrier, rolls-Broadcast, rolls-Reduce, rolls-Allreduce}
+use Rattle.pb_core.specs.declared.tree.CoreKind.{fold-roll-CoreKind}
+use Rattle.pb_core.specs.declared.tree.CoreKind.TheVariants.{Message, Foreach, Loop, Again, Choice, Run, rolls-Message, rolls-Foreach, rolls-Loop, rolls-Again, rolls-Choice, rolls-Run}
 use Rattle.pb_core.specs.declared.tree.CoreKind.TheOpen as Layer
-use Rattle.pb_core.specs.Tree.{StmtTree, message, foreach, loop, again, choice, run, barrier, broadcast, reduce, allreduce}
+use Rattle.pb_core.specs.Tree.{StmtTree, message, foreach, loop, again, choice, run}
 use Rattle.pb_core.specs.Plain.{MarkedBlock, MarkedStmt, plain_block, plain_stmt, plain_kind, branches_of, block_of, kind_layer, block_layer, stmt_layer}
 
 what_is : (s : CoreStmt) → (plain_stmt s).stmt ≡ plain_kind s.what

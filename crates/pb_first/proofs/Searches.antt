@@ -1,5 +1,5 @@
 -- What the ranks find first in the blocks with a number, a step at a time.
-use Rattle.std.proofs.Common.{◌≡◌, ◌<◌, ◌≤◌, ◌+◌, ℕ, nat_eq, nat_lt, ℤ, pos, List, [], ◌∷◌, ◌++◌, Bool, true, false, ◌||◌, ◌&&◌, drop, map, length, get_or, refl, ap, ap₂, sym, ◌∙◌, if◌then◌else◌, arith, subst, drop_of_length-le}
+use Rattle.std.proofs.Common.{◌≡◌, ◌<◌, ◌≤◌, ◌+◌, ℕ, nat_eq, ℤ, pos, List, [], ◌∷◌, ◌++◌, Bool, true, false, ◌||◌, ◌&&◌, drop, length, get_or, refl, ap, ap₂, sym, ◌∙◌, if◌then◌else◌, arith, drop_of_length-le}
 use Rattle.std.proofs.lemmas.Bool.Decides.{nat_tests}
 use Rattle.std.proofs.lemmas.List.{at_drop_more}
 use Rattle.pb_affine.specs.declared.range.NRange.{NRange}
@@ -9,14 +9,14 @@ use Rattle.pb_core.specs.declared.tree.CoreStmt.{CoreStmt}
 use Rattle.pb_core.specs.Flat.{stop, takes_part}
 use Rattle.pb_core.specs.FlatOf.{flat_block}
 use Rattle.pb_core.specs.Outcomes.{Outcome, nothing_first, firsts}
-use Rattle.pb_core.specs.Parts.{firsts_below, firsts_within}
+use Rattle.pb_core.specs.Parts.{firsts_within}
 use Rattle.pb_core.specs.Plain.{MarkedBlock, MarkedStmt, plain_block, plain_stmt, kind_layer, block_layer, stmt_layer}
 use Rattle.pb_core.specs.Tree.{Mark, StmtTree, loop, BlockTree}
 use Rattle.pb_core.specs.Verdict.{IsIn}
 use Rattle.pb_area.specs.declared.area.Area.{Area}
 use Rattle.pb_area.specs.Areas.{have}
 use Rattle.pb_flat.specs.Seated.{rank, is_rank}
-use Rattle.pb_flat.specs.OutcomeSets.{is_nothing, is_outcome}
+use Rattle.pb_flat.specs.OutcomeSets.{is_outcome}
 use Rattle.pb_flat.proofs.OutcomeSets.{is_append}
 use Rattle.pb_part.specs.declared.held.Held.{Held}
 use Rattle.pb_part.specs.Loops.{held_of, ids_of}

@@ -1,5 +1,5 @@
 -- What a rank finds first in a statement with one or two ends, or in a continue.
-use Rattle.std.proofs.Common.{◌≡◌, ◌<◌, ◌≤◌, ◌+◌, ◌==◌, ℕ, ℤ, pos, ◌≤ℤ◌, nat_eq, cond, zero, suc, Bool, true, false, ◌||◌, ◌&&◌, List, [], ◌∷◌, drop, length, get_or, refl, ap, ap₂, sym, ◌∙◌, arith, subst, if◌then◌else◌, drop_of_length-le}
+use Rattle.std.proofs.Common.{◌≡◌, ◌<◌, ◌≤◌, ◌+◌, ◌==◌, ℕ, ℤ, pos, ◌≤ℤ◌, nat_eq, cond, zero, suc, Bool, true, false, ◌&&◌, List, [], ◌∷◌, drop, length, get_or, refl, ap, ap₂, sym, ◌∙◌, arith, subst, if◌then◌else◌, drop_of_length-le}
 use Rattle.std.proofs.lemmas.Bool.{and_parts}
 use Rattle.std.proofs.lemmas.Bool.Decides.{nat_tests}
 use Rattle.std.proofs.lemmas.Int.{ints}
@@ -17,18 +17,17 @@ use Rattle.pb_core.specs.Verdict.{IsIn}
 use Rattle.pb_area.specs.declared.area.Area.{Area}
 use Rattle.std.specs.List.{All}
 use Rattle.pb_affine.specs.declared.lin.Lin.{Lin}
-use Rattle.pb_area.specs.Areas.{has, have}
+use Rattle.pb_area.specs.Areas.{have}
 use Rattle.pb_area.specs.Fits.{Fits}
-use Rattle.pb_flat.specs.Seated.{rank, is_rank, is_at}
+use Rattle.pb_flat.specs.Seated.{rank, is_at}
 use Rattle.pb_flat.proofs.Seats.{end_is_at}
 use Rattle.pb_flat.proofs.Sources.{over_n_is}
 use Rattle.pb_part.specs.declared.held.Held.{Held}
 use Rattle.pb_first.specs.declared.firsts.Entry.{Entry}
-use Rattle.pb_first.specs.declared.firsts.Kind.{Kind}
-use Rattle.pb_first.specs.declared.firsts.Kind.TheVariants.{Receive, Other, Again}
+use Rattle.pb_first.specs.declared.firsts.Kind.TheVariants.{Other, Again}
 use Rattle.pb_part.specs.Loops.{held_of, ids_of, HeldFit}
 use Rattle.pb_first.specs.Takers.{IsWhole}
-use Rattle.pb_first.specs.Firsts.{outcome_of, Gives}
+use Rattle.pb_first.specs.Firsts.{Gives}
 use Rattle.pb_first.specs.Stopping.{Stops, first_at, is_held}
 use Rattle.pb_first.proofs.Outcomes.{in_turn, given_as, stopped, none_stops}
 

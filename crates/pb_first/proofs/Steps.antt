@@ -1,6 +1,5 @@
 -- What a rank finds first in blocks, branches and loops, a step at a time.
-use Rattle.std.proofs.Common.{◌≡◌, ◌<◌, ◌≤◌, ◌+◌, ◌==◌, ℕ, nat_lt, ℤ, pos, cond, List, [], ◌∷◌, ◌++◌, Bool, true, false, not, ◌||◌, ◌&&◌, drop, map, length, get_or, refl, ap, ap₂, sym, ◌∙◌, if◌then◌else◌, Vec, arith, subst, None, drop_of_length-le}
-use Rattle.std.specs.declared.alloc.Global.{Global}
+use Rattle.std.proofs.Common.{◌≡◌, ◌<◌, ◌≤◌, ◌+◌, ◌==◌, ℕ, nat_lt, ℤ, pos, cond, List, [], ◌∷◌, ◌++◌, Bool, true, false, ◌||◌, ◌&&◌, drop, map, length, get_or, refl, ap, ap₂, sym, ◌∙◌, if◌then◌else◌, arith, subst, None, drop_of_length-le}
 use Rattle.std.proofs.lemmas.Bool.{and_parts, false≢true}
 use Rattle.std.proofs.lemmas.Bool.Decides.{nat_tests}
 use Rattle.std.proofs.lemmas.List.{at_drop_more}
@@ -13,19 +12,17 @@ use Rattle.pb_affine.specs.declared.lin.Lin.{Lin}
 use Rattle.pb_core.specs.Cuts.{stmt_cuts, block_cuts, branches_cuts}
 use Rattle.pb_part.specs.Pieces.{AreAmong}
 use Rattle.pb_part.proofs.Among.{among_left, among_right}
-use Rattle.pb_core.specs.Flat as F
-use Rattle.pb_core.specs.Flat.{Block, Origin, stop, takes_part}
-use Rattle.pb_core.specs.FlatOf.{rank_of, flat_stmt, flat_block, flat_branches, from_none, from_one}
-use Rattle.pb_core.specs.Outcomes.{Outcome, nothing_first, other_first, or_then, firsts, firsts_among}
+use Rattle.pb_core.specs.Flat.{Block, stop, takes_part}
+use Rattle.pb_core.specs.FlatOf.{rank_of, flat_block, flat_branches, from_none, from_one}
+use Rattle.pb_core.specs.Outcomes.{Outcome, nothing_first, other_first, or_then, firsts}
 use Rattle.pb_core.specs.Plain.{plain_block, plain_stmt, block_of, branches_of}
 use Rattle.pb_core.specs.Sound.{Rows, is_small, is_end, is_stmt, is_block, are_branches, has_branch}
-use Rattle.pb_core.specs.Tree.{Mark, StmtTree, loop, choice, run, BlockTree, nothing, more, BranchTrees, no_branch, branch}
-use Rattle.pb_core.specs.Verdict.{IsIn}
+use Rattle.pb_core.specs.Tree.{Mark, StmtTree, loop, choice, run, BlockTree, more, BranchTrees, no_branch, branch}
 use Rattle.pb_area.specs.declared.area.Area.{Area}
 use Rattle.pb_area.specs.Areas.{have}
-use Rattle.pb_flat.specs.Seated.{rank, is_rank, is_at}
+use Rattle.pb_flat.specs.Seated.{rank, is_at}
 use Rattle.pb_flat.specs.GoesOn.{is_again}
-use Rattle.pb_flat.specs.OutcomeSets.{is_nothing, is_outcome}
+use Rattle.pb_flat.specs.OutcomeSets.{is_outcome}
 use Rattle.pb_flat.proofs.Choices.{choice_finds}
 use Rattle.pb_flat.proofs.OutcomeSets.{or_then_left, or_then_right, is_append}
 use Rattle.pb_flat.proofs.OutcomesAdd.{finds_first, loop_finds}
@@ -33,10 +30,10 @@ use Rattle.pb_flat.proofs.Seats.{end_is_at}
 use Rattle.pb_first.specs.declared.firsts.Entry.{Entry}
 use Rattle.pb_part.specs.declared.held.Held.{Held}
 use Rattle.pb_part.specs.Loops.{held_of, ids_of}
-use Rattle.pb_first.specs.Takers.{IsWhole, Adds, part_in}
+use Rattle.pb_first.specs.Takers.{Adds, part_in}
 use Rattle.pb_first.specs.Firsts.{finds, Gives, first_in}
 use Rattle.pb_first.specs.Stopping.{first_at, first_among, AmongGives}
-use Rattle.pb_first.proofs.Outcomes.{in_turn, given_as, given_set, none_stops, nobody_comes}
+use Rattle.pb_first.proofs.Outcomes.{in_turn, given_as, given_set, none_stops}
 use Rattle.pb_first.proofs.Plains.{plain_list}
 use Rattle.pb_first.proofs.Singles.{end_small}
 

@@ -1,6 +1,6 @@
 -- The ends of a foreach's items, one after the other, and those that move by falling offset.
-use Rattle.std.proofs.Common.{◌≡◌, ◌≤◌, ◌<◌, ℕ, zero, suc, ◌+◌, ℤ, int_le, cond, Bool, true, false, ◌&&◌, if◌then◌else◌, List, [], ◌∷◌, ◌++◌, map, take, drop, length, get_or, refl, ap, sym, ◌∙◌, append_assoc, append-nil, subst, arith, drop_of_length-le}
-use Rattle.std.specs.List.{prefix_len, insert, filter}
+use Rattle.std.proofs.Common.{◌≡◌, ◌≤◌, ◌<◌, ℕ, zero, suc, ◌+◌, int_le, cond, Bool, true, false, if◌then◌else◌, List, [], ◌∷◌, ◌++◌, map, take, drop, length, get_or, refl, ap, sym, ◌∙◌, append_assoc, append-nil, subst, arith, drop_of_length-le}
+use Rattle.std.specs.List.{prefix_len, insert}
 use Rattle.std.proofs.lemmas.Bool.{and_parts, and_from}
 use Rattle.std.proofs.lemmas.List.{at_drop_more, map-append, take_more, take_all}
 use Rattle.std.proofs.lemmas.List.Elements.{filter-append}

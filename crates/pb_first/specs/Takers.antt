@@ -1,5 +1,5 @@
 -- What a list of areas has to do with those that take part.
-use Rattle.std.specs.Prelude.{◌≡◌, ℕ, ℤ, pos, Bool, true, ◌||◌, List, [], ◌∷◌}
+use Rattle.std.specs.Prelude.{◌≡◌, ℕ, ℤ, pos, Bool, true, ◌||◌, List}
 use Rattle.pb_affine.specs.declared.range.NRange.{NRange}
 use Rattle.pb_core.specs.declared.protocol.CoreRole.{CoreRole}
 use Rattle.pb_core.specs.Tree.{BlockTree}

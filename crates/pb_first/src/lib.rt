@@ -14,8 +14,11 @@ mod takers;
 mod tests;
 mod visit;
 mod walk;
+mod whole;
 
 pub use firsts::{Entry, Kind, Source};
 pub use pb_part::Held;
+pub use search::Found;
 pub use takers::{takers_in, with_loop};
 pub use walk::firsts_in;
+pub use whole::found_in;

@@ -23,9 +23,9 @@ use std::alloc::Global;
 
 /// What is found so far: entries, and the areas of those that find nothing.
 #[derive(Debug, Drop)]
-pub(crate) struct Found {
-    pub(crate) entries: Vec<Entry>,
-    pub(crate) passed: Vec<Area>,
+pub struct Found {
+    pub entries: Vec<Entry>,
+    pub passed: Vec<Area>,
 }
 
 /// Adds what the ranks find first in the block, if it has the number.

@@ -1,4 +1,4 @@
-use crate::{Entry, Held, firsts_in};
+use crate::{Entry, Held, Kind, Source, firsts_in};
 use pb_affine::{Base, Lin};
 use pb_area::{Area, NoMemory, one};
 use pb_core::{CoreBlock, CoreEnd, CoreKind, CoreStmt, Place};
@@ -117,6 +117,39 @@ fn a_chain_is_two_areas(rt: HostRuntime) -> Result<(), Fail> {
     let core = chain(rt.alloc())?;
     let mut out = Vec::new(rt.alloc());
     let left = found(rt.alloc(), &core, &mut out)?;
-    println!(rt; "{out:?} {left:?}").unwrap();
+    let source = Source {
+        role: 0,
+        at: lin(Base::Var, -1),
+    };
+    let kind = Kind::Receive {
+        from: source,
+        label: 0,
+    };
+    assert_eq!(rt; out.len(), 2);
+    assert_eq!(rt; out[0].kind, kind);
+    assert_eq!(rt; out[1].kind, Kind::Other);
+    assert_eq!(rt; left.len(), 0);
+    Ok(())
+}
+
+/// A loop in which W[0] sends to W[1] and goes on, and a message of W[2] behind it.
+fn endless(alloc: Global) -> Result<CoreBlock, NoMemory> {
+    let mut inside = Vec::new(alloc);
+    inside.push(message(0, end(Base::Fixed, 0), end(Base::Fixed, 1)))?;
+    inside.push(stmt(CoreKind::Again { id: 0 }))?;
+    let what = CoreKind::Loop {
+        id: 0,
+        body: block(inside),
+    };
+    let mut list = Vec::new(alloc);
+    list.push(stmt(what))?;
+    list.push(message(1, end(Base::Fixed, 2), end(Base::Fixed, 0)))?;
+    Ok(block(list))
+}
+
+#[test]
+fn a_loop_is_gone_round(rt: HostRuntime) -> Result<(), Fail> {
+    let core = endless(rt.alloc())?;
+    assert_eq!(rt; counts(rt.alloc(), &core), Ok((3, 1)));
     Ok(())
 }

@@ -1,6 +1,5 @@
-use Rattle.std.proofs.Common.{◌≡◌, map, sym, ap, ◌∙◌, subst, List, true}
+use Rattle.std.proofs.Common.{◌≡◌, map, true}
 use Rattle.pb_core.specs.Plain.{plain_block}
-use Rattle.pb_flat.specs.Stops.{moving}
 use Rattle.pb_first.specs.Visits.{visit_of, are_narrow, bounds_of, VisitsAmong}
 use Rattle.pb_first.proofs.EachSteps.{each_gives, turns_bounded, each_narrow}
 use Rattle.pb_first.proofs.EndFits.{each_among, each_edges}

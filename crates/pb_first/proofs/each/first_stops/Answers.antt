@@ -1,17 +1,13 @@
-use Rattle.std.proofs.Common.{◌≡◌, subst, get_or, ℤ, true, map, drop, refl, ap, sym, ◌∙◌, ◌&&◌}
-use Rattle.std.proofs.lemmas.Bool.{and_parts}
-use Rattle.pb_core.specs.Sound.{is_small}
+use Rattle.std.proofs.Common.{subst, get_or, map, drop, ap, sym, ◌∙◌}
 use Rattle.pb_area.specs.Areas.{have, at}
-use Rattle.pb_flat.specs.Stops as S
 use Rattle.pb_flat.specs.Stops.{at_fixed, outcome_at}
-use Rattle.pb_first.specs.Visits.{visit_of, finding_of, is_narrow_finding}
+use Rattle.pb_first.specs.Visits.{visit_of, finding_of}
 use Rattle.pb_first.proofs.EachSteps.{blank, end_at, finding_at, found_at, turn_step, turns_done, turns_cut, fixed_some, low_is}
 use Rattle.pb_first.proofs.Meets.{small_of_bound}
 use Rattle.pb_first.proofs.Singles.{from_zero}
-use Rattle.pb_first.proofs.VisitLists.{narrow_at}
 use Rattle.std.specs.List.{All}
 use Rattle.pb_area.specs.Fits.{Fits}
-use Rattle.pb_first.proofs.EndFits.{among_at, movers_at}
+use Rattle.pb_first.proofs.EndFits.{among_at}
 use Rattle.pb_first.proofs.each.first_stops.Goals as goal
 
 pub loop-visit-init : goal.loop-visit-init

@@ -7,7 +7,7 @@ use Rattle.pb_flat.specs.OutcomeSets.{found}
 use Rattle.pb_flat.specs.Stops.{first_of, at_fixed}
 use Rattle.pb_first.specs.declared.firsts.Entry.{Entry}
 use Rattle.pb_first.specs.Firsts.{Gives, are_small}
-use Rattle.pb_first.specs.Visits.{visit_of, are_narrow, bounds_of, IsBounded, VisitsAmong, MoversAmong}
+use Rattle.pb_first.specs.Visits.{visit_of, are_narrow, bounds_of, IsBounded, VisitsAmong}
 use Rattle.std.specs.List.{All}
 use Rattle.pb_affine.specs.declared.lin.Lin.{Lin}
 use Rattle.pb_area.specs.Fits.{Fits}

@@ -7,12 +7,10 @@ use Rattle.pb_flat.specs.OutcomeSets.{found}
 use Rattle.pb_flat.specs.Stops.{first_of, at_some}
 use Rattle.pb_first.specs.declared.firsts.Entry.{Entry}
 use Rattle.pb_first.specs.Firsts.{Gives, are_small}
-use Rattle.pb_first.specs.Visits.{visit_of, are_narrow, bounds_of, IsBounded, VisitsAmong, MoversAmong}
+use Rattle.pb_first.specs.Visits.{visit_of, are_narrow, bounds_of, IsBounded, MoversAmong}
 use Rattle.std.specs.List.{All}
 use Rattle.pb_affine.specs.declared.lin.Lin.{Lin}
 use Rattle.pb_area.specs.Fits.{Fits}
-use Rattle.pb_core.specs.Cuts.{edges}
-use Rattle.pb_part.specs.Pieces.{AreAmong}
 use Rattle.pb_first.specs.Fitting.{AllFit, EntriesFit}
 use Rattle.pb_first.proofs.each.moving_stops.Given as goal
 

@@ -1,6 +1,6 @@
-use Rattle.std.proofs.Common.{sym, ◌∙◌, int_le, arith}
+use Rattle.std.proofs.Common.{sym, ◌∙◌, int_le}
 use Rattle.pb_area.specs.Areas.{at}
-use Rattle.pb_first.proofs.EndAreas.{meeting_none, meeting_some, meeting_apart}
+use Rattle.pb_first.proofs.EndAreas.{meeting_none, meeting_some}
 use Rattle.pb_first.proofs.ends.add_meeting.Goals as goal
 
 pub returns-then-is_moving-clause-is : goal.returns-then-is_moving-clause-is

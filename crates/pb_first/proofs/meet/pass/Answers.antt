@@ -1,4 +1,4 @@
-use Rattle.std.proofs.Common.{◌≡◌, pos, ◌+ℤ◌, ◌-ℤ◌, ◌≤ℤ◌, sym, ◌∙◌, arith, rules}
+use Rattle.std.proofs.Common.{◌≤ℤ◌, arith}
 use Rattle.std.proofs.lemmas.Int.{ints}
 use Rattle.pb_area.proofs.Meets.{zero_edge}
 use Rattle.pb_first.proofs.Meets.{passed_at_once, passed_later, pass_edge, gap_number}

@@ -1,6 +1,6 @@
-use Rattle.std.proofs.Common.{ap, sym, ◌∙◌, ◌≡◌, ◌<ℤ◌, ◌≤ℤ◌, true, false, rules, arith}
+use Rattle.std.proofs.Common.{◌≡◌, rules, arith}
 use Rattle.std.proofs.lemmas.Int.{ints}
-use Rattle.pb_area.specs.Areas.{has, at, is_param}
+use Rattle.pb_area.specs.Areas.{at, is_param}
 use Rattle.pb_area.proofs.Meets.{zero_edge}
 use Rattle.pb_first.proofs.Meets.{always_below, never_below, none_before, part_since, part_until}
 use Rattle.pb_first.proofs.meet.where_below.Goals as goal

@@ -1,6 +1,6 @@
-use Rattle.std.proofs.Common.{ap, sym, ◌∙◌, ◌≡◌, ◌<ℤ◌, ◌≤ℤ◌, true, false, rules, arith}
+use Rattle.std.proofs.Common.{◌≡◌, rules, arith}
 use Rattle.std.proofs.lemmas.Int.{ints}
-use Rattle.pb_area.specs.Areas.{has, at, is_param}
+use Rattle.pb_area.specs.Areas.{is_param}
 use Rattle.pb_area.proofs.Meets.{zero_edge}
 use Rattle.pb_first.proofs.Meets.{always_same, never_same, none_before, met_turned}
 use Rattle.pb_first.proofs.meet.where_same.Goals as goal

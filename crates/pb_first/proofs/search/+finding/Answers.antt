@@ -1,15 +1,15 @@
-use Rattle.std.proofs.Common.{◌≡◌, None, true, false, List, drop, refl, ap, sym, subst, ◌∙◌}
+use Rattle.std.proofs.Common.{None, refl, sym, subst}
 use Rattle.std.specs.List.{All}
 use Rattle.std.proofs.lemmas.List.Elements.{All-nil}
 use Rattle.std.proofs.lemmas.Result.{on_ok_weaker}
 use Rattle.pb_area.specs.Fits.{Fits}
 use Rattle.pb_core.specs.Cuts.{end_cuts, branches_cuts}
-use Rattle.pb_core.specs.Plain.{plain_block, plain_stmt}
+use Rattle.pb_core.specs.Plain.{plain_block}
 use Rattle.pb_part.specs.Loops.{ids_of}
-use Rattle.pb_part.proofs.Among.{among_left, among_right}
+use Rattle.pb_part.proofs.Among.{among_right}
 use Rattle.pb_part.proofs.Plains.{plain_message, plain_foreach, plain_loop, plain_again, plain_choice, plain_run, plain_barrier, plain_broadcast, plain_reduce, plain_allreduce}
 use Rattle.pb_first.proofs.TakersAs.{takers_as}
-use Rattle.pb_first.proofs.Steps.{tree_of, trees_of, stmt_sound, rest_sound, tree_sound, branch_sound, others_sound, turned_sound, body_sound, choice_sound, stmt_among, rest_among, tree_among, branch_among, others_among, turned_among}
+use Rattle.pb_first.proofs.Steps.{trees_of, stmt_sound, rest_sound, tree_sound, branch_sound, others_sound, turned_sound, body_sound, choice_sound, stmt_among, rest_among, tree_among, branch_among, others_among, turned_among}
 use Rattle.pb_first.proofs.Searches.{within_step, within_done, across_step, across_done, below_in_loop, below_as, below_none}
 use Rattle.pb_first.proofs.search.+finding.Goals as goal
 

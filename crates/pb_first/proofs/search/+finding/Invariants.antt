@@ -11,7 +11,7 @@ use Rattle.pb_part.specs.Loops.{ids_of, HeldFit}
 use Rattle.pb_part.specs.Pieces.{AreAmong}
 use Rattle.pb_first.specs.declared.firsts.Entry.{Entry}
 use Rattle.pb_first.specs.Takers.{IsWhole}
-use Rattle.pb_first.specs.Fitting.{AllFit, EntriesFit}
+use Rattle.pb_first.specs.Fitting.{AllFit}
 use Rattle.pb_first.specs.Answers.{Answers, within_of, across_of}
 use Rattle.pb_first.proofs.Steps.{tree_of, trees_of}
 use Rattle.pb_first.proofs.search.+finding.Given as goal

@@ -1,4 +1,4 @@
-use Rattle.std.proofs.Common.{◌≡◌, true, false, ◌&&◌, refl, None}
+use Rattle.std.proofs.Common.{false, ◌&&◌, refl, None}
 use Rattle.std.proofs.lemmas.Bool.{and_parts}
 use Rattle.pb_core.specs.Sound.{is_end}
 use Rattle.pb_core.specs.Cuts.{end_cuts}

@@ -1,5 +1,3 @@
-use Rattle.std.proofs.Common.{ap, ◌∙◌}
-use Rattle.pb_area.specs.Areas.{have}
 use Rattle.pb_first.proofs.Outcomes.{stops_at}
 use Rattle.pb_first.proofs.stop.stop.Goals as goal
 

@@ -1,5 +1,3 @@
-use Rattle.std.proofs.Common.{ap, ◌∙◌}
-use Rattle.std.specs.List.{prefix_len}
 use Rattle.pb_first.proofs.VisitLists.{put_at}
 use Rattle.pb_first.proofs.visit.put_behind.Goals as goal
 

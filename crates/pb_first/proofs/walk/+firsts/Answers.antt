@@ -1,10 +1,10 @@
-use Rattle.std.proofs.Common.{◌≡◌, None, subst, ℤ, ℕ, true, false, ◌||◌, List, drop, refl, ap, sym, ◌∙◌}
+use Rattle.std.proofs.Common.{None, subst, ◌||◌, drop, ap, sym, ◌∙◌}
 use Rattle.std.proofs.lemmas.Result.{IfOk-weaker}
 use Rattle.pb_core.specs.Plain.{plain_block, plain_stmt}
 use Rattle.pb_area.specs.Areas.{have}
 use Rattle.pb_first.specs.Firsts.{first_in}
 use Rattle.pb_part.specs.Loops.{ids_of}
-use Rattle.pb_first.proofs.Plains.{plain_message, plain_foreach, plain_loop, plain_again, plain_choice, plain_run}
+use Rattle.pb_first.proofs.Plains.{plain_message, plain_foreach, plain_loop, plain_choice, plain_run}
 use Rattle.pb_first.proofs.Outcomes.{nobody_comes}
 use Rattle.pb_first.proofs.Singles.{run_gives}
 use Rattle.std.specs.List.{All}
