@@ -12,6 +12,7 @@ from pathlib import Path
 
 FOLDER = Path(__file__).resolve().parent
 ANY, RING, PAIR = "2..max", "role W[0..N-1]", "A() from W[0] to W[N-1];"
+TWO = "role M, role W[0..N-1]"
 NOT_BUILT, ACCEPTED = (13, "pabble: not built at 1:1\n"), (0, "accepted\n")
 COMMANDS = ["check", "gen"]
 PROCESSES, SECONDS = 4, 60
@@ -146,6 +147,24 @@ ROWS = [
     (ANY, RING, "choice K at W[0] { A() from W[0] to W[1]; } or @{ A() from W[0] to W[1]; compute L at W[1]; }", 12, ", N = 2, W[1]"),
     (ANY, RING, "choice K at W[0] { A() from W[0] to W[1]; } or { B() from W[0] to W[1]; } or @{ A() from W[0] to W[1]; }", 12, ", N = 2, W[1]"),
     ("3..max", RING, "choice K at W[0] { A() from W[0] to W[1]; } or @{ rec X { A() from W[0] to W[1]; continue X; } }", 12, ", N = 3, W[1]"),
+    # Loops that continue each other both ways, branches that can't end, empty branches, choices in loops in choices, ranks
+    # that are told over a relay, two tellers that are one rank at one N alone, and a label twice in one branch.
+    (ANY, RING, "rec X { choice K at W[0] { A() from W[0] to W[1]; continue X; } or { B() from W[0] to W[1]; rec Y { choice L at W[0] { C() from W[0] to W[1]; continue X; } or { D() from W[0] to W[1]; continue Y; } } } }", None, ""),
+    ("3..max", RING, "rec X { choice K at W[0] @{ A() from W[0] to W[1]; continue X; } or { B() from W[0] to W[1]; rec Y { E() from W[1] to W[2]; choice L at W[0] { C() from W[0] to W[1]; continue X; } or { D() from W[0] to W[1]; continue Y; } } } }", 10, ", N = 3, W[2]"),
+    ("3..max", RING, "rec X { choice K at W[0] { A() from W[0] to W[1]; F() from W[1] to W[2]; continue X; } or { B() from W[0] to W[1]; G() from W[1] to W[2]; rec Y { choice L at W[0] { C() from W[0] to W[1]; H() from W[1] to W[2]; continue X; } or { D() from W[0] to W[1]; I() from W[1] to W[2]; continue Y; } } } }", None, ""),
+    (ANY, RING, "rec X { A() from W[0] to W[1]; choice K at W[0] @{ continue X; } or { continue X; } }", 10, ", N = 2, W[1]"),
+    (ANY, RING, "rec X { choice K at W[0] { A() from W[0] to W[1]; continue X; } or { B() from W[0] to W[1]; continue X; } }", None, ""),
+    (ANY, RING, "choice K at W[0] { } or { } or { compute C at W[0]; }", None, ""),
+    (ANY, RING, "choice K at W[0] { A() from W[0] to W[1]; } or @{ }", 10, ", N = 2, W[1]"),
+    (ANY, RING, "choice K at W[0] { A() from W[0] to W[1]; rec X { choice L at W[1] { C() from W[1] to W[0]; continue X; } or { D() from W[1] to W[0]; } } } or { B() from W[0] to W[1]; }", None, ""),
+    (ANY, RING, "choice K at W[0] { A() from W[0] to W[1]; rec X { choice L at W[1] { C() from W[1] to W[0]; continue X; } or @{ } } } or { B() from W[0] to W[1]; }", 10, ", N = 2, W[0]"),
+    ("4..max", RING, "choice K at W[0] { A() from W[0] to W[1]; C() from W[1] to W[i:2..N-1]; } or { B() from W[0] to W[1]; D() from W[1] to W[i:2..N-1]; }", None, ""),
+    ("3..max", RING, "choice K at W[0] { A() from W[0] to W[1]; C() from W[1] to W[i:2..N-1]; } or @{ B() from W[0] to W[1]; D() from W[1] to W[2]; }", 10, ", N = 4, W[3]"),
+    (ANY, TWO, "choice K at M { A() from M to W[1]; F() from M to W[N-1]; C() from W[1] to W[0]; } or @{ B() from M to W[1]; E() from M to W[N-1]; D() from W[N-1] to W[0]; }", 11, ", N = 3, W[0]"),
+    ("2..2", TWO, "choice K at M { A() from M to W[1]; F() from M to W[N-1]; C() from W[1] to W[0]; } or { B() from M to W[1]; E() from M to W[N-1]; D() from W[N-1] to W[0]; }", None, ""),
+    ("9..max", TWO, "choice K at M { A() from M to W[4]; F() from M to W[N-6]; C() from W[4] to W[0]; } or @{ B() from M to W[4]; E() from M to W[N-6]; D() from W[N-6] to W[0]; }", 11, ", N = 9, W[0]"),
+    ("10..10", TWO, "choice K at M { A() from M to W[4]; F() from M to W[N-6]; C() from W[4] to W[0]; } or { B() from M to W[4]; E() from M to W[N-6]; D() from W[N-6] to W[0]; }", None, ""),
+    (ANY, RING, "choice K at W[0] { A() from W[0] to W[i:1..N-1]; A() from W[0] to W[1]; } or { B() from W[0] to W[i:1..N-1]; }", None, ""),
     # The least rule, its first place.
     (ANY, RING, "continue X; barrier; broadcast @A() from W[0];", 2, ""),
     ("@0..max", "role W[3..N]", "", 5, ""),
