@@ -23,7 +23,7 @@ PLACES = {"constant": ("N", 0), "constant of a lin": ("N", 1), "protocol": ("Eve
           "kernel of a choice": ("C", 0), "loop": ("X", 0), "loop of a continue": ("X", 1), "variable": ("i", 0),
           "variable of a lin": ("i", 1), "variable of a foreach": ("i", 2)}
 NOT_BUILT = (13, b"pabble: not built at 1:1\n")
-BROKEN = re.compile(rb"pabble: rule [1-8] at [0-9]+:[0-9]+(, N = [0-9]+(, [A-Za-z0-9_]+\[-?[0-9]+\])?)?\n")
+BROKEN = re.compile(rb"pabble: rule (?:[1-9]|1[0-2]) at [0-9]+:[0-9]+(, N = [0-9]+(, [A-Za-z0-9_]+\[-?[0-9]+\])?)?\n")
 SHOWN, PROCESSES, SECONDS = 10, 4, 60
 
 
