@@ -1,0 +1,14 @@
+//! What the ranks find first in a block of a file, as guards.
+#![tactic(auto)]
+
+mod kinds;
+mod listed;
+mod parts;
+#[cfg(test)]
+mod tests;
+mod whole;
+
+pub use kinds::{First, FirstKind};
+pub use pb_area::NoMemory;
+pub use pb_first::Source;
+pub use whole::firsts;
