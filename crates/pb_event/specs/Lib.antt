@@ -1,0 +1,5 @@
+pub mod Can
+pub mod Events
+pub mod Sound
+pub mod States
+pub mod Worlds

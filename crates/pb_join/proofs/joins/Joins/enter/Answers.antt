@@ -1,0 +1,20 @@
+use Rattle.std.proofs.Common.{◌∙◌, ap, rules}
+use Rattle.pb_join.specs.Rounds.{with_one}
+use Rattle.pb_join.specs.Joined.{entered}
+use Rattle.pb_join.proofs.Entering.{few_then, seen_then, shown_then}
+use Rattle.pb_join.proofs.joins.Joins.enter.Goals as goal
+
+pub count-requires-clause-few : goal.count-requires-clause-few
+count-requires-clause-few c = rw c.reserve.ensures.same (few_then c.self.inside.rounds c.self.inside.lists c.self.inside.total c.number-k.result c.self.invariant (search rules))
+
+pub invariant_of-self-2 : goal.invariant_of-self-2
+invariant_of-self-2 c =
+    seen_then c.self.inside.rounds c.count.new.self c.self.inside.lists c.push.new.self c.self.inside.total c.args.rank c.number-k.result c.args.call c.args.words c.self.invariant
+    (rw (← c.self.view_is) at c.requires) c.number-k.ensures
+    (c.count.ensures ∙ ap (λ xs. with_one xs c.number-k.result c.args.call) c.reserve.ensures.same) c.in_ok-push.ensures.ok
+
+pub returns-clause-ok : goal.returns-clause-ok
+returns-clause-ok c =
+    shown_then c.self.inside.rounds c.count.new.self c.self.inside.lists c.push.new.self c.args.rank c.number-k.result c.args.call c.args.words
+    c.number-k.ensures (c.count.ensures ∙ ap (λ xs. with_one xs c.number-k.result c.args.call) c.reserve.ensures.same) c.in_ok-push.ensures.ok
+    ∙ ap (λ x. entered x c.args.rank c.args.call c.args.words) c.self.view_is

@@ -1,0 +1,5 @@
+use Rattle.pb_join.proofs.Entering.{seen_first}
+use Rattle.pb_join.proofs.joins.Joins.new.Goals as goal
+
+pub invariant_of-result : goal.invariant_of-result
+invariant_of-result c = seen_first (record { list = c.new-2.result }) c.in_ok-lists.lists c.args.total c.new-2.ensures.items c.in_ok-lists.ensures

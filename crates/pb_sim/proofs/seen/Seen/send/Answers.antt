@@ -1,0 +1,85 @@
+use Rattle.std.proofs.Common.{◌≡◌, ◌<◌, ◌≤◌, ◌∙◌, ◌∷◌, [], ℕ, true, false, ap, sym, subst, length, List}
+use Rattle.std.specs.Result.{is_ok}
+use Rattle.pb_world.specs.Actions.{Send, Sends}
+use Rattle.pb_ready.specs.Kept.{put}
+use Rattle.pb_ready.specs.Listed.{Lists}
+use Rattle.pb_event.specs.declared.state.State.{State}
+use Rattle.pb_event.specs.States.{program, state_at, next_step, total_of}
+use Rattle.pb_event.specs.Can.{can}
+use Rattle.pb_event.specs.Sound.{IsState}
+use Rattle.pb_sim.specs.Seen.{counted}
+use Rattle.pb_event.specs.Events.{IsEvent, IsOtherThan, IsAsked, IsSame}
+use Rattle.pb_event.proofs.Before.{ok_of, err_of}
+use Rattle.pb_sim.proofs.Exact.{total_kept, asked_few, seen_two, few_send, label_few, unchanged}
+use Rattle.pb_event.proofs.Near.{near}
+use Rattle.pb_event.proofs.Sending.{send_next}
+use Rattle.pb_sim.proofs.seen.Seen.send.Goals as goal
+
+pub returns-then-not-sent-clause-same : goal.returns-then-not-sent-clause-same
+returns-then-not-sent-clause-same c =
+    let k : is_ok c.send.result ≡ false = sym c.is_ok-sent.ensures.value ∙ c.if-not-sent.true in
+    unchanged c.args.self.now c.send.new.self c.requires.seen (err_of c.send.result (IsSame c.args.self.now.state c.send.new.self) k c.send.ensures.same)
+
+pub refresh-requires-clause-sound : goal.refresh-requires-clause-sound
+refresh-requires-clause-sound c =
+    let k : is_ok c.send.result ≡ true = sym c.is_ok-sent.ensures.value ∙ c.if-not-sent.false in
+    let e = ok_of c.send.result (IsEvent c.args.self.now.state c.args.rank (Send c.args.to c.args.label c.args.words ∷ []) c.send.new.self × IsOtherThan c.args.self.now.state c.args.rank c.args.to c.send.new.self) k c.send.ensures.event in
+    e.0.sound
+
+pub refresh-requires-clause-total : goal.refresh-requires-clause-total
+refresh-requires-clause-total c =
+    let k : is_ok c.send.result ≡ true = sym c.is_ok-sent.ensures.value ∙ c.if-not-sent.false in
+    let e = ok_of c.send.result (IsEvent c.args.self.now.state c.args.rank (Send c.args.to c.args.label c.args.words ∷ []) c.send.new.self × IsOtherThan c.args.self.now.state c.args.rank c.args.to c.send.new.self) k c.send.ensures.event in
+    c.requires.seen.readied.total ∙ sym (total_kept c.args.self.now.state c.send.new.self c.args.rank (Send c.args.to c.args.label c.args.words ∷ []) e.0)
+
+pub refresh-requires-clause-there : goal.refresh-requires-clause-there
+refresh-requires-clause-there c =
+    let k : is_ok c.send.result ≡ true = sym c.is_ok-sent.ensures.value ∙ c.if-not-sent.false in
+    let e = ok_of c.send.result (IsEvent c.args.self.now.state c.args.rank (Send c.args.to c.args.label c.args.words ∷ []) c.send.new.self × IsOtherThan c.args.self.now.state c.args.rank c.args.to c.send.new.self) k c.send.ensures.event in
+    subst (λ (k : ℕ). c.args.rank < k) (sym (total_kept c.args.self.now.state c.send.new.self c.args.rank (Send c.args.to c.args.label c.args.words ∷ []) e.0)) c.requires.may.there
+
+pub refresh-requires-2-clause-sound : goal.refresh-requires-2-clause-sound
+refresh-requires-2-clause-sound c =
+    let k : is_ok c.send.result ≡ true = sym c.is_ok-sent.ensures.value ∙ c.if-not-sent.false in
+    let e = ok_of c.send.result (IsEvent c.args.self.now.state c.args.rank (Send c.args.to c.args.label c.args.words ∷ []) c.send.new.self × IsOtherThan c.args.self.now.state c.args.rank c.args.to c.send.new.self) k c.send.ensures.event in
+    subst IsState (sym c.refresh.ensures.state) e.0.sound
+
+pub refresh-requires-2-clause-total : goal.refresh-requires-2-clause-total
+refresh-requires-2-clause-total c =
+    let k : is_ok c.send.result ≡ true = sym c.is_ok-sent.ensures.value ∙ c.if-not-sent.false in
+    let e = ok_of c.send.result (IsEvent c.args.self.now.state c.args.rank (Send c.args.to c.args.label c.args.words ∷ []) c.send.new.self × IsOtherThan c.args.self.now.state c.args.rank c.args.to c.send.new.self) k c.send.ensures.event in
+    c.refresh.ensures.total ∙ c.requires.seen.readied.total ∙ sym (total_kept c.args.self.now.state c.send.new.self c.args.rank (Send c.args.to c.args.label c.args.words ∷ []) e.0) ∙ ap total_of (sym c.refresh.ensures.state)
+
+pub refresh-requires-2-clause-there : goal.refresh-requires-2-clause-there
+refresh-requires-2-clause-there c =
+    let k : is_ok c.send.result ≡ true = sym c.is_ok-sent.ensures.value ∙ c.if-not-sent.false in
+    let e = ok_of c.send.result (IsEvent c.args.self.now.state c.args.rank (Send c.args.to c.args.label c.args.words ∷ []) c.send.new.self × IsOtherThan c.args.self.now.state c.args.rank c.args.to c.send.new.self) k c.send.ensures.event in
+    subst (λ (u : State). c.args.to < total_of u) (sym c.refresh.ensures.state)
+    (subst (λ (k : ℕ). c.args.to < k) (sym (total_kept c.args.self.now.state c.send.new.self c.args.rank (Send c.args.to c.args.label c.args.words ∷ []) e.0))
+    (near (program c.args.self.now.state) c.args.self.now.state.n (state_at c.args.self.now.state c.args.rank) (Sends c.args.to c.args.label) (send_next (next_step c.args.self.now.state c.args.rank) c.args.to c.args.label c.requires.may.next_is)))
+
+pub returns-clause-stepped : goal.returns-clause-stepped
+returns-clause-stepped c = (
+    let k : is_ok c.send.result ≡ true = sym c.is_ok-sent.ensures.value ∙ c.if-not-sent.false in
+    let e = ok_of c.send.result (IsEvent c.args.self.now.state c.args.rank (Send c.args.to c.args.label c.args.words ∷ []) c.send.new.self × IsOtherThan c.args.self.now.state c.args.rank c.args.to c.send.new.self) k c.send.ensures.event in
+    let a = ok_of c.send.result (IsAsked c.args.self.now.state c.args.rank (length c.args.words) c.send.new.self) k c.send.ensures.asked in
+    let few : length c.args.words ≤ 1024 = subst (λ (k : ℕ). k ≤ 1024) (sym c.requires.long) (label_few c.args.self.now.state c.args.label c.requires.seen.readied.state) in
+    seen_two c.args.self.now c.refresh-2.new.self c.send.new.self c.args.rank (Send c.args.to c.args.label c.args.words ∷ []) c.args.to c.refresh.new.self.ready c.requires.seen e.0 e.1
+    (c.refresh-2.ensures.state ∙ c.refresh.ensures.state) (c.refresh-2.ensures.counts ∙ c.refresh.ensures.counts ∙ ap (λ (ws : List ℕ). counted (Send c.args.to c.args.label ws) c.args.self.now.counts) c.list.ensures) (c.refresh-2.ensures.steps ∙ c.refresh.ensures.steps) (c.refresh-2.ensures.total ∙ c.refresh.ensures.total)
+    c.refresh.ensures.ready
+    (λ f h. subst (λ (u : State). Lists c.refresh-2.new.self.ready (put f c.args.to (can u c.args.to))) c.refresh.ensures.state (c.refresh-2.ensures.ready f h))
+    (few_send c.args.self.now.counts c.args.self.now.steps c.requires.seen.few c.args.to c.args.label c.args.words few)
+    (asked_few c.args.self.now.state c.send.new.self c.args.rank (length c.args.words) c.args.self.now.steps a few (total_kept c.args.self.now.state c.send.new.self c.args.rank (Send c.args.to c.args.label c.args.words ∷ []) e.0) c.requires.seen.asked)).0
+
+pub returns-clause-seen : goal.returns-clause-seen
+returns-clause-seen c = (
+    let k : is_ok c.send.result ≡ true = sym c.is_ok-sent.ensures.value ∙ c.if-not-sent.false in
+    let e = ok_of c.send.result (IsEvent c.args.self.now.state c.args.rank (Send c.args.to c.args.label c.args.words ∷ []) c.send.new.self × IsOtherThan c.args.self.now.state c.args.rank c.args.to c.send.new.self) k c.send.ensures.event in
+    let a = ok_of c.send.result (IsAsked c.args.self.now.state c.args.rank (length c.args.words) c.send.new.self) k c.send.ensures.asked in
+    let few : length c.args.words ≤ 1024 = subst (λ (k : ℕ). k ≤ 1024) (sym c.requires.long) (label_few c.args.self.now.state c.args.label c.requires.seen.readied.state) in
+    seen_two c.args.self.now c.refresh-2.new.self c.send.new.self c.args.rank (Send c.args.to c.args.label c.args.words ∷ []) c.args.to c.refresh.new.self.ready c.requires.seen e.0 e.1
+    (c.refresh-2.ensures.state ∙ c.refresh.ensures.state) (c.refresh-2.ensures.counts ∙ c.refresh.ensures.counts ∙ ap (λ (ws : List ℕ). counted (Send c.args.to c.args.label ws) c.args.self.now.counts) c.list.ensures) (c.refresh-2.ensures.steps ∙ c.refresh.ensures.steps) (c.refresh-2.ensures.total ∙ c.refresh.ensures.total)
+    c.refresh.ensures.ready
+    (λ f h. subst (λ (u : State). Lists c.refresh-2.new.self.ready (put f c.args.to (can u c.args.to))) c.refresh.ensures.state (c.refresh-2.ensures.ready f h))
+    (few_send c.args.self.now.counts c.args.self.now.steps c.requires.seen.few c.args.to c.args.label c.args.words few)
+    (asked_few c.args.self.now.state c.send.new.self c.args.rank (length c.args.words) c.args.self.now.steps a few (total_kept c.args.self.now.state c.send.new.self c.args.rank (Send c.args.to c.args.label c.args.words ∷ []) e.0) c.requires.seen.asked)).1
