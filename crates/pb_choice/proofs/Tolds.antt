@@ -109,3 +109,15 @@ told_are range whole held at bs takers chooser told end_area among is_end_area a
             (without n role x);
       };
 }
+
+and_true : (a b : Bool) → b ≡ true → a && b ≡ a
+and_true a b h = grind (arith, nat_tests)
+
+pub told_within : (range : NRange) (whole : List Area) (held : List Held) (at : CoreEnd) (bs : BranchTrees) (told within : List Area) → AreTold range whole held at bs told →
+    ((n : ℤ) (role : ℕ) (x : ℤ) → have within n role x ≡ have told n role x && have whole n role x) → AreTold range whole held at bs within
+told_within range whole held at bs told within anywhere both = record {
+  is = λ roles rows env m kernel stands fair. record {
+    is = λ n role x inside r.
+        both n role x ∙ and_true (have told n role x) (have whole n role x) (stands.whole_is.is n role x inside ∙ r) ∙ (anywhere.is roles rows env m kernel stands fair).is n role x inside r;
+  };
+}

@@ -4,14 +4,31 @@ ghost use Rattle.pb_core.specs.Plain.{plain_block, branches_of};
 ghost use Rattle.pb_choice.specs.Told.{AreTold, AreAmong};
 
 use crate::setting::Setting;
-use pb_area::{Area, add_all, one, without};
+use pb_area::{Area, add_all, common, one, without};
 use pb_core::{CoreBlock, CoreEnd};
 use pb_part::{Held, end_area, takers_in};
 use pb_text::NoMemory;
 use std::alloc::Global;
 
-/// The areas of those that are told of a choice: they take part in some branch, and aren't the chooser.
+/// The areas of those that are told of a choice: they take part in some branch, and aren't the chooser. The areas lie
+/// within the range, so that what is cut of them later isn't cut at numbers N outside.
+#[tactic(auto, using(crate::proofs::Tolds::told_within))]
 pub fn told_of(
+    branches: &[CoreBlock],
+    alloc: Global,
+    setting: &Setting,
+    held: &[Held],
+    at: &CoreEnd,
+) -> Result<Vec<Area>, NoMemory>
+    ensures { IfOk result (λ v. AreTold setting.now.range setting.now.whole.now held.now at.now (branches_of (map plain_block branches.now)) v.items) }
+{
+    let told = told_anywhere(branches, alloc, setting, held, at)?;
+    let within = common(alloc, &told, setting.whole)?;
+    Ok(within)
+}
+
+// The same, at other numbers N too.
+fn told_anywhere(
     branches: &[CoreBlock],
     alloc: Global,
     setting: &Setting,
