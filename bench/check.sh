@@ -1,7 +1,7 @@
 #!/usr/bin/env bash
 # Times `check` of the built program on large protocols: relative messages over eight roles, the mix of four kinds of
-# statement, a choice of 64 branches with 60 messages each, 31 loops that continue each other, and two messages whose ends
-# lie 100,000 apart. RUNS may be given; the best of the runs counts, in milliseconds of processor time.
+# statement, a choice of 64 branches with 61 messages each, one of 4 branches whose ends cross below the range, 63 nested
+# loops, 31 loops that continue each other, and two messages whose ends lie 100,000 apart. RUNS may be given; the best of the runs counts, in milliseconds of processor time.
 top=$(cd "$(dirname "$0")/.." && pwd) || exit 1
 runs=${RUNS:-5}
 work=$(mktemp -d) || exit 1
@@ -33,15 +33,40 @@ mixed() {
     }'
 }
 
-# Each branch tells the ranks 1 to 60 one by one, under a label of its own.
+# Each branch tells all ranks, 60 of them one by one, under a label of its own.
 choice() {
     awk 'BEGIN {
-        print "const N = 61..max;\nglobal protocol P(role W[0..N-1]) {\n  choice K at W[0] {"
+        print "const N = 70..max;\nglobal protocol P(role W[0..N-1]) {\n  choice K at W[0] {"
         for (b = 0; b < 64; b++) {
             if (b) print "  } or {"
             for (k = 1; k <= 60; k++) printf "    L%d() from W[0] to W[%d];\n", b, k
+            printf "    L%d() from W[0] to W[i:61..N-1];\n", b
         }
         print "  }\n}"
+    }'
+}
+
+# The same with every second end counted from the last rank, and then all ranks: the slow case that is known.
+crossing() {
+    awk 'BEGIN {
+        print "const N = 121..max;\nglobal protocol P(role W[0..N-1]) {\n  choice K at W[0] {"
+        for (b = 0; b < 4; b++) {
+            if (b) print "  } or {"
+            for (k = 1; k <= 60; k++) printf "    L%d() from W[0] to W[%s];\n", b, k % 2 ? k : "N-" k
+            printf "    G%d() from W[0] to W[i:1..N-1];\n", b
+        }
+        print "  }\n}"
+    }'
+}
+
+# 63 loops, each within the one before, and the innermost continues the outermost.
+nested() {
+    awk 'BEGIN {
+        print "const N = 2..max;\nglobal protocol P(role W[0..N-1]) {"
+        for (k = 1; k <= 63; k++) printf "rec X%d { A%d() from W[0] to W[1]; ", k, k
+        printf "continue X1;"
+        for (k = 1; k <= 63; k++) printf " }"
+        print "\n}"
     }'
 }
 
@@ -72,6 +97,8 @@ checked() {
 relative 4000 >"$work/relative.pbl"
 mixed 4000 >"$work/mixed.pbl"
 choice >"$work/choice.pbl"
+crossing >"$work/crossing.pbl"
+nested >"$work/nested.pbl"
 loops >"$work/loops.pbl"
 distant >"$work/distant.pbl"
-for name in relative mixed choice loops distant; do checked "$name"; done
+for name in relative mixed choice crossing nested loops distant; do checked "$name"; done

@@ -2,7 +2,8 @@
 """Compares `check` with the definitions on random protocols: `definitions.py [COUNT [SEED]]`. Each file is given to
 `pabble check`, and to `plain` at the first few numbers of its range. `plain` lists every breach at one N; the least of
 them, by rule, place, N and rank, must be the one that `check` names, as far as the numbers go that were looked at: where
-`check` names a greater N, or accepts, none may be listed that comes before. The last line is 'N passed, N failed'.
+`check` names a greater N, or accepts, none may be listed that comes before. A file that breaks one of the rules 1 to 5
+must have the same line from both, which decide these rules by the same call. The last line is 'N passed, N failed'.
 """
 import random
 import re
@@ -124,7 +125,9 @@ def compare(path, low, roles):
     said = subprocess.run([PABBLE, "check", path], capture_output=True, text=True, timeout=60)
     named = breaches(said.stdout, roles)
     if named and named[0][0] <= 5:
-        return True, named[0][0]
+        shown = subprocess.run([PLAIN, path, str(low), "0"], capture_output=True, text=True, timeout=120)
+        alike = shown.stdout.removeprefix("plain") == said.stdout.removeprefix("pabble")
+        return alike, named[0][0] if alike else f"{said.stdout}, and {shown.stdout}"
     seen = []
     for n in range(low, low + LOOKED_AT):
         shown = subprocess.run([PLAIN, path, str(n), "0"], capture_output=True, text=True, timeout=120)
