@@ -1,0 +1,4 @@
+pub mod Shape
+pub mod Ways
+pub mod Straight
+pub mod Theorem
