@@ -3,3 +3,4 @@ pub mod Ways
 pub mod Straight
 pub mod Theorem
 pub mod Sizes
+pub mod Tabled
