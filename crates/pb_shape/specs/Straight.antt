@@ -110,6 +110,6 @@ pub record IsOpenTo (h : Here) (n : ℤ) (me : Seat) : Type 0 where
 abbrev pub StraightPasses : Type 0
 StraightPasses =
     (p : Protocol) (l : Program) (n : ℤ) (r : ℕ) (me : Seat) → IsSeated p l n r me → (h : Here) → IsOpenTo h n me →
-    (opens : List ℕ) (m : Mark) (s : StmtTree) (tail codes : Codes) → Piece (scope_of p) h tail s codes → (w : W.Scope) → AreMade l w codes → IsFine p n s →
+    (opens : List ℕ) (m : Mark) (s : StmtTree) (tail codes : Codes) → Piece (scope_of p) h tail s codes → IsFine p n s → (at : W.Scope) → AreMade l at codes →
     (rest : Todo) (k number : ℕ) (i : ℤ) → IsVariable i → size_all codes ≤ k → 2 * size_all codes ≤ most_silent l →
     Passes l n me k number i codes tail rest (mine r (flat_stmt p.roles n opens (pos 0) m s stop))
