@@ -1,0 +1,8 @@
+pub mod Order
+pub mod Segment
+pub mod Along
+pub mod Fits
+pub mod Peers
+pub mod Passing
+pub mod Each
+pub mod Pieces
