@@ -49,12 +49,12 @@ module _ (l : Program) (n : ℤ) (me : Seat) (i : ℤ) (size : IsSize n) (near :
   if_fits true xs ys a b = a
   if_fits false xs ys a b = b
 
-  guard_fits : (g : Guard) → IsGuard l g → all_fit (guard_numbers n me i g) ≡ true
+  pub guard_fits : (g : Guard) → IsGuard l g → all_fit (guard_numbers n me i g) ≡ true
   guard_fits g h =
       if_fits (nat_eq me.role g.role) _ [] (both_fit (end_numbers n me i g.low) (if is_at_least me.index g.low n i then end_numbers n me i g.high else [])
       (end_fits g.low h.small.low) (if_fits (is_at_least me.index g.low n i) _ [] (end_fits g.high h.small.high) refl)) refl
 
-  each_fits : (gs : List Guard) → All (IsGuard l) gs → all_fit (numbers_of n me i gs) ≡ true
+  pub each_fits : (gs : List Guard) → All (IsGuard l) gs → all_fit (numbers_of n me i gs) ≡ true
   each_fits [] s = refl
   each_fits (g ∷ gs) s =
       both_fit (guard_numbers n me i g) (if is_for n me i g then [] else numbers_of n me i gs)

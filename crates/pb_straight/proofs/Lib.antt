@@ -6,3 +6,4 @@ pub mod Peers
 pub mod Passing
 pub mod Each
 pub mod Pieces
+pub mod Ends

@@ -30,7 +30,7 @@ pub record Setting (p : Protocol) (l : Program) (n : ℤ) (me : Seat) : Type 0 w
   pub is : is_rank p.roles n me.role me.index ≡ true
   pub in_role : IsInRole me.role p.roles n me.index
   pub size : IsSize n
-  pub peers : (e : CoreEnd) (i : ℤ) → is_rank p.roles n e.role (value e.at n i) ≡ true → IsNumbered p l n me i e
+  pub peers : (e : CoreEnd) (i : ℤ) → is_rank p.roles n e.role (value e.at n i) ≡ true → IsNumbered p l n me i (peer_of e)
 
 -- the rank is at this place
 pub record Comes (h : Here) (n : ℤ) (me : Seat) (i : ℤ) : Type 0 where

@@ -1,5 +1,6 @@
 -- The number of a peer stays an int32 on the way, and is the number of a rank.
-use Rattle.std.proofs.Common.{◌≡◌, ◌≢◌, ◌≤◌, ◌<◌, ℕ, zero, suc, ◌+◌, ◌*◌, ℤ, pos, negsuc, ◌+ℤ◌, ◌-ℤ◌, ◌*ℤ◌, ◌≤ℤ◌, Bool, true, false, ◌&&◌, ◌||◌, nat_eq, nat_lt, nat_le, int_le, int_lt, ◌⊎◌, inl, inr, Option, Some, None, All, List, [], ◌∷◌, ◌++◌, map, length, get_or, refl, sym, ◌∙◌, ap, ap₂, subst, arith}
+use Rattle.std.proofs.Common.{◌≡◌, ◌≢◌, ◌≤◌, ◌<◌, ℕ, zero, suc, ◌+◌, ◌*◌, ℤ, pos, negsuc, ◌+ℤ◌, ◌-ℤ◌, ◌*ℤ◌, ◌≤ℤ◌, Bool, true, false, ◌&&◌, ◌||◌, nat_eq, nat_lt, nat_le, ◌==◌, int_le, int_lt, ◌⊎◌, inl, inr, Option, Some, None, All, List, [], ◌∷◌, ◌++◌, map, length, get_or, refl, sym, ◌∙◌, ap, ap₂, subst, arith}
+use Rattle.std.specs.Ordering.{int_eq}
 use Rattle.std.proofs.lemmas.Int.{ints}
 use Rattle.std.proofs.lemmas.Bool.Decides.{nat_tests}
 use Rattle.std.proofs.lemmas.List.{length-append, length-map}
@@ -11,7 +12,6 @@ use Rattle.pb_affine.specs.declared.lin.Lin.{Lin}
 use Rattle.pb_affine.specs.declared.range.NRange.{NRange}
 use Rattle.pb_affine.specs.Values.{value, base_value, range, count_of, IsSmall}
 use Rattle.pb_core.specs.declared.protocol.CoreRole.{CoreRole}
-use Rattle.pb_core.specs.declared.tree.CoreEnd.{CoreEnd}
 use Rattle.pb_core.specs.Ranks as C
 use Rattle.pb_core.specs.Ranks.{Formula, place_with, size_with, seats, seats_from, total}
 use Rattle.pb_core.specs.Laws.{IsInRole, IsInhabited, AreInhabited, Numbered, Totalled}
@@ -21,7 +21,7 @@ use Rattle.pb_core.specs.Sound.{is_small, is_over_n, is_bound, are_roles, is_ran
 use Rattle.pb_core.specs.Verdict.{IsIn}
 use Rattle.pb_core.specs.Verdict as V
 use Rattle.pb_flat.specs.Seated.{rank, is_rank}
-use Rattle.pb_flat.proofs.Seats.{seat_in_role, seat_of_rank}
+use Rattle.pb_flat.proofs.Seats.{same_number, seat_in_role, seat_of_rank}
 use Rattle.pb_local.specs.declared.stmt.Peer.{Peer}
 use Rattle.pb_local.specs.Ranks as L
 use Rattle.pb_local.specs.Ranks.{Seat, Sum, no_ranks}
@@ -30,8 +30,8 @@ use Rattle.pb_local.specs.Computed as M
 use Rattle.pb_local.specs.Tree.{Program}
 use Rattle.pb_local.specs.WellMade as W
 use Rattle.pb_local.specs.WellMade.{IsRange, IsInRange, IsRole, IsWellMade}
-use Rattle.pb_shape.specs.Shape.{peer_of, role_of, HasShape}
-use Rattle.pb_shape.specs.Straight.{IsSeated}
+use Rattle.pb_shape.specs.Shape.{role_of, HasShape}
+use Rattle.pb_shape.specs.Straight.{IsVariable}
 use Rattle.pb_straight.proofs.Fits.{IsSize, fits_is}
 
 -- ---- the same ranks and sums
@@ -86,6 +86,16 @@ in_role (r ∷ rs) j (suc k) n x h =
 
 pub is_in_role : (roles : List CoreRole) (n : ℤ) (role : ℕ) (x : ℤ) → is_rank roles n role x ≡ true → IsInRole role roles n x
 is_in_role roles n role x h = let e : role ≡ 0 + role = omega arith in in_role roles 0 role n x (subst (λ k. is_rank roles n k x ≡ true) e h)
+
+-- ranks with one number are one
+pub same_rank : (roles : List CoreRole) (n : ℤ) (role : ℕ) (x : ℤ) (role' : ℕ) (x' : ℤ) → is_rank roles n role' x' ≡ true → rank roles n role x ≡ rank roles n role' x' → (role ≡ role') × (x ≡ x')
+same_rank roles n role x role' x' is e = by role x (sym (same_number (seats roles n) (seat_of role x) (seat_of role' x') is) ∙ equal _ _ e)
+  where
+    equal : (a b : ℕ) → a ≡ b → (a == b) ≡ true
+    equal a b e = grind (arith, nat_tests)
+
+    by : (role : ℕ) (x : ℤ) → (nat_eq role role' && int_eq x x') ≡ true → (role ≡ role') × (x ≡ x')
+    by role x h = (grind (arith, ints, nat_tests), grind (arith, ints, nat_tests))
 
 role_is : (rs : List CoreRole) (k : ℕ) (n x : ℤ) → IsInRole k rs n x → k < length rs
 role_is [] k n x h = absurd h
@@ -206,9 +216,9 @@ number_most m low None a b within end (inl h) t few e off = omega (arith, ints, 
 number_most m low None a b within end (inr h) t few e off = cc
 
 -- the peer can be computed and has this number
-pub record IsNumbered (p : Protocol) (l : Program) (n : ℤ) (me : Seat) (i : ℤ) (e : CoreEnd) : Type 0 where
-  pub there : is_peer n me i l (peer_of e) ≡ true
-  pub same : count_of (peer_number n me i l (peer_of e)) ≡ rank p.roles n e.role (value e.at n i)
+pub record IsNumbered (p : Protocol) (l : Program) (n : ℤ) (me : Seat) (i : ℤ) (e : Peer) : Type 0 where
+  pub there : is_peer n me i l e ≡ true
+  pub same : count_of (peer_number n me i l e) ≡ rank p.roles n e.role (value e.at n i)
 
 inside : (a t : ℕ) → a < t → int_le (pos 0) (pos a) && int_lt (pos a) (pos t) ≡ true
 inside a t h = grind (arith, ints)
@@ -259,9 +269,15 @@ module _ (number_is : Numbered) (total_is : Totalled) (p : Protocol) (l : Progra
             };
           }
 
+  -- the index of a rank
+  pub index_is_near : (role : ℕ) (x : ℤ) → is_rank p.roles n role x ≡ true → IsVariable x
+  index_is_near role x h =
+      let near = index_near p.roles role n x world.size.low small_roles (is_in_role p.roles n role x h) in
+      record { low = omega (arith, ints, near.0); high = omega (arith, ints, near.1, world.size.high) }
+
   -- ---- peers
 
-  pub peer_is : (me : Seat) (e : CoreEnd) (i : ℤ) → is_rank p.roles n e.role (value e.at n i) ≡ true → IsNumbered p l n me i e
+  pub peer_is : (me : Seat) (e : Peer) (i : ℤ) → is_rank p.roles n e.role (value e.at n i) ≡ true → IsNumbered p l n me i e
   peer_is me e i is =
       let x = value e.at n i in
       let role = is_in_role p.roles n e.role x is in
@@ -274,7 +290,7 @@ module _ (number_is : Numbered) (total_is : Totalled) (p : Protocol) (l : Progra
       let done = peer_fits (rank p.roles n e.role x) (total p.roles n) x (place.a *ℤ n) place.b (number_is p.roles e.role n x world.inhabited role)
       (omega (arith, ints, off.0, fewer), omega (arith, ints, off.1, fewer)) (near.0, omega (arith, ints, near.1, world.size.high)) (seat_of_rank p.roles n (seat_of e.role x) is).0 few in
       record {
-        there = subst (λ t. (all_fit (peer_numbers n me i l (peer_of e)) && (int_le (pos 0) (peer_number n me i l (peer_of e)) && int_lt (peer_number n me i l (peer_of e)) (pos t))) ≡ true) (sym totals)
+        there = subst (λ t. (all_fit (peer_numbers n me i l e) && (int_le (pos 0) (peer_number n me i l e) && int_lt (peer_number n me i l e) (pos t))) ≡ true) (sym totals)
             (subst (λ (s : Sum). (all_fit (x ∷ (s.a *ℤ n) ∷ (x +ℤ (s.a *ℤ n)) ∷ (x +ℤ (s.a *ℤ n) +ℤ s.b) ∷ []) && (int_le (pos 0) (x +ℤ (s.a *ℤ n) +ℤ s.b) && int_lt (x +ℤ (s.a *ℤ n) +ℤ s.b) (pos (total p.roles n)))) ≡ true) (sym same) done.0);
         same = subst (λ (s : Sum). count_of (x +ℤ (s.a *ℤ n) +ℤ s.b) ≡ rank p.roles n e.role x) (sym same) done.1;
       }

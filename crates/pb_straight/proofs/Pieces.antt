@@ -80,7 +80,7 @@ module _ (p : Protocol) (l : Program) (n : ℤ) (me : Seat) (g : Setting p l n m
       Goes l n bound me k i i (next number code rest) rest 0 (Enters joint ∷ Leaves joint ∷ [])
   joins_go k number i code joint rest e = let a = does_one l n bound me {k = k} e in goes_joined l n bound me a (does_one l n bound me {k = a.left} {first = leave joint rest} refl)
 
-  root_is : (i : ℤ) (e : CoreEnd) → IsEnd p n false (pos 0) e → IsNumbered p l n me i e
+  root_is : (i : ℤ) (e : CoreEnd) → IsEnd p n false (pos 0) e → IsNumbered p l n me i (peer_of e)
   root_is i e fine = g.peers e i (end_at e i fine).is
 
   root_number : (i : ℤ) (e : CoreEnd) → IsEnd p n false (pos 0) e → rank_of p.roles n e i ≡ rank_of p.roles n e (pos 0)
@@ -133,7 +133,7 @@ setting numbered totalled p l n r me h = record {
   is = h.is;
   in_role = is_in_role p.roles n me.role me.index h.is;
   size = (world numbered totalled p l n h.sound h.shape h.made h.within h.few).size;
-  peers = peer_is numbered totalled p l n h.sound h.shape h.made h.within h.few me;
+  peers = λ e i is. peer_is numbered totalled p l n h.sound h.shape h.made h.within h.few me (peer_of e) i is;
 }
 
 pub straight_passes : Numbered → Totalled → StraightPasses

@@ -4,6 +4,7 @@
 use pb_core::ranks_are_numbered;
 
 ghost use Rattle.pb_shape.specs.Straight.{StraightPasses};
+ghost use Rattle.pb_straight.specs.Ends.{EndsAreFine};
 
 /// In a program of the projection's shape the code of a straight statement does exactly the rank's part of it, with no more silent
 /// steps since the last action than the code has statements, and it is never undefined.
@@ -12,3 +13,9 @@ pub fn straight()
 {
     ranks_are_numbered();
 }
+
+/// Where no rule is broken, each end in a protocol is a rank, for each value of the variable, and no message goes from a rank to
+/// itself.
+pub fn ends_are_ranks()
+    ensures { EndsAreFine }
+{}
