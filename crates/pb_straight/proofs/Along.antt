@@ -1,13 +1,13 @@
 -- How a rank's way is put together, with its silent steps counted.
-use Rattle.std.proofs.Common.{◌≡◌, ◌≤◌, ℕ, suc, ◌+◌, ℤ, ◌+ℤ◌, Bool, true, false, ◌&&◌, if◌then◌else◌, List, [], ◌∷◌, ◌++◌, refl, sym, ap, subst, arith}
+use Rattle.std.proofs.Common.{◌≡◌, ◌≤◌, ℕ, suc, ◌+◌, ℤ, ◌+ℤ◌, true, false, List, [], ◌∷◌, ◌++◌, refl, sym, ap, subst, arith}
 use Rattle.pb_affine.specs.declared.guard.Guard.{Guard}
-use Rattle.pb_world.specs.Actions.{Action, Kind}
+use Rattle.pb_world.specs.Actions.{Kind}
 use Rattle.pb_world.specs.Machine.{Machine}
 use Rattle.pb_local.specs.Ranks.{Seat}
 use Rattle.pb_local.specs.Tree.{Codes, size_all, Program}
 use Rattle.pb_local.specs.Tree as L
 use Rattle.pb_local.specs.Computed.{all_fit, numbers_of, is_for_some}
-use Rattle.pb_local.specs.Machine.{Todo, next, Rank, Move, silent, does, pushed, quietly, move, move_from, next_in, quiet_in, act_in, machine}
+use Rattle.pb_local.specs.Machine.{Todo, next, Rank, silent, does, pushed, move, move_from, next_in, quiet_in, act_in, machine}
 use Rattle.pb_local.proofs.Moves.{move_is}
 use Rattle.pb_shape.specs.Ways as W
 use Rattle.pb_shape.specs.Ways.{Way, renewed}

@@ -1,32 +1,32 @@
 -- A foreach, in the text: the For of the fixed ranks, and the segments of the others.
-use Rattle.std.proofs.Common.{◌≡◌, ◌≤◌, ◌<◌, ℕ, zero, suc, ◌+◌, ◌*◌, ℤ, pos, negsuc, ◌+ℤ◌, ◌-ℤ◌, ◌≤ℤ◌, ◌<ℤ◌, Bool, true, false, ◌&&◌, not, nat_eq, int_le, if◌then◌else◌, List, [], ◌∷◌, ◌++◌, refl, sym, ◌∙◌, ap, subst, arith, append_assoc}
+use Rattle.std.proofs.Common.{◌≡◌, ◌≤◌, ℕ, zero, suc, ◌+◌, ◌*◌, ℤ, pos, negsuc, ◌+ℤ◌, ◌-ℤ◌, ◌≤ℤ◌, ◌<ℤ◌, Bool, true, false, ◌&&◌, nat_eq, int_le, List, [], ◌∷◌, ◌++◌, refl, sym, ◌∙◌, ap, subst, arith, append_assoc}
 use Rattle.std.proofs.lemmas.Int.{ints}
 use Rattle.pb_affine.specs.declared.lin.Base.{Base}
 use Rattle.pb_affine.specs.declared.lin.Base.TheVariants.{Fixed, Param, Var}
 use Rattle.pb_affine.specs.declared.lin.Lin.{Lin}
-use Rattle.pb_affine.specs.Values.{value, base_value, range, count_from, count_of, IsSmall}
+use Rattle.pb_affine.specs.Values.{value, base_value, count_from, count_of, IsSmall}
 use Rattle.pb_world.specs.Actions.{Kind, Runs, Sends, Receives}
 use Rattle.pb_core.specs.declared.protocol.CoreRole.{CoreRole}
 use Rattle.pb_core.specs.Tree as T
 use Rattle.pb_core.specs.Tree.{Bounds, StmtTree, BlockTree}
 use Rattle.pb_core.specs.Plain.{Protocol}
 use Rattle.pb_core.specs.FlatOf.{rank_of}
-use Rattle.pb_core.specs.Sound.{is_over_n, is_small, is_bound}
+use Rattle.pb_core.specs.Sound.{is_over_n}
 use Rattle.pb_local.specs.Ranks.{Seat}
 use Rattle.pb_local.specs.Tree.{Code, Codes, nothing, more, size_all, Program}
 use Rattle.pb_local.specs.Tree as L
 use Rattle.pb_local.specs.Computed.{fits, is_for_some}
-use Rattle.pb_local.specs.Machine.{Todo, next, round_of, silent, pushed, turn, move_from, machine}
+use Rattle.pb_local.specs.Machine.{Todo, round_of, pushed, turn, move_from, machine}
 use Rattle.pb_shape.specs.Shape.{Here, Who, One, peer_of, scope_of, is_at_offset, fixed_in, put, segment_codes, offsets, in_segment, OfRole, Segments, in_for, but_fixed, Rounds, rounds, nowhere, ForEach}
 use Rattle.pb_shape.specs.Shape as S
 use Rattle.pb_shape.specs.Ways as Y
 use Rattle.pb_shape.specs.Ways.{Way, renewed}
 use Rattle.pb_shape.specs.Straight.{IsVariable, AreItems, IsEach, IsOpenTo, at_todo}
-use Rattle.pb_straight.proofs.Order.{gathered, gathered_nothing, only_if}
-use Rattle.pb_straight.proofs.Segment.{IsSome, if_so, part, parts, my_parts, segment_does, role_does, roles_do, iterations, segments_are, fixed_acts}
+use Rattle.pb_straight.proofs.Order.{gathered, gathered_nothing}
+use Rattle.pb_straight.proofs.Segment.{IsSome, if_so, parts, my_parts, segment_does, roles_do, iterations, segments_are, fixed_acts}
 use Rattle.pb_straight.proofs.Along.{joined, silently, Goes, goes_joined, stays, costs, when_held, when_not, owns}
 use Rattle.pb_straight.proofs.Fits.{IsSize, fits_is, value_fits, guards_fit}
-use Rattle.pb_straight.proofs.Peers.{and_first, and_rest, bound_near, bound_small}
+use Rattle.pb_straight.proofs.Peers.{and_first, bound_near, bound_small}
 use Rattle.pb_straight.proofs.Passing.{Setting, Comes, Made, never, Done, Room, room_left, nothing_done, one_yes, one_no, one_made, IsAct, send_act, recv_act, run_act, items_done}
 
 -- without the variable a lin has one value
@@ -118,8 +118,8 @@ module _ (l : Program) (n : ℤ) (bound : ℕ) (me : Seat) (size : IsSize n) (hi
         near = next'.near;
         left = next'.left;
         spent = fewer m round.left next'.left left next'.spent;
-        way = silently l n bound me (at_todo me i todo) (at_todo me v (pushed number body (round_of high number body rest)))
-            (e ∙ rw (variable_fits v near, value_fits l n me v size near high small, within) refl) (joined round.way next'.way);
+        way = silently l n bound me (at_todo me i todo) (at_todo me v (pushed number body (round_of high number body rest))) {last = at_todo me next'.last rest} {left = next'.left}
+            (e ∙ rw (variable_fits v near, value_fits l n me v size near high small, within) refl) (joined {last = at_todo me next'.last rest} {left = next'.left} round.way next'.way);
       }
 
 module _ (p : Protocol) (l : Program) (n : ℤ) (me : Seat) (g : Setting p l n me) (bound : ℕ) where
@@ -282,9 +282,12 @@ module _ (p : Protocol) (l : Program) (n : ℤ) (me : Seat) (g : Setting p l n m
             let e = items_done p l n me g bound true v k (suc number) (round_of b.high (suc number) body rest) its (within v near c d) (good.each v c d)
             (record { scope = made.scope; made = made.made.0.2 }) (record { now = room; ever = omega (arith, room') }) in
             costs l n bound me (size_all body) (omega (arith, e.small)) e.go
-    rounds_done first rest k number i (nowhere nobody) near fixed made room room' =
-        (i, near, subst (λ s. Goes l n bound me k i i rest rest 0 s)
-        (sym (gathered_nothing (count_of (hi +ℤ pos 1 -ℤ lo)) lo (λ v. my_parts p.roles n me v items) (λ v x y. none v x (last_of lo hi v x y)))) (stays l n bound me k i rest))
+    rounds_done first rest k number i (nowhere nobody) near fixed made room room' = (
+      i,
+      near,
+      subst (λ s. Goes l n bound me k i i rest rest 0 s)
+          (sym (gathered_nothing (count_of (hi +ℤ pos 1 -ℤ lo)) lo (λ v. my_parts p.roles n me v items) (λ v x y. none v x (last_of lo hi v x y)))) (stays l n bound me k i rest),
+    )
       where
         last_of : (low high v : ℤ) → low ≤ℤ v → v <ℤ (low +ℤ pos (count_of (high +ℤ pos 1 -ℤ low))) → v ≤ℤ high
         last_of low high v x y = grind (arith, ints)

@@ -1,8 +1,8 @@
 -- Where the rules on ends are kept, each end is a rank, and no message goes from a rank to itself.
-use Rattle.std.proofs.Common.{◌≡◌, ℕ, zero, suc, ◌+◌, ◌*◌, cond, ℤ, pos, ◌+ℤ◌, ◌-ℤ◌, ◌≤ℤ◌, ◌<ℤ◌, Bool, true, false, ◌&&◌, not, nat_lt, nat_le, length, if◌then◌else◌, filter, List, [], ◌∷◌, ◌++◌, map, ◌⊎◌, inl, inr, refl, sym, ◌∙◌, ap, subst, arith}
+use Rattle.std.proofs.Common.{◌≡◌, ℕ, zero, suc, ◌+◌, ◌*◌, cond, ℤ, pos, ◌+ℤ◌, ◌-ℤ◌, ◌≤ℤ◌, ◌<ℤ◌, Bool, true, false, ◌&&◌, not, nat_lt, nat_le, length, if◌then◌else◌, List, [], ◌∷◌, ◌++◌, map, ◌⊎◌, inl, inr, refl, sym, ◌∙◌, subst, arith}
 use Rattle.std.proofs.lemmas.Int.{ints}
 use Rattle.std.proofs.lemmas.Bool.{eq-eqb}
-use Rattle.pb_affine.specs.Values.{value, range, count_from, count_of}
+use Rattle.pb_affine.specs.Values.{value, count_from, count_of}
 use Rattle.pb_core.specs.declared.tree.CoreEnd.{CoreEnd}
 use Rattle.pb_core.specs.Ranks.{Seat, seat_eq, seats}
 use Rattle.pb_core.specs.Tree as T
@@ -11,11 +11,10 @@ use Rattle.pb_core.specs.Plain.{Protocol}
 use Rattle.pb_core.specs.Flat.{Asked, Block, stop, Branches}
 use Rattle.pb_core.specs.FlatOf.{seat, asked, from_one, from_two, for_each, flat_stmt, flat_block, flat_branches}
 use Rattle.pb_core.specs.Rules.{is_seat, each_origin, each_origin_among, strays, loners, somebody, flat_at, broken_6, broken_7, broken_8, broken_9, broken_10, broken_11, broken_12}
-use Rattle.pb_core.specs.Sound.{is_end, is_bound, is_item, is_stmt, is_block, are_branches, has_branch, rows_of, are_roles, is_range, is_sound}
+use Rattle.pb_core.specs.Sound.{is_end, is_bound, is_item, is_stmt, is_block, are_branches, has_branch, rows_of, are_roles, is_range}
 use Rattle.pb_flat.specs.GoesOn.{is_again}
-use Rattle.pb_flat.specs.Seated.{rank}
 use Rattle.pb_flat.proofs.Seats.{same_number}
-use Rattle.pb_shape.specs.Straight.{IsEnd, IsItem, AreItems, IsEach, IsFine, AreFine, BranchesAreFine}
+use Rattle.pb_shape.specs.Straight.{IsEnd, IsItem, AreItems, IsFine, AreFine, BranchesAreFine}
 use Rattle.pb_straight.specs.Ends.{EndsAreFine}
 use Rattle.pb_straight.proofs.Peers.{and_first, and_rest}
 use Rattle.pb_straight.proofs.Passing.{never}
@@ -33,7 +32,6 @@ last_none (x ∷ xs) ys h = cc
 map_none : {A B : Type 0} (f : A → B) (xs : List A) → map f xs ≡ [] → xs ≡ []
 map_none f [] h = refl
 map_none f (x ∷ xs) h = cc
-
 
 module _ (p : Protocol) (n : ℤ) where
   abbrev ranks : List Seat
@@ -92,8 +90,7 @@ module _ (p : Protocol) (n : ℤ) where
       let stray = first_none (strays ranks a) (each_origin (strays ranks) rest) clean.seated in
       let lone = first_none (loners a) (each_origin loners rest) clean.apart in
       let one = seated_first x (y ∷ []) m stray in
-      let two = seated_first y [] m (seated_rest x (y ∷ []) m stray) in
-      (
+      let two = seated_first y [] m (seated_rest x (y ∷ []) m stray) in (
         (
           record { sound = and_first (is_end (rows_of p) varies f) (is_end (rows_of p) varies t) ends; is = one },
           record { sound = and_rest (is_end (rows_of p) varies f) (is_end (rows_of p) varies t) ends; is = two },
@@ -150,16 +147,14 @@ module _ (p : Protocol) (n : ℤ) where
         let low = value b.low n (pos 0) in let high = value b.high n (pos 0) in
         let bl = is_block (rows_of p) true ids items in
         let others = and_rest (is_bound b.low) (is_bound b.high && bl) sound in
-        let h = rounds_fine ids opens (count_of (high +ℤ pos 1 -ℤ low)) low items rest (and_rest (is_bound b.high) bl others) clean in
-        (
+        let h = rounds_fine ids opens (count_of (high +ℤ pos 1 -ℤ low)) low items rest (and_rest (is_bound b.high) bl others) clean in (
           record { low = and_first (is_bound b.low) (is_bound b.high && bl) sound; high = and_first (is_bound b.high) bl others; each = λ i x y. h.0 i x (counted low high i x y) },
           λ e. h.1,
         )
     stmt_fine ids opens m (T.loop id k body) rest sound clean =
-        let inner = flat_block p.roles n (id ∷ opens) (pos 0) body stop in
-        (
+        let inner = flat_block p.roles n (id ∷ opens) (pos 0) body stop in (
           block_fine (id ∷ ids) (id ∷ opens) body (and_rest (nat_lt (length ids) 64) (is_block (rows_of p) false (id ∷ ids) body) sound)
-          (record { seated = first_none (each_origin (strays ranks) inner) (each_origin (strays ranks) rest) clean.seated; apart = first_none (each_origin loners inner) (each_origin loners rest) clean.apart }),
+              (record { seated = first_none (each_origin (strays ranks) inner) (each_origin (strays ranks) rest) clean.seated; apart = first_none (each_origin loners inner) (each_origin loners rest) clean.apart }),
           λ e. record { seated = last_none (each_origin (strays ranks) inner) (each_origin (strays ranks) rest) clean.seated; apart = last_none (each_origin loners inner) (each_origin loners rest) clean.apart },
         )
     stmt_fine ids opens m (T.again id) rest sound clean = (tt, λ e. absurd (never e))
@@ -170,15 +165,14 @@ module _ (p : Protocol) (n : ℤ) where
         let seated_in = each_origin_among (strays ranks) fs in
         let apart_in = each_origin_among loners fs in
         let a = from_one m at n (pos 0) in
-        let inner = last_none (strays ranks a) (seated_in ++ each_origin (strays ranks) rest) clean.seated in
-        (
+        let inner = last_none (strays ranks a) (seated_in ++ each_origin (strays ranks) rest) clean.seated in (
           (
             record {
               sound = and_first (is_end (rows_of p) false at) among ends;
               is = seated_first (asked at (2 * m.number) n (pos 0)) [] m (first_none (strays ranks a) (seated_in ++ each_origin (strays ranks) rest) clean.seated);
             },
             branches_fine ids opens bs (and_rest (has_branch bs) (are_branches (rows_of p) ids bs) (and_rest (is_end (rows_of p) false at) among ends))
-            (record { seated = first_none seated_in (each_origin (strays ranks) rest) inner; apart = first_none apart_in (each_origin loners rest) clean.apart }),
+                (record { seated = first_none seated_in (each_origin (strays ranks) rest) inner; apart = first_none apart_in (each_origin loners rest) clean.apart }),
           ),
           λ e. record { seated = last_none seated_in (each_origin (strays ranks) rest) inner; apart = last_none apart_in (each_origin loners rest) clean.apart },
         )
@@ -203,12 +197,11 @@ module _ (p : Protocol) (n : ℤ) where
         let one = flat_block p.roles n opens (pos 0) b stop in
         let others = flat_branches p.roles n opens (pos 0) bs in
         let x = is_block (rows_of p) false ids b in
-        let y = are_branches (rows_of p) ids bs in
-        (
+        let y = are_branches (rows_of p) ids bs in (
           block_fine ids opens b (and_first x y sound)
-          (record { seated = first_none (each_origin (strays ranks) one) (each_origin_among (strays ranks) others) clean.seated; apart = first_none (each_origin loners one) (each_origin_among loners others) clean.apart }),
+              (record { seated = first_none (each_origin (strays ranks) one) (each_origin_among (strays ranks) others) clean.seated; apart = first_none (each_origin loners one) (each_origin_among loners others) clean.apart }),
           branches_fine ids opens bs (and_rest x y sound)
-          (record { seated = last_none (each_origin (strays ranks) one) (each_origin_among (strays ranks) others) clean.seated; apart = last_none (each_origin loners one) (each_origin_among loners others) clean.apart }),
+              (record { seated = last_none (each_origin (strays ranks) one) (each_origin_among (strays ranks) others) clean.seated; apart = last_none (each_origin loners one) (each_origin_among loners others) clean.apart }),
         )
 
 pub ends_are_fine : EndsAreFine

@@ -1,6 +1,6 @@
 -- The code of messages and computes does a rank's part of them.
-use Rattle.std.proofs.Common.{◌≡◌, ◌≤◌, ℕ, zero, suc, ◌+◌, ◌*◌, ℤ, Bool, true, false, List, [], ◌∷◌, ◌++◌, refl, sym, ◌∙◌, ap, arith}
-use Rattle.pb_affine.specs.Values.{value, count_of}
+use Rattle.std.proofs.Common.{◌≡◌, ◌≤◌, ℕ, zero, suc, ◌+◌, ℤ, Bool, true, false, List, [], ◌∷◌, ◌++◌, refl, sym, ◌∙◌, ap, arith}
+use Rattle.pb_affine.specs.Values.{value}
 use Rattle.pb_world.specs.Actions.{Kind, Runs, Sends, Receives}
 use Rattle.pb_core.specs.declared.tree.CoreEnd.{CoreEnd}
 use Rattle.pb_core.specs.Tree.{StmtTree, BlockTree}
@@ -14,12 +14,12 @@ use Rattle.pb_local.specs.Tree.{Code, Codes, nothing, more, size_all, Program}
 use Rattle.pb_local.specs.Tree as L
 use Rattle.pb_local.specs.WellMade as W
 use Rattle.pb_local.specs.WellMade.{AreMade}
-use Rattle.pb_local.specs.Machine.{Todo, next, does, pushed, move_from}
+use Rattle.pb_local.specs.Machine.{Todo, next, does, pushed}
 use Rattle.pb_shape.specs.Shape.{Here, Who, One, there, gone, peer_of, alone, Item, message, Items, scope_of}
 use Rattle.pb_shape.specs.Shape as S
 use Rattle.pb_shape.specs.Ways.{renewed}
-use Rattle.pb_shape.specs.Straight.{IsVariable, IsEnd, IsItem, AreItems, at_todo}
-use Rattle.pb_straight.proofs.Segment.{if_so, part, parts, is_mine, my_parts}
+use Rattle.pb_shape.specs.Straight.{IsVariable, IsItem, AreItems, at_todo}
+use Rattle.pb_straight.proofs.Segment.{if_so, part, is_mine, my_parts}
 use Rattle.pb_straight.proofs.Along.{Goes, goes_joined, still, stays, does_one, when_held, when_not}
 use Rattle.pb_straight.proofs.Fits.{IsSize, guards_fit}
 use Rattle.pb_straight.proofs.Peers.{IsNumbered}

@@ -1,5 +1,5 @@
 -- The number of a peer stays an int32 on the way, and is the number of a rank.
-use Rattle.std.proofs.Common.{◌≡◌, ◌≢◌, ◌≤◌, ◌<◌, ℕ, zero, suc, ◌+◌, ◌*◌, ℤ, pos, negsuc, ◌+ℤ◌, ◌-ℤ◌, ◌*ℤ◌, ◌≤ℤ◌, Bool, true, false, ◌&&◌, ◌||◌, nat_eq, nat_lt, nat_le, ◌==◌, int_le, int_lt, ◌⊎◌, inl, inr, Option, Some, None, All, List, [], ◌∷◌, ◌++◌, map, length, get_or, refl, sym, ◌∙◌, ap, ap₂, subst, arith}
+use Rattle.std.proofs.Common.{◌≡◌, ◌≤◌, ◌<◌, ℕ, zero, suc, ◌+◌, ◌*◌, ℤ, pos, negsuc, ◌+ℤ◌, ◌-ℤ◌, ◌*ℤ◌, ◌≤ℤ◌, Bool, true, false, ◌&&◌, ◌||◌, nat_eq, nat_le, ◌==◌, int_le, int_lt, ◌⊎◌, inl, inr, Option, Some, None, All, List, [], ◌∷◌, map, length, get_or, refl, sym, ◌∙◌, ap, ap₂, subst, arith}
 use Rattle.std.specs.Ordering.{int_eq}
 use Rattle.std.proofs.lemmas.Int.{ints}
 use Rattle.std.proofs.lemmas.Bool.Decides.{nat_tests}
@@ -14,10 +14,10 @@ use Rattle.pb_affine.specs.Values.{value, base_value, range, count_of, IsSmall}
 use Rattle.pb_core.specs.declared.protocol.CoreRole.{CoreRole}
 use Rattle.pb_core.specs.Ranks as C
 use Rattle.pb_core.specs.Ranks.{Formula, place_with, size_with, seats, seats_from, total}
-use Rattle.pb_core.specs.Laws.{IsInRole, IsInhabited, AreInhabited, Numbered, Totalled}
+use Rattle.pb_core.specs.Laws.{IsInRole, AreInhabited, Numbered, Totalled}
 use Rattle.pb_core.specs.Plain.{Protocol}
 use Rattle.pb_core.specs.Rules.{is_seat}
-use Rattle.pb_core.specs.Sound.{is_small, is_over_n, is_bound, are_roles, is_range, is_block, rows_of, is_sound}
+use Rattle.pb_core.specs.Sound.{is_small, is_over_n, is_bound, are_roles, is_range, is_sound}
 use Rattle.pb_core.specs.Verdict.{IsIn}
 use Rattle.pb_core.specs.Verdict as V
 use Rattle.pb_flat.specs.Seated.{rank, is_rank}
@@ -26,7 +26,6 @@ use Rattle.pb_local.specs.declared.stmt.Peer.{Peer}
 use Rattle.pb_local.specs.Ranks as L
 use Rattle.pb_local.specs.Ranks.{Seat, Sum, no_ranks}
 use Rattle.pb_local.specs.Computed.{fits, all_fit, place_at, peer_number, peer_numbers, is_peer}
-use Rattle.pb_local.specs.Computed as M
 use Rattle.pb_local.specs.Tree.{Program}
 use Rattle.pb_local.specs.WellMade as W
 use Rattle.pb_local.specs.WellMade.{IsRange, IsInRange, IsRole, IsWellMade}

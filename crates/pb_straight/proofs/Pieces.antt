@@ -8,14 +8,13 @@ use Rattle.pb_world.specs.Actions.{Collective, Kind, Runs, Sends, Receives, Ente
 use Rattle.pb_world.specs.Actions as A
 use Rattle.pb_core.specs.declared.tree.CoreEnd.{CoreEnd}
 use Rattle.pb_core.specs.Ranks.{seats, number_in}
-use Rattle.pb_core.specs.Tree as T
 use Rattle.pb_core.specs.Tree.{Mark, StmtTree}
 use Rattle.pb_core.specs.Plain.{Protocol}
 use Rattle.pb_core.specs.Flat.{stop}
 use Rattle.pb_core.specs.FlatOf.{rank_of, flat_stmt}
 use Rattle.pb_core.specs.FlatOf as F
 use Rattle.pb_core.specs.Laws.{Numbered, Totalled}
-use Rattle.pb_core.specs.Sound.{is_end, is_over_n, is_small, rows_of}
+use Rattle.pb_core.specs.Sound.{is_over_n, is_small}
 use Rattle.pb_flat.specs.Seated.{rank, is_rank}
 use Rattle.pb_local.specs.Ranks.{Seat}
 use Rattle.pb_local.specs.Tree.{Code, Codes, more, size, size_all, Program}
@@ -26,7 +25,7 @@ use Rattle.pb_local.specs.Family.{most_silent}
 use Rattle.pb_shape.specs.Shape.{Here, Item, message, Piece, peer_of, scope_of}
 use Rattle.pb_shape.specs.Shape as S
 use Rattle.pb_shape.specs.Ways.{mine}
-use Rattle.pb_shape.specs.Straight.{IsSeated, IsVariable, IsEnd, IsItem, IsFine, Passes, IsOpenTo, StraightPasses, at_todo}
+use Rattle.pb_shape.specs.Straight.{IsSeated, IsVariable, IsEnd, IsItem, IsFine, IsOpenTo, StraightPasses, at_todo}
 use Rattle.pb_straight.proofs.Segment.{if_so, part, is_mine, iterations, mine_item, mine_each}
 use Rattle.pb_straight.proofs.Along.{Goes, goes_joined, does_one}
 use Rattle.pb_straight.proofs.Peers.{world, is_in_role, peer_is, and_first, and_rest, IsNumbered}
@@ -127,7 +126,7 @@ module _ (p : Protocol) (l : Program) (n : ℤ) (me : Seat) (g : Setting p l n m
         (λ behind. joins_go k number i (L.allreduce label op) c (pushed behind tail rest)
         (ap (λ o. does (Enters (joint o)) (at_todo me i (leave (joint o) (pushed behind tail rest)))) (same_operation op)))
 
-setting : Numbered → Totalled → (p : Protocol) (l : Program) (n : ℤ) (r : ℕ) (me : Seat) → IsSeated p l n r me → Setting p l n me
+pub setting : Numbered → Totalled → (p : Protocol) (l : Program) (n : ℤ) (r : ℕ) (me : Seat) → IsSeated p l n r me → Setting p l n me
 setting numbered totalled p l n r me h = record {
   within = h.within;
   is = h.is;

@@ -1,5 +1,5 @@
 -- A foreach, seen by one rank: which of its iterations have something for it.
-use Rattle.std.proofs.Common.{◌≡◌, ◌<◌, ℕ, zero, suc, ◌+◌, ◌==◌, cond, ℤ, pos, ◌+ℤ◌, ◌-ℤ◌, ◌≤ℤ◌, ◌<ℤ◌, Bool, true, false, ◌&&◌, ◌||◌, not, nat_eq, if◌then◌else◌, ◌⊎◌, inl, inr, List, [], ◌∷◌, ◌++◌, refl, sym, ◌∙◌, ap, ap₂, arith, append_assoc, append-nil, int_le, int_lt}
+use Rattle.std.proofs.Common.{◌≡◌, ◌<◌, ℕ, zero, suc, ◌+◌, ◌==◌, cond, ℤ, pos, ◌+ℤ◌, ◌-ℤ◌, ◌≤ℤ◌, ◌<ℤ◌, Bool, true, false, ◌&&◌, ◌||◌, not, nat_eq, ◌⊎◌, inl, inr, List, [], ◌∷◌, ◌++◌, refl, sym, ◌∙◌, ap, ap₂, arith, append_assoc, append-nil, int_le, int_lt}
 use Rattle.std.specs.Ordering.{int_eq}
 use Rattle.std.proofs.lemmas.Bool.{eqb-true}
 use Rattle.std.proofs.lemmas.Int.{ints}
@@ -21,8 +21,8 @@ use Rattle.pb_flat.proofs.Seats.{end_is_at}
 use Rattle.pb_local.specs.Ranks.{Seat}
 use Rattle.pb_shape.specs.Shape.{is_fixed, is_fixed_at, fixed_in, is_at_offset, put_in, put_end, offsets, in_segment}
 use Rattle.pb_shape.specs.Ways.{mine}
-use Rattle.pb_shape.specs.Straight.{IsEnd, IsItem, AreItems}
-use Rattle.pb_straight.proofs.Order.{gathered, gathered_nothing, only_if, is_within, IsBelow, Descends, is_in, Only, in_order}
+use Rattle.pb_shape.specs.Straight.{IsItem, AreItems}
+use Rattle.pb_straight.proofs.Order.{gathered, only_if, is_within, IsBelow, Descends, is_in, Only, in_order}
 
 -- ---- offsets descend, each once
 
@@ -177,18 +177,6 @@ module _ (roles : List CoreRole) (n : ℤ) where
         | inr h ↦ inr h
         | inl h ↦ elim (nothing_or_in i k c rest) [ inl e ↦ inl (rw (h.0, e) refl) | inr h' ↦ inr (h.1 h') ]
       ]
-
-  part_same : (who is : CoreEnd → Bool) (i : ℤ) (s : StmtTree) → ((e : CoreEnd) → who e ≡ is e) → part who i s ≡ part is i s
-  part_same who is i (T.message l f t) h = rw (h f, h t) refl
-  part_same who is i (T.run k e) h = rw (h e) refl
-  part_same who is i (T.foreach b m items) h = refl
-  part_same who is i (T.loop id m body) h = refl
-  part_same who is i (T.again id) h = refl
-  part_same who is i (T.choice k at bs) h = refl
-  part_same who is i T.barrier h = refl
-  part_same who is i (T.broadcast l root) h = refl
-  part_same who is i (T.reduce l op root) h = refl
-  part_same who is i (T.allreduce l op) h = refl
 
   module _ (me : Seat) where
     -- the rank is at the end
