@@ -7,3 +7,4 @@ pub mod Passing
 pub mod Each
 pub mod Pieces
 pub mod Ends
+mod Worked
