@@ -14,7 +14,8 @@ use Rattle.pb_core.specs.Verdict.{IsIn}
 use Rattle.pb_flat.specs.Seated.{rank, is_rank}
 use Rattle.pb_local.specs.Ranks.{Seat}
 use Rattle.pb_local.specs.Tree.{Codes, size_all, Program}
-use Rattle.pb_local.specs.WellMade.{IsWellMade}
+use Rattle.pb_local.specs.WellMade as W
+use Rattle.pb_local.specs.WellMade.{IsWellMade, AreMade}
 use Rattle.pb_local.specs.Machine.{Todo, pushed, Rank, machine}
 use Rattle.pb_local.specs.Family.{most_silent}
 use Rattle.pb_shape.specs.Shape.{Here, Piece, scope_of, HasShape}
@@ -107,6 +108,6 @@ pub record IsOpenTo (h : Here) (n : ℤ) (me : Seat) : Type 0 where
 abbrev pub StraightPasses : Type 0
 StraightPasses =
     (p : Protocol) (l : Program) (n : ℤ) (r : ℕ) (me : Seat) → IsSeated p l n r me → (h : Here) → IsOpenTo h n me →
-    (opens : List ℕ) (m : Mark) (s : StmtTree) (tail codes : Codes) → Piece (scope_of p) h tail s codes → IsFine p n s →
+    (opens : List ℕ) (m : Mark) (s : StmtTree) (tail codes : Codes) → Piece (scope_of p) h tail s codes → IsFine p n s → (at : W.Scope) → AreMade l at codes →
     (rest : Todo) (k number : ℕ) (i : ℤ) → IsVariable i → size_all codes ≤ k → 2 * size_all codes ≤ most_silent l →
     Passes l n me k number i codes tail rest (mine r (flat_stmt p.roles n opens (pos 0) m s stop))
