@@ -1,6 +1,7 @@
 use Rattle.std.proofs.Common.{refl}
 use Rattle.pb_ranks.proofs.Stacks.{checked}
 use Rattle.pb_ranks.proofs.Fronts.{later}
+use Rattle.pb_ranks.proofs.Simulated.{simulated}
 use Rattle.pb_ranks.proofs.scratch.Goals as goal
 
 pub returns : goal.returns
