@@ -1,3 +1,5 @@
 pub mod Stacks
 pub mod Fronts
+pub mod Chains
+pub mod Pieces
 pub mod Simulated

@@ -2,6 +2,8 @@ use Rattle.std.proofs.Common.{refl}
 use Rattle.pb_ranks.proofs.Stacks.{checked}
 use Rattle.pb_ranks.proofs.Fronts.{later}
 use Rattle.pb_ranks.proofs.Simulated.{simulated}
+use Rattle.pb_ranks.proofs.Chains.{piece_code}
+use Rattle.pb_ranks.proofs.Pieces.{piece_leaves}
 use Rattle.pb_ranks.proofs.scratch.Goals as goal
 
 pub returns : goal.returns
