@@ -4,4 +4,5 @@ pub mod Chains
 pub mod Pieces
 pub mod Steps
 pub mod Blocks
+pub mod Branches
 pub mod Simulated
