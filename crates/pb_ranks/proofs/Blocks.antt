@@ -44,7 +44,7 @@ pub record Over (p : Protocol) (l : Program) (n : ℤ) (me : Seat) (a : Around) 
 module _ (p : Protocol) (l : Program) (n : ℤ) (me : Seat) (g : Given p l n me) where
   -- ---- what is kept
 
-  made_later : (a : Around) (codes tail : Codes) (m : IsMadeIn p l n me a codes) → Left l m.at codes tail → IsMadeIn p l n me a tail
+  pub made_later : (a : Around) (codes tail : Codes) (m : IsMadeIn p l n me a codes) → Left l m.at codes tail → IsMadeIn p l n me a tail
   made_later a codes tail m h = record { at = h.at; made = h.made; below = λ k lt. let x = m.below k lt in let y = h.later in omega arith }
 
   pub sits_piece : {h : Here} {a : Around} {m : Mark} {s : StmtTree} {rest : BlockTree} {tail codes : Codes} → Piece (scope_of p) h tail s codes → (x : Sits p l n me h a (T.more m s rest) codes) → Left l x.made.at codes tail → Sits p l n me h a rest tail

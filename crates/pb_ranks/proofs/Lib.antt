@@ -5,4 +5,6 @@ pub mod Pieces
 pub mod Steps
 pub mod Blocks
 pub mod Branches
+pub mod Tells
+pub mod Choices
 pub mod Simulated

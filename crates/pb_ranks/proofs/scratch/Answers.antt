@@ -7,6 +7,8 @@ use Rattle.pb_ranks.proofs.Pieces.{piece_leaves}
 use Rattle.pb_ranks.proofs.Steps.{one_skips}
 use Rattle.pb_ranks.proofs.Blocks.{again_front}
 use Rattle.pb_ranks.proofs.Branches.{tree_at}
+use Rattle.pb_ranks.proofs.Tells.{tested_is}
+use Rattle.pb_ranks.proofs.Choices.{IsThere}
 use Rattle.pb_ranks.proofs.scratch.Goals as goal
 
 pub returns : goal.returns
