@@ -7,4 +7,5 @@ pub mod Blocks
 pub mod Branches
 pub mod Tells
 pub mod Choices
+pub mod Walks
 pub mod Simulated

@@ -9,6 +9,7 @@ use Rattle.pb_ranks.proofs.Blocks.{again_front}
 use Rattle.pb_ranks.proofs.Branches.{tree_at}
 use Rattle.pb_ranks.proofs.Tells.{tested_is}
 use Rattle.pb_ranks.proofs.Choices.{IsThere}
+use Rattle.pb_ranks.proofs.Walks.{simulates}
 use Rattle.pb_ranks.proofs.scratch.Goals as goal
 
 pub returns : goal.returns
