@@ -2,3 +2,5 @@ pub mod Shape
 pub mod Ways
 pub mod Straight
 pub mod Theorem
+pub mod Sizes
+pub mod Tabled

@@ -12,10 +12,11 @@ use Rattle.pb_core.specs.FlatOf.{flat_stmt}
 use Rattle.pb_core.specs.Sound.{is_sound, is_bound, is_end, rows_of}
 use Rattle.pb_core.specs.Verdict.{IsIn}
 use Rattle.pb_flat.specs.Seated.{rank, is_rank}
+use Rattle.pb_flat.specs.GoesOn.{is_again}
 use Rattle.pb_local.specs.Ranks.{Seat}
 use Rattle.pb_local.specs.Tree.{Codes, size_all, Program}
 use Rattle.pb_local.specs.WellMade as W
-use Rattle.pb_local.specs.WellMade.{IsWellMade, AreMade}
+use Rattle.pb_local.specs.WellMade.{AreMade, IsWellMade}
 use Rattle.pb_local.specs.Machine.{Todo, pushed, Rank, machine}
 use Rattle.pb_local.specs.Family.{most_silent}
 use Rattle.pb_shape.specs.Shape.{Here, Piece, scope_of, HasShape}
@@ -78,9 +79,10 @@ module _ (p : Protocol) (n : ℤ) where
     IsFine (T.reduce l op root) = IsEnd false (pos 0) root
     IsFine (T.allreduce l op) = Unit {0}
 
+    -- what stands behind a continue isn't done
     pub AreFine : BlockTree → Type 0
     AreFine T.nothing = Unit {0}
-    AreFine (T.more m s rest) = IsFine s × AreFine rest
+    AreFine (T.more m s rest) = IsFine s × (is_again s ≡ false → AreFine rest)
 
     pub BranchesAreFine : BranchTrees → Type 0
     BranchesAreFine T.no_branch = Unit {0}
