@@ -10,6 +10,7 @@ use Rattle.pb_core.specs.Plain.{Protocol}
 use Rattle.pb_core.specs.Flat.{Block, stop, nth, takes_part}
 use Rattle.pb_core.specs.FlatOf.{flat_stmt, flat_block, between}
 use Rattle.pb_core.specs.Run.{Env, at_rank}
+use Rattle.pb_flat.specs.GoesOn.{is_again}
 use Rattle.pb_endpoint.specs.Core.{has_simple_items, have_simple_items}
 use Rattle.pb_endpoint.specs.Endpoint.{Code, Part, code, loop, again, return_to, return_over}
 use Rattle.pb_endpoint.proofs.Kept.{Keeps}
@@ -47,11 +48,20 @@ module _ (p : Protocol) (l : Program) (n : ℤ) (me : Seat) (g : Given p l n me)
   pub made_later : (a : Around) (codes tail : Codes) (m : IsMadeIn p l n me a codes) → Left l m.at codes tail → IsMadeIn p l n me a tail
   made_later a codes tail m h = record { at = h.at; made = h.made; below = λ k lt. let x = m.below k lt in let y = h.later in omega arith }
 
+  piece_goes : {h : Here} {s : StmtTree} {tail codes : Codes} → Piece (scope_of p) h tail s codes → is_again s ≡ false
+  piece_goes (S.item (S.message a b)) = refl
+  piece_goes (S.item (S.run a)) = refl
+  piece_goes (S.foreach w) = refl
+  piece_goes S.barrier = refl
+  piece_goes S.broadcast = refl
+  piece_goes S.reduce = refl
+  piece_goes S.allreduce = refl
+
   pub sits_piece : {h : Here} {a : Around} {m : Mark} {s : StmtTree} {rest : BlockTree} {tail codes : Codes} → Piece (scope_of p) h tail s codes → (x : Sits p l n me h a (T.more m s rest) codes) → Left l x.made.at codes tail → Sits p l n me h a rest tail
   sits_piece {a = a} {m = m} {s = s} {rest = rest} {tail = tail} {codes = codes} piece x left =
       let both = and_both (has_simple_items s) (have_simple_items rest) x.simple in
       record {
-        fine = x.fine.1; here = x.here; simple = both.1; around = x.around;
+        fine = x.fine.1 (piece_goes piece); here = x.here; simple = both.1; around = x.around;
         keeps = piece_keeps p.roles n (me_rank p l n me) (total p.roles n) x.around.env a.opens m s piece both.0 (flat p l n me a rest) x.keeps;
         made = made_later a codes tail x.made left;
       }
@@ -103,7 +113,7 @@ module _ (p : Protocol) (l : Program) (n : ℤ) (me : Seat) (g : Given p l n me)
 
   pub sits_behind_loop : {h : Here} {a : Around} {m mark : Mark} {id : ℕ} {whole rest : BlockTree} {tail codes : Codes} → (z : Sits p l n me h a (T.more m (T.loop id mark whole) rest) codes) → Left l z.made.at codes tail → Sits p l n me h a rest tail
   sits_behind_loop {a = a} {whole = whole} {rest = rest} {tail = tail} {codes = codes} z left = record {
-    fine = z.fine.1; here = z.here; simple = (and_both (have_simple_items whole) (have_simple_items rest) z.simple).1; around = z.around; keeps = z.keeps.1;
+    fine = z.fine.1 refl; here = z.here; simple = (and_both (have_simple_items whole) (have_simple_items rest) z.simple).1; around = z.around; keeps = z.keeps.1;
     made = made_later a codes tail z.made left;
   }
 

@@ -126,7 +126,7 @@ module _ (p : Protocol) (l : Program) (n : ℤ) (me : Seat) (g : Given p l n me)
 
   sits_behind_choice : {h : Here} {a : Around} {m : Mark} {kern : ℕ} {from : CoreEnd} {bs : BranchTrees} {rest : BlockTree} {tail codes : Codes} → (z : Sits p l n me h a (T.more m (T.choice kern from bs) rest) codes) → Left l z.made.at codes tail → Sits p l n me h a rest tail
   sits_behind_choice {a = a} {bs = bs} {rest = rest} {tail = tail} {codes = codes} z left = record {
-    fine = z.fine.1; here = z.here; simple = (and_both (branches_have_simple_items bs) (have_simple_items rest) z.simple).1; around = z.around; keeps = z.keeps.4;
+    fine = z.fine.1 refl; here = z.here; simple = (and_both (branches_have_simple_items bs) (have_simple_items rest) z.simple).1; around = z.around; keeps = z.keeps.4;
     made = made_later p l n me g a codes tail z.made left;
   }
 
