@@ -8,4 +8,6 @@ pub mod Branches
 pub mod Tells
 pub mod Choices
 pub mod Walks
+pub mod Families
+pub mod Theorem
 pub mod Simulated

@@ -1,9 +1,16 @@
-//! From the shape of a projection to what all its ranks do together: the main theorem.
+//! From the shape of a projection to what all its ranks do: the main theorem of the compiler.
 #![tactic(auto)]
 
-ghost use Rattle.std.specs.Prelude.{◌≡◌, ℕ};
+ghost use Rattle.pb_ranks.specs.Ranks.{TextRanks};
 
-/// Scratch.
-pub fn scratch()
-    ensures { (n : ℕ) → n ≡ n }
-{}
+use pb_core::ranks_are_numbered;
+
+/// Where a protocol keeps the rules at one N, the ranks of each well-made program of its projection's shape do its sequential run:
+/// each follows its part of the run for all answers of its kernels, with at most four silent steps for each statement of the text
+/// before each action, and ends where nothing more comes for it; all together do the run whatever the order of their events and the
+/// modes of their sends, no rank is lost or undefined, none is left behind, and they stop only at its end, with empty channels.
+pub fn text_ranks()
+    ensures { TextRanks }
+{
+    ranks_are_numbered();
+}
