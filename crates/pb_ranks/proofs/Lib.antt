@@ -10,4 +10,5 @@ pub mod Choices
 pub mod Walks
 pub mod Families
 pub mod Theorem
+pub mod Rows
 pub mod Simulated

@@ -1,7 +1,11 @@
 //! From the shape of a projection to what all its ranks do: the main theorem of the compiler.
 #![tactic(auto)]
 
+ghost use Rattle.std.specs.Prelude.{pos};
 ghost use Rattle.pb_ranks.specs.Ranks.{TextRanks};
+ghost use Rattle.pb_ranks.specs.Worked.{first_to_last, first_to_last_text};
+ghost use Rattle.pb_shape.specs.Shape.{HasShape};
+ghost use Rattle.pb_shape.specs.Theorem.{DoesRun};
 
 use pb_core::ranks_are_numbered;
 
@@ -11,6 +15,15 @@ use pb_core::ranks_are_numbered;
 /// modes of their sends, no rank is lost or undefined, none is left behind, and they stop only at its end, with empty channels.
 pub fn text_ranks()
     ensures { TextRanks }
+{
+    ranks_are_numbered();
+}
+
+/// A message from the first rank to the last: the text with a test for each of them has the shape, and the four ranks of N = 4 do
+/// the run.
+pub fn worked()
+    ensures shape { HasShape first_to_last first_to_last_text }
+    ensures runs { DoesRun first_to_last first_to_last_text (pos 4) }
 {
     ranks_are_numbered();
 }
