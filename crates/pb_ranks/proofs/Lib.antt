@@ -11,4 +11,5 @@ pub mod Walks
 pub mod Families
 pub mod Theorem
 pub mod Rows
+pub mod Rounds
 pub mod Simulated

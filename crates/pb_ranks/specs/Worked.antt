@@ -36,8 +36,12 @@ worker x = record { role = 0; at = x; place = somewhere }
 abbrev pub only : Lin → Guard
 only x = record { role = 0; low = Some x; high = Some x; from = None; to = None }
 
+-- W, with the indices 0..N-1
+abbrev pub w : CoreRole
+w = record { name = codes "W"; place = somewhere; low = number (pos 0); high = from_n (negsuc 0) }
+
 abbrev pub workers : List CoreRole
-workers = record { name = codes "W"; place = somewhere; low = number (pos 0); high = from_n (negsuc 0) } ∷ []
+workers = w ∷ []
 
 abbrev pub signal : List ℕ → CoreLabel
 signal name = record { name = name; payload = NoWords }
