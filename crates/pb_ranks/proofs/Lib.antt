@@ -11,5 +11,6 @@ pub mod Walks
 pub mod Families
 pub mod Theorem
 pub mod Rows
-pub mod Rounds
+pub mod Relayed
+pub mod RelayedMade
 pub mod Simulated

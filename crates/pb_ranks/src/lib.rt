@@ -4,6 +4,7 @@
 ghost use Rattle.std.specs.Prelude.{pos};
 ghost use Rattle.pb_ranks.specs.Ranks.{TextRanks};
 ghost use Rattle.pb_ranks.specs.Worked.{first_to_last, first_to_last_text};
+ghost use Rattle.pb_ranks.specs.Rounds.{rounds, rounds_text};
 ghost use Rattle.pb_shape.specs.Shape.{HasShape};
 ghost use Rattle.pb_shape.specs.Theorem.{DoesRun};
 
@@ -21,9 +22,18 @@ pub fn text_ranks()
 
 /// A message from the first rank to the last: the text with a test for each of them has the shape, and the four ranks of N = 4 do
 /// the run.
-pub fn worked()
+pub fn first_to_last()
     ensures shape { HasShape first_to_last first_to_last_text }
     ensures runs { DoesRun first_to_last first_to_last_text (pos 4) }
+{
+    ranks_are_numbered();
+}
+
+/// A loop in which one rank chooses, tells the next, and that one tells the third: the text with its relay and its tests has the
+/// shape, and the three ranks do the run.
+pub fn rounds()
+    ensures shape { HasShape rounds rounds_text }
+    ensures runs { DoesRun rounds rounds_text (pos 3) }
 {
     ranks_are_numbered();
 }

@@ -1,6 +1,5 @@
-use Rattle.pb_ranks.proofs.worked.Goals as goal
+use Rattle.pb_ranks.proofs.first_to_last.Goals as goal
 use Rattle.pb_ranks.proofs.Rows as R
-use Rattle.pb_ranks.proofs.Rounds.{rounds_shape}
 
 pub returns-clause-shape : goal.returns-clause-shape
 returns-clause-shape c = R.shape
