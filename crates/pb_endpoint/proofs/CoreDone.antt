@@ -62,7 +62,7 @@ module _ (p : Protocol) (n : ℤ) (none : breaches p n ≡ []) where
   none_fails : (k : ℕ) (fits : List Outcome → List Outcome → Bool) → misfitting p n k fits ≡ [] → (r : ℕ) → r < total_at p n → misfits fits [] r (flat_at p n) ≡ []
   none_fails k fits h r lt = none_mapped (ranked k (seat_at r (ranks_at p n))) (misfits fits [] r (flat_at p n)) (none_over (total_at p n) (λ r. map (ranked k (seat_at r (ranks_at p n))) (misfits fits [] r (flat_at p n))) h r lt)
 
-  accepted : IsProper p → Accepted (setting_of p n) (flat_at p n)
+  pub accepted : IsProper p → Accepted (setting_of p n) (flat_at p n)
   accepted proper = record {
     formed =
         formed_down p.roles n p.body.block (lt-ltb 0 (total p.roles n) (someone_there p.roles n proper.roles (none_mapped (nobody 6) (empty_roles 0 p.roles n) after_6))) proper.scoped
