@@ -1,0 +1,12 @@
+ghost use Rattle.pb_accepted.specs.Laws.{FileIsProper, FileIsSmall};
+
+/// The core of an accepted file has a role, a foreach holds messages and computes, a continue stands within its loop, and
+/// what is followed can end.
+pub fn file_is_proper()
+    ensures { FileIsProper }
+{}
+
+/// The core of a file within the limits has 48,000 statements of text at most, and 64 braces at most are open in it.
+pub fn file_is_small()
+    ensures { FileIsSmall }
+{}
