@@ -1,1 +1,7 @@
 mod Proper
+mod Counted
+mod Tokens
+mod Forms
+mod Measures
+mod Statements
+mod Header
