@@ -5,3 +5,5 @@ mod Forms
 mod Measures
 mod Statements
 mod Header
+mod Words
+mod Small
