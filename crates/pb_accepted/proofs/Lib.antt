@@ -7,3 +7,5 @@ mod Statements
 mod Header
 mod Words
 mod Small
+mod Distinct
+mod Labels

@@ -91,7 +91,7 @@ more_letters false false false false h = h
 within_word : (c : ℕ) → goes_on_word c ≡ true → (is_letter c || is_digit c) ≡ true
 within_word c h = more_letters (is_ascii_digit c) _ _ _ h
 
-both : {a b : Bool} → a ≡ true → b ≡ true → (a && b) ≡ true
+pub both : {a b : Bool} → a ≡ true → b ≡ true → (a && b) ≡ true
 both h g = rw (h, g) refl
 
 each : (cs : List ℕ) → ((k d : ℕ) → k < length cs → goes_on_word (get_or cs k d) ≡ true) → list_all (λ d. is_letter d || is_digit d) cs ≡ true
@@ -102,7 +102,7 @@ wordy : (w : List ℕ) → 0 < length w → begins_word (get_or w 0 0) ≡ true 
 wordy [] some begins goes = absurd (omega arith)
 wordy (c ∷ cs) some begins goes = both (letter c begins) (each cs (λ k d few. goes (suc k) d (omega (arith, few))))
 
-swapped : (a b : List ℕ) → pointwise nat_eq a b ≡ false → pointwise nat_eq b a ≡ false
+pub swapped : (a b : List ℕ) → pointwise nat_eq a b ≡ false → pointwise nat_eq b a ≡ false
 swapped a b h = at (pointwise nat_eq b a) refl
   where
     at : (t : Bool) → pointwise nat_eq b a ≡ t → pointwise nat_eq b a ≡ false
