@@ -16,10 +16,11 @@ use Rattle.pb_accepted.proofs.Words.{named}
 use Rattle.pb_accepted.proofs.Measures.{texts_at, texts_in, texts_among, IsWell, AreWell, AreWellAmong}
 use Rattle.pb_accepted.proofs.Distinct.{Distinct, distinct_push, are_distinct}
 
-abbrev row_of : Labelled → CoreLabel
+abbrev pub row_of : Labelled → CoreLabel
 row_of l = record { name = l.label.name; payload = l.payload }
 
-abbrev with_label : List CoreLabel → Labelled → List CoreLabel
+-- a label more, where it isn't there
+abbrev pub with_label : List CoreLabel → Labelled → List CoreLabel
 with_label there l = if has_label l.label.name there then there else there ++ row_of l ∷ []
 
 abbrev names_of : List CoreLabel → List Name

@@ -9,3 +9,5 @@ mod Words
 mod Small
 mod Distinct
 mod Labels
+mod Kernels
+mod Payloads
