@@ -11,3 +11,4 @@ mod Distinct
 mod Labels
 mod Kernels
 mod Payloads
+mod OneKind
