@@ -12,3 +12,4 @@ mod Labels
 mod Kernels
 mod Payloads
 mod OneKind
+mod Goes
