@@ -1,3 +1,4 @@
+mod Unbroken
 mod Proper
 mod Counted
 mod Tokens
@@ -13,3 +14,5 @@ mod Kernels
 mod Payloads
 mod OneKind
 mod Goes
+mod Roles
+mod Tabled

@@ -32,7 +32,7 @@ Pairs (v ∷ vs) = AreSettled (v ∷ []) vs × Pairs vs
 
 -- ---- from the rule
 
-other_both : (x : Name) (k : Kind) (xs ys : List Visit) → has_other_kind x k (xs ++ ys) ≡ false → (has_other_kind x k xs ≡ false) × (has_other_kind x k ys ≡ false)
+pub other_both : (x : Name) (k : Kind) (xs ys : List Visit) → has_other_kind x k (xs ++ ys) ≡ false → (has_other_kind x k xs ≡ false) × (has_other_kind x k ys ≡ false)
 other_both x k [] ys h = (refl, h)
 other_both x k (v ∷ xs) ys h =
     let here : Bool = same x v.spot.name && not (same_kind k v.kind) in

@@ -4,4 +4,4 @@
 
 mod laws;
 
-pub use laws::{file_is_proper, file_is_small};
+pub use laws::{file_is_proper, file_is_small, file_is_tabled};
