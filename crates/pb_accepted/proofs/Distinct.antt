@@ -3,22 +3,12 @@ use Rattle.std.proofs.Common.{◌≡◌, ◌≢◌, ℕ, zero, suc, ◌<◌, ◌
 use Rattle.std.proofs.lemmas.Slice.Eq.{bytes_eq-Decides}
 use Rattle.pb_core.specs.Names.{Name, same, is_named}
 use Rattle.pb_local.specs.Names.{AreDistinct}
+use Rattle.pb_accepted.proofs.Bools.{none_left, none_right, neither, differ}
 use Rattle.pb_accepted.proofs.Words.{swapped}
 
 abbrev pub Distinct : List Name → Type 0
 Distinct [] = Unit {0}
 Distinct (x ∷ xs) = (is_named x xs ≡ false) × Distinct xs
-
-pub none_left : (a b : Bool) → (a || b) ≡ false → a ≡ false
-none_left true b h = h
-none_left false b h = refl
-
-pub none_right : (a b : Bool) → (a || b) ≡ false → b ≡ false
-none_right true b h = absurd (grind arith)
-none_right false b h = h
-
-pub neither : {a b : Bool} → a ≡ false → b ≡ false → (a || b) ≡ false
-neither h g = rw (h, g) refl
 
 named_push : (x : Name) (xs : List Name) (y : Name) → is_named x xs ≡ false → same x y ≡ false → is_named x (xs ++ y ∷ []) ≡ false
 named_push x [] y h e = neither e refl
@@ -33,10 +23,7 @@ same_self x = (bytes_eq-Decides x x).1 refl
 
 other_at : (x : Name) (xs : List Name) (j : ℕ) → is_named x xs ≡ false → j < length xs → x ≢ get_or xs j []
 other_at x [] j h few e = absurd (omega (arith, few))
-other_at x (y ∷ xs) zero h few e = differs (sym (subst (λ z. same x z ≡ true) e (same_self x)) ∙ none_left (same x y) (is_named x xs) h)
-  where
-    differs : true ≡ false → ⊥
-    differs f = cc
+other_at x (y ∷ xs) zero h few e = differ (sym (subst (λ z. same x z ≡ true) e (same_self x)) ∙ none_left (same x y) (is_named x xs) h)
 other_at x (y ∷ xs) (suc j) h few e = other_at x xs j (none_right (same x y) (is_named x xs) h) (omega (arith, few)) e
 
 pub are_distinct : (xs : List Name) → Distinct xs → AreDistinct xs

@@ -17,14 +17,11 @@ use Rattle.pb_core.specs.Plain.{Protocol}
 use Rattle.pb_core.specs.Sound.{is_bound, Rows, is_end, is_item, has_branch, is_stmt, is_block, are_branches}
 use Rattle.pb_local.specs.WellMade.{HasWords, GoesWith}
 use Rattle.pb_shape.specs.Tabled.{label_at, kernel_at, count, Goes, GoAll, GoAmong}
+use Rattle.pb_accepted.proofs.Bools.{two}
 use Rattle.pb_accepted.proofs.Measures.{branch_count, IsWell, AreWell, AreWellAmong}
 use Rattle.pb_accepted.proofs.Small.{of_message}
 use Rattle.pb_accepted.proofs.Payloads.{row_payload, at_position, AreRight, right_both}
 use Rattle.pb_accepted.proofs.OneKind.{AreOfOneKind, one_both, kernel_kind, other_kernel, kind_at}
-
-two : (a b : Bool) → (a && b) ≡ true → (a ≡ true) × (b ≡ true)
-two true b h = (refl, h)
-two false b h = absurd (grind arith)
 
 wordy : (q : Payload) → has_words q ≡ true → HasWords q
 wordy NoWords h = absurd (grind arith)

@@ -17,6 +17,7 @@ use Rattle.pb_parse.specs.declared.limits.Behind.TheVariants as behind
 use Rattle.pb_parse.specs.declared.limits.Sort.{Sort}
 use Rattle.pb_parse.specs.declared.limits.Sort.TheVariants.{LeftBrace, RightBrace, Semicolon, LeftBracket, Dots, ElementType, Role, Choice, Or, Statement, Name, Number, Other}
 use Rattle.pb_parse.specs.Limits.{sort_of, full, counted, sort_passed, name_passed, name_counted, counts_next, counts_from, at_start}
+use Rattle.pb_accepted.proofs.Bools.{not_full}
 use Rattle.pb_accepted.proofs.Counted.{AreFine, Does, co, IsInside, after, done_does, weaker, many_do, ◌>>>◌, ◌>>=◌}
 use Rattle.pb_accepted.proofs.Tokens.{mark_step, key_step, name_step, number_step}
 use Rattle.pb_accepted.proofs.Forms.{IsTop, top_quiet, role_range_quiet}
@@ -61,15 +62,8 @@ file_does n bs long =
 
 -- ---- no more than 4,000 statements
 
-not_full : (n : ℕ) → full 4000 n quantity.Statements ≡ None → n + 1 ≤ 4000
-not_full n e = at (nat_le 4000 n) refl e
-  where
-    at : (b : Bool) → nat_le 4000 n ≡ b → (if b then Some quantity.Statements else None) ≡ None → n + 1 ≤ 4000
-    at true h e = absurd (grind arith)
-    at false h e = grind (arith, nat_tests)
-
 few_named : (c : Counts) (l : Behind) → c.statements ≤ 4000 → name_passed l c.statements ≡ None → (name_counted l c).statements ≤ 4000
-few_named c behind.Boundary h e = not_full c.statements e
+few_named c behind.Boundary h e = omega (arith, not_full 4000 c.statements quantity.Statements e)
 few_named c behind.ElementType h e = h
 few_named c behind.TypeBracket h e = h
 few_named c behind.Dots h e = h
@@ -83,9 +77,9 @@ few_next c LeftBracket h e = h
 few_next c Dots h e = h
 few_next c ElementType h e = h
 few_next c Role h e = h
-few_next c Choice h e = not_full c.statements e
+few_next c Choice h e = omega (arith, not_full 4000 c.statements quantity.Statements e)
 few_next c Or h e = h
-few_next c Statement h e = not_full c.statements e
+few_next c Statement h e = omega (arith, not_full 4000 c.statements quantity.Statements e)
 few_next c Name h e = few_named c c.last h e
 few_next c (Number n) h e = h
 few_next c Other h e = h

@@ -1,3 +1,4 @@
+mod Bools
 mod Unbroken
 mod Proper
 mod Counted

@@ -10,7 +10,7 @@ use Rattle.pb_core.specs.Names.{Name, same, Kind, same_kind, kind_number, a_comp
 use Rattle.pb_core.specs.FileRules.{is_visited, has_other_kind, is_misused, misnamed}
 use Rattle.pb_core.specs.Meaning.{position_of, has_kernel, kernel_names, kernels_at, kernels_in, kernels_among, kernels_after}
 use Rattle.pb_accepted.proofs.Words.{swapped}
-use Rattle.pb_accepted.proofs.Distinct.{none_left, none_right, neither, same_self}
+use Rattle.pb_accepted.proofs.Bools.{none_left, none_right, neither, differ, listed_if}
 
 abbrev IsNew : Use → Bool → Type 0
 IsNew declared b = b ≡ false
@@ -66,14 +66,10 @@ pub pairs_both : (xs ys : List Visit) → Pairs (xs ++ ys) → Pairs xs × Pairs
 pairs_both [] ys h = (tt, h)
 pairs_both (x ∷ xs) ys h = let g = pairs_both xs ys h.1 in (((split_settled (x ∷ []) xs ys h.0).0, g.0), g.1)
 
-unlisted : (t : Bool) (p : Place) (rest : List Place) → (if t then p ∷ [] else []) ++ rest ≡ [] → (t ≡ false) × (rest ≡ [])
-unlisted true p rest h = absurd (grind arith)
-unlisted false p rest h = (refl, h)
-
 settle : (roles : List Name) (before vs : List Visit) → misnamed roles before vs ≡ [] → AreSettled before vs × Pairs vs
 settle roles before [] h = (tt, tt)
 settle roles before (v ∷ vs) h =
-    let g = unlisted (has_other_kind v.spot.name v.kind before || is_misused roles before v v.how) v.spot.place (misnamed roles (before ++ v ∷ []) vs) h in
+    let g = listed_if (has_other_kind v.spot.name v.kind before || is_misused roles before v v.how) v.spot.place (misnamed roles (before ++ v ∷ []) vs) h in
     let rest = settle roles (before ++ v ∷ []) vs g.1 in
     let both = settled_both before (v ∷ []) vs rest.0 in
     (((none_left (has_other_kind v.spot.name v.kind before) (is_misused roles before v v.how) g.0, fresh v.how (none_right (has_other_kind v.spot.name v.kind before) (is_misused roles before v v.how) g.0)), both.0), (both.1, rest.1))
@@ -95,9 +91,6 @@ AreOfOneKind all (w ∷ ws) = (has_other_kind w.spot.name w.kind all ≡ false) 
 pub one_both : (all xs ys : List Visit) → AreOfOneKind all (xs ++ ys) → AreOfOneKind all xs × AreOfOneKind all ys
 one_both all [] ys h = (tt, h)
 one_both all (x ∷ xs) ys h = let g = one_both all xs ys h.1 in ((h.0, g.0), g.1)
-
-differ : true ≡ false → ⊥
-differ g = cc
 
 same_either : (a b : Name) → same a b ≡ same b a
 same_either a b = at (same a b) (same b a) refl refl

@@ -9,6 +9,7 @@ use Rattle.pb_syntax.specs.declared.tree.Payload.TheVariants.{Unit as Signal, In
 use Rattle.pb_core.specs.Names.{Name, same}
 use Rattle.pb_core.specs.FileRules.{Labelled, payload_eq, first_payload, mislabelled}
 use Rattle.pb_core.specs.Meaning.{position_of, has_label, label_names, labels_after}
+use Rattle.pb_accepted.proofs.Bools.{two, number_same, listed_unless}
 use Rattle.pb_accepted.proofs.Distinct.{same_self}
 use Rattle.pb_accepted.proofs.Labels.{row_of, with_label}
 
@@ -78,9 +79,6 @@ kept x p there (l ∷ ls) h = kept x p (with_label there l) ls (has (has_label l
 
 -- ---- the rule
 
-number_same : (a b : ℕ) → nat_eq a b ≡ true → a ≡ b
-number_same a b h = grind (arith, nat_tests)
-
 payload_same : (p q : Payload) → payload_eq p q ≡ true → p ≡ q
 payload_same Signal Signal h = refl
 payload_same (Int32 a) (Int32 b) h = ap Int32 (number_same a b h)
@@ -117,20 +115,12 @@ pub right_both : (rows : List CoreLabel) (xs ys : List Labelled) → AreRight ro
 right_both rows [] ys h = (tt, h)
 right_both rows (x ∷ xs) ys h = let g = right_both rows xs ys h.1 in ((h.0, g.0), g.1)
 
-listed_not : (t : Bool) (p : Place) (rest : List Place) → (if t then [] else p ∷ []) ++ rest ≡ [] → (t ≡ true) × (rest ≡ [])
-listed_not true p rest h = (refl, h)
-listed_not false p rest h = absurd (grind arith)
-
-two : (a b : Bool) → (a && b) ≡ true → (a ≡ true) × (b ≡ true)
-two true b h = (refl, h)
-two false b h = absurd (grind arith)
-
 pub rows_right : (before : List Labelled) (there : List CoreLabel) (ls : List Labelled) → SaysSame before there → mislabelled before ls ≡ [] → AreRight (labels_after there ls) ls
 rows_right before there [] says h = tt
 rows_right before there (l ∷ ls) says h = ((t.0, λ p. kept l.label.name p (with_label there l) ls (has (has_label l.label.name there) refl) ∙ pays (has_label l.label.name there) refl p), rows_right (before ++ l ∷ []) (with_label there l) ls (step_same before there l says) g.1)
   where
     g : ((l.is_fine && payload_eq l.payload (first_payload l.label.name l.payload before)) ≡ true) × (mislabelled (before ++ l ∷ []) ls ≡ [])
-    g = listed_not (l.is_fine && payload_eq l.payload (first_payload l.label.name l.payload before)) l.label.place (mislabelled (before ++ l ∷ []) ls) h
+    g = listed_unless (l.is_fine && payload_eq l.payload (first_payload l.label.name l.payload before)) l.label.place (mislabelled (before ++ l ∷ []) ls) h
 
     t : (l.is_fine ≡ true) × (payload_eq l.payload (first_payload l.label.name l.payload before) ≡ true)
     t = two l.is_fine (payload_eq l.payload (first_payload l.label.name l.payload before)) g.0

@@ -3,6 +3,7 @@ use Rattle.std.proofs.Common.{◌≡◌, ◌≢◌, ℕ, zero, suc, ◌≤◌, �
 use Rattle.std.specs.Prelude.{All, Contains, IsTrue}
 use Rattle.std.proofs.lemmas.Bool.Decides.{nat_tests}
 use Rattle.std.proofs.lemmas.Int.{ints}
+use Rattle.std.proofs.lemmas.List.{append-nil}
 use Rattle.std.proofs.lemmas.List.Elements.{All-cons, All-nil}
 use Rattle.pb_affine.specs.declared.lin.Base.{Base}
 use Rattle.pb_affine.specs.declared.lin.Base.TheVariants.{Fixed, Param, Var}
@@ -30,11 +31,12 @@ use Rattle.pb_local.specs.Ranks.{Sum, factor, no_ranks, size_with, with_role, ra
 use Rattle.pb_local.specs.WellMade.{IsInRange, IsRange, IsUpperEnd, IsSingle, IsRole}
 use Rattle.pb_local.specs.WellMade as W
 use Rattle.pb_shape.specs.Shape as S
-use Rattle.pb_endpoint.proofs.Tests.{none_both, not_listed}
+use Rattle.pb_endpoint.proofs.Tests.{none_both}
+use Rattle.pb_accepted.proofs.Bools.{two, none_left, number_same, listed_if, listed_unless}
 use Rattle.pb_accepted.proofs.Words.{named, swapped}
 use Rattle.pb_accepted.proofs.Forms.{IsTop}
 use Rattle.pb_accepted.proofs.Header.{AreNamed}
-use Rattle.pb_accepted.proofs.Distinct.{Distinct, none_left}
+use Rattle.pb_accepted.proofs.Distinct.{Distinct}
 use Rattle.pb_accepted.proofs.OneKind.{AreSettled, split_settled, Pairs, pairs_both}
 
 -- ---- each once
@@ -78,10 +80,6 @@ index_there low (pos (suc n)) h = omega (arith, ints)
 not_above : (low high : ℤ) → pos 1 ≤ℤ (high +ℤ pos 1 -ℤ low) → low ≤ℤ high
 not_above low high h = omega (arith, ints)
 
-two : (a b : Bool) → (a && b) ≡ true → (a ≡ true) × (b ≡ true)
-two true b h = (refl, h)
-two false b h = absurd (grind arith)
-
 le_true : (a b : ℤ) → int_le a b ≡ true → a ≤ℤ b
 le_true a b h = grind (arith, ints)
 
@@ -121,7 +119,7 @@ each_is over c k (r ∷ rs) well sound some =
       low_fixed = no_variable q.low.base a.0;
       high_fixed = no_variable q.high.base b.0;
       some = λ n within.
-          let e = not_listed (is_empty (range (value q.low (pos n) (pos 0)) (value q.high (pos n) (pos 0)))) (record { number = k; place = q.place }) (none_both _ (empty_roles (suc k) (roles_of c rs) (pos n)) (some n within)).0 in
+          let e = (listed_if (is_empty (range (value q.low (pos n) (pos 0)) (value q.high (pos n) (pos 0)))) (record { number = k; place = q.place }) (empty_roles (suc k) (roles_of c rs) (pos n)) (some n within)).0 in
           not_above (value q.low (pos n) (pos 0)) (value q.high (pos n) (pos 0)) (index_there (value q.low (pos n) (pos 0)) _ e);
     })
     (each_is over c (suc k) rs well.1 high.1 (λ n within. (none_both _ (empty_roles (suc k) (roles_of c rs) (pos n)) (some n within)).1))
@@ -184,22 +182,15 @@ size_is c (r ∷ rs) f =
 grown : (a t : ℤ) → a ≡ pos 0 +ℤ t → int_le (pos 1) t ≡ true → pos 1 ≤ℤ a
 grown a t e h = grind (arith, ints)
 
-listed : {A : Type 0} (t : Bool) (x : A) → (if t then [] else x ∷ []) ≡ [] → t ≡ true
-listed true x h = refl
-listed false x h = cc
-
-number_same : (a b : ℕ) → nat_eq a b ≡ true → a ≡ b
-number_same a b h = grind (arith, nat_tests)
-
 single : (high : High) (low : ℕ) → is_just high low ≡ true → high_of high ≡ Some low
 single (Upto hi) low h = ap Some (number_same hi low h)
 single Max low h = absurd (grind arith)
 
 pub sized : (f : PlainFile) → broken_5 f ≡ [] → (pos 1 ≤ℤ (ranks_of (map S.role_of (roles_of f.constant.name f.roles))).a) ⊎ IsSingle (meaning f).range
 sized f five =
-    let low = none_both (if nat_lt f.low 1 then f.low_place ∷ [] else []) _ five in
-    let high = none_both (if is_below f.high f.low then f.high_place ∷ [] else []) _ low.1 in
-    at (int_le (pos 1) (total_growth f.constant.name f.roles)) refl (listed _ f.protocol.place high.1)
+    let low = listed_if (nat_lt f.low 1) f.low_place _ five in
+    let high = listed_if (is_below f.high f.low) f.high_place _ low.1 in
+    at (int_le (pos 1) (total_growth f.constant.name f.roles)) refl (listed_unless _ f.protocol.place [] (append-nil _ ∙ high.1)).0
   where
     at : (b : Bool) → int_le (pos 1) (total_growth f.constant.name f.roles) ≡ b → (b || is_just f.high f.low) ≡ true → (pos 1 ≤ℤ (ranks_of (map S.role_of (roles_of f.constant.name f.roles))).a) ⊎ IsSingle (meaning f).range
     at true e h = inl (grown _ (total_growth f.constant.name f.roles) (size_is f.constant.name f.roles no_ranks) e)
@@ -213,12 +204,12 @@ not_below a b h = grind (arith, nat_tests)
 
 pub ranged : (f : PlainFile) → broken_5 f ≡ [] → f.low ≤ 2000000000 → IsTop f.high → IsRange (meaning f).range
 ranged f five most top =
-    let low = none_both (if nat_lt f.low 1 then f.low_place ∷ [] else []) _ five in
-    let high = none_both (if is_below f.high f.low then f.high_place ∷ [] else []) _ low.1 in
+    let low = listed_if (nat_lt f.low 1) f.low_place _ five in
+    let high = listed_if (is_below f.high f.low) f.high_place _ low.1 in
     record {
-      some = at_least_one f.low (not_listed _ f.low_place low.0);
+      some = at_least_one f.low low.0;
       most = most;
-      high = upper f.high f.low (not_listed _ f.high_place high.0) top;
+      high = upper f.high f.low high.0 top;
     }
   where
     upper : (high : High) (low : ℕ) → is_below high low ≡ false → IsTop high → IsUpperEnd low (high_of high)

@@ -14,6 +14,7 @@ use Rattle.pb_parse.specs.declared.limits.Counts.{Counts}
 use Rattle.pb_parse.specs.declared.limits.Behind.{Behind}
 use Rattle.pb_parse.specs.declared.limits.Behind.TheVariants as behind
 use Rattle.pb_parse.specs.Limits.{full}
+use Rattle.pb_accepted.proofs.Bools.{not_full}
 use Rattle.pb_accepted.proofs.Counted.{Does, Quiet, co, IsInside, after, done_does, weaker, many_do, ◌>>>◌, ◌>>=◌, ◌or_does◌}
 use Rattle.pb_accepted.proofs.Tokens.{mark_step, key_step, name_step, label_step}
 use Rattle.pb_accepted.proofs.Forms.{range_quiet, payload_quiet, op_quiet, plain_end_quiet, any_end_quiet, end_beside_quiet}
@@ -45,13 +46,6 @@ Blocked d c c1 b = IsAt d c1 × (Moved (d + 1) c c1 (texts_in b.list) × FitsAll
 
 at_co : (d : ℕ) (c : Counts) → IsAt d c → c ≡ co d c.statements c.roles c.branches behind.Boundary
 at_co d c h = ap₂ (λ a b. co a c.statements c.roles c.branches b) h.depth h.last
-
-not_full : (n : ℕ) (limit : Quantity) → full 64 n limit ≡ None → n < 64
-not_full n limit e = at (nat_le 64 n) refl e
-  where
-    at : (b : Bool) → nat_le 64 n ≡ b → (if b then Some limit else None) ≡ None → n < 64
-    at true h e = absurd (grind arith)
-    at false h e = grind (arith, nat_tests)
 
 -- ---- statements without braces
 
@@ -109,7 +103,7 @@ braces_does : {d s r : ℕ} {bs : List ℕ} {l : Behind} {inside : Form PlainSta
     → Does (co d s r bs l) (braces inside) (Blocked d (co d s r bs l))
 braces_does {d} {s} {r} {bs} {l} {inside} long within =
     mark_step marks.LeftBrace >>> λ p passes.
-    let deep : d < 64 = not_full d quantity.Nesting passes in
+    let deep : d < 64 = not_full 64 d quantity.Nesting passes in
     after (many_do {good = λ c c1 x. Moved (d + 1) c c1 (texts_at x) × Fits (d + 1) x} {all = λ c c1 xs. Moved (d + 1) c c1 (texts_in (statements_of xs)) × FitsAll (d + 1) (statements_of xs)} {from = IsAt (d + 1)}
     (λ c h. subst (λ (c1 : Counts). Does c1 inside (Stated (d + 1) c1)) (sym (at_co (d + 1) c h)) (within deep c.statements c.roles c.branches h.length))
     (λ c h. (record { statements = omega arith; below = λ j few. refl }, (tt, omega (arith, deep))))
@@ -159,7 +153,7 @@ module _ {d : ℕ} (inner : Form PlainBlock) (holds : (s1 r1 : ℕ) (bs1 : List 
       (g.0, record {
         moved = record { statements = g.1.0.statements; below = λ j h. g.1.0.below j (omega (arith, h)) ∙ get_or-set_other bs1 d j (slice_index bs1 d + 1) 0 (λ e. omega (arith, e, h)) };
         count = one;
-        few = omega (arith, one, not_full (slice_index bs1 d) quantity.Branches passes);
+        few = omega (arith, one, not_full 64 (slice_index bs1 d) quantity.Branches passes);
         fits = g.1.1;
       }))
 
@@ -204,6 +198,6 @@ pub block_does : (n d s r : ℕ) (bs : List ℕ) (l : Behind) → length bs ≡ 
 unfolding block
 block_does zero d s r bs l long =
     mark_step marks.LeftBrace >>> λ p passes. mark_step marks.RightBrace >>> λ q u.
-    done_does _ (record { depth = less_one d; length = long; last = refl }, (record { statements = omega arith; below = λ j h. refl }, (tt, omega (arith, not_full d quantity.Nesting passes))))
+    done_does _ (record { depth = less_one d; length = long; last = refl }, (record { statements = omega arith; below = λ j h. refl }, (tt, omega (arith, not_full 64 d quantity.Nesting passes))))
 block_does (suc n) d s r bs l long =
     braces_does long (λ deep s1 r1 bs1 long1. statement_does long1 (block n) (λ s2 r2 bs2 l2 long2. block_does n (d + 1) s2 r2 bs2 l2 long2) (omega (arith, deep)))

@@ -18,20 +18,14 @@ use Rattle.pb_accepted.specs.Laws.{FileIsTabled}
 use Rattle.pb_accepted.proofs.Unbroken.{Unbroken, unbroken}
 use Rattle.pb_accepted.proofs.Header.{IsWellFile, file_well}
 use Rattle.pb_accepted.proofs.Words.{fine, named}
-use Rattle.pb_accepted.proofs.Distinct.{Distinct, none_right, are_distinct}
+use Rattle.pb_accepted.proofs.Bools.{two, at_most, none_right}
+use Rattle.pb_accepted.proofs.Distinct.{Distinct, are_distinct}
 use Rattle.pb_accepted.proofs.Labels.{labels_tabled}
 use Rattle.pb_accepted.proofs.Kernels.{kernels_tabled}
 use Rattle.pb_accepted.proofs.Payloads.{rows_right}
 use Rattle.pb_accepted.proofs.OneKind.{Pairs, pairs, pairs_both, of_one_kind, one_both, other_both, other_kernel, none_in, none_after}
 use Rattle.pb_accepted.proofs.Goes.{go_in}
 use Rattle.pb_accepted.proofs.Roles.{roles_once, names_are, length_is, each_is, have_indices, sized, ranged}
-
-two : (a b : Bool) → (a && b) ≡ true → (a ≡ true) × (b ≡ true)
-two true b h = (refl, h)
-two false b h = absurd (grind arith)
-
-at_most : (a b : ℕ) → nat_le a b ≡ true → a ≤ b
-at_most a b h = grind (arith, nat_tests)
 
 core_length : (c : Name) (rs : List RoleText) → length (roles_of c rs) ≡ length rs
 core_length c [] = refl

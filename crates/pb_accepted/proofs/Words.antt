@@ -19,6 +19,7 @@ use Rattle.pb_lex.proofs.Naming as naming
 use Rattle.pb_parse.specs.declared.limits.Counts.{Counts}
 use Rattle.pb_parse.specs.Limits.{NonePasses, counts_next}
 use Rattle.pb_local.specs.Names.{is_letter, is_digit, is_word, is_keyword, keywords, is_name}
+use Rattle.pb_accepted.proofs.Bools.{both, differ, at_most}
 use Rattle.pb_accepted.proofs.Counted.{AreFine}
 
 -- ---- tokens are sound
@@ -32,9 +33,6 @@ IsSound (bad fault) = Unit {0}
 either : (test : Bool) (x y : Lexeme) → (test ≡ true → IsSound x) → IsSound y → IsSound (if test then x else y)
 either true x y holds other = holds refl
 either false x y holds other = other
-
-at_most : (a b : ℕ) → nat_le a b ≡ true → a ≤ b
-at_most a b h = grind (arith, nat_tests)
 
 word_sound : (text : List ℕ) → 0 < length text → begins_word (get_or text 0 0) ≡ true → IsSound (word text)
 word_sound text some begun = at (key_of name) refl
@@ -91,9 +89,6 @@ more_letters false false false false h = h
 within_word : (c : ℕ) → goes_on_word c ≡ true → (is_letter c || is_digit c) ≡ true
 within_word c h = more_letters (is_ascii_digit c) _ _ _ h
 
-pub both : {a b : Bool} → a ≡ true → b ≡ true → (a && b) ≡ true
-both h g = rw (h, g) refl
-
 each : (cs : List ℕ) → ((k d : ℕ) → k < length cs → goes_on_word (get_or cs k d) ≡ true) → list_all (λ d. is_letter d || is_digit d) cs ≡ true
 each [] h = refl
 each (c ∷ cs) h = both (within_word c (h 0 0 (omega arith))) (each cs (λ k d few. h (suc k) d (omega (arith, few))))
@@ -107,10 +102,7 @@ swapped a b h = at (pointwise nat_eq b a) refl
   where
     at : (t : Bool) → pointwise nat_eq b a ≡ t → pointwise nat_eq b a ≡ false
     at false e = e
-    at true e = absurd (different (sym h ∙ (bytes_eq-Decides a b).1 (sym ((bytes_eq-Decides b a).0 e))))
-      where
-        different : false ≡ true → ⊥
-        different f = cc
+    at true e = absurd (differ (sym ((bytes_eq-Decides a b).1 (sym ((bytes_eq-Decides b a).0 e))) ∙ h))
 
 own_word : (w : List ℕ) (ks : List Key) → find (λ key. pointwise nat_eq w (key_spelling key)) ks ≡ None → list_any (λ k. pointwise nat_eq k w) (map key_spelling ks) ≡ false
 own_word w [] h = refl
