@@ -1,5 +1,5 @@
 -- What reading a form does to the limits' counts, and what its value has then.
-use Rattle.std.proofs.Common.{◌≡◌, ℕ, suc, ◌+◌, ◌⊎◌, inl, inr, None, List, [], ◌∷◌, ◌++◌, refl, sym, subst}
+use Rattle.std.proofs.Common.{◌≡◌, ℕ, ◌⊎◌, inl, inr, None, List, [], ◌∷◌, ◌++◌, refl, sym, subst}
 use Rattle.pb_text.specs.declared.token.Token.{Token}
 use Rattle.pb_text.specs.Tokens.{IsSoundKind}
 use Rattle.pb_syntax.specs.Form.{Form, done, many, ◌or◌, Both, ManyText}

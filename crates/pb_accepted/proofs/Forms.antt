@@ -1,5 +1,5 @@
 -- What each form below a statement reads: it begins no statement, its names are names, and a payload's count is within its limit.
-use Rattle.std.proofs.Common.{◌≡◌, ℕ, ◌≤◌, Bool, true, false, nat_lt, if◌then◌else◌, Option, Some, None, List, refl, arith}
+use Rattle.std.proofs.Common.{◌≡◌, ℕ, ◌≤◌, Bool, true, false, nat_lt, if◌then◌else◌, Some, None, List, refl, arith}
 use Rattle.std.proofs.lemmas.Bool.Decides.{nat_tests}
 use Rattle.pb_text.specs.declared.place.Spot.{Spot}
 use Rattle.pb_text.specs.declared.quantity.Quantity.TheVariants as quantity

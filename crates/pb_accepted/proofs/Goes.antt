@@ -1,8 +1,6 @@
 -- What goes with the labels and kernels of a file's statements in its core.
-use Rattle.std.proofs.Common.{◌≡◌, ℕ, zero, suc, ◌+◌, ◌<◌, ◌≤◌, Bool, true, false, ◌&&◌, not, nat_eq, nat_lt, if◌then◌else◌, List, [], ◌∷◌, ◌++◌, length, get_or, refl, sym, ap, subst, ◌∙◌, arith}
+use Rattle.std.proofs.Common.{◌≡◌, ℕ, suc, ◌+◌, ◌<◌, Bool, true, false, nat_lt, List, [], ◌∷◌, length, refl, sym, ap, subst, ◌∙◌, arith}
 use Rattle.std.proofs.lemmas.Bool.Decides.{nat_tests}
-use Rattle.pb_syntax.specs.declared.core_label.CoreKernel.{CoreKernel}
-use Rattle.pb_syntax.specs.declared.core_label.CoreLabel.{CoreLabel}
 use Rattle.pb_syntax.specs.declared.core_label.KernelKind.{KernelKind}
 use Rattle.pb_syntax.specs.declared.core_label.KernelKind.TheVariants as K
 use Rattle.pb_syntax.specs.declared.tree.Op.{Op}
@@ -11,10 +9,10 @@ use Rattle.pb_syntax.specs.declared.tree.Payload.{Payload}
 use Rattle.pb_syntax.specs.declared.tree.Payload.TheVariants.{Unit as NoWords, Int32, Uint32}
 use Rattle.pb_syntax.specs.Tree.{PlainStatement, message, foreach, loop, again, choice, compute, barrier, broadcast, reduce, allreduce, PlainStatements, nothing, more, PlainBranches, no_branch, branch}
 use Rattle.pb_core.specs.Names.{Name, Kind, same_kind, a_compute_kernel, a_choice_kernel, Scope, with_loop, with_variable, Visit, range_visits, end_visits, stmt_visits, block_visits, branches_visits}
-use Rattle.pb_core.specs.FileRules.{Labelled, has_words, is_unsigned, goes_with, labels_at, labels_in, labels_among, has_other_kind}
-use Rattle.pb_core.specs.Meaning.{Table, Open, position_of, label_names, kernel_names, lin_of, end_of, with_sender, message_of, stmts_at, blocks_at, stmts_in, blocks_in, stmt_of, block_of, branches_of}
+use Rattle.pb_core.specs.FileRules.{has_words, goes_with, labels_at, labels_in, labels_among, has_other_kind}
+use Rattle.pb_core.specs.Meaning.{Table, Open, position_of, label_names, kernel_names, lin_of, end_of, stmts_at, blocks_at, stmts_in, blocks_in, stmt_of, block_of, branches_of}
 use Rattle.pb_core.specs.Plain.{Protocol}
-use Rattle.pb_core.specs.Sound.{is_bound, Rows, is_end, is_item, has_branch, is_stmt, is_block, are_branches}
+use Rattle.pb_core.specs.Sound.{is_bound, Rows, is_end, has_branch, is_stmt, is_block, are_branches}
 use Rattle.pb_local.specs.WellMade.{HasWords, GoesWith}
 use Rattle.pb_shape.specs.Tabled.{label_at, kernel_at, count, Goes, GoAll, GoAmong}
 use Rattle.pb_accepted.proofs.Bools.{two}
@@ -78,9 +76,12 @@ module _ (p : Protocol) (c : Name) (roles : List Name) (all : List Visit) (rows_
     go_at varies opens scope os s b (choice at k who bs) well right kinds sound =
         let g = two (nat_lt (position_of k.name (kernel_names p.kernels)) (length p.kernels)) _ sound in
         let h = two (is_end rows false (end_of table who)) _ g.1 in
-        let n = counted os (suc s) b bs in
-        (chooses _ (kernel_is k.name a_choice_kernel g.0 kinds.0), omega (arith, n, well.1.0), omega (arith, n, well.1.1.0),
-        go_among opens scope os (suc s) b bs well.1.1.1 right (one_both all (end_visits c scope scope who) (branches_visits c scope bs) kinds.1).1 (two (has_branch (branches_of table os (suc s) b bs)) _ h.1).1)
+        let n = counted os (suc s) b bs in (
+          chooses _ (kernel_is k.name a_choice_kernel g.0 kinds.0),
+          omega (arith, n, well.1.0),
+          omega (arith, n, well.1.1.0),
+          go_among opens scope os (suc s) b bs well.1.1.1 right (one_both all (end_visits c scope scope who) (branches_visits c scope bs) kinds.1).1 (two (has_branch (branches_of table os (suc s) b bs)) _ h.1).1,
+        )
     go_at varies opens scope os s b (compute at k who) well right kinds sound =
         computes _ (kernel_is k.name a_compute_kernel (two (nat_lt (position_of k.name (kernel_names p.kernels)) (length p.kernels)) _ sound).0 kinds.0)
     go_at varies opens scope os s b (barrier at) well right kinds sound = tt

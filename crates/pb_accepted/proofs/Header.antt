@@ -1,6 +1,5 @@
 -- What a whole file within the limits reads.
-use Rattle.std.proofs.Common.{◌≡◌, ℕ, zero, suc, ◌+◌, ◌≤◌, Bool, true, false, nat_le, if◌then◌else◌, Some, None, List, [], ◌∷◌, length, replicate, refl, sym, arith, subst}
-use Rattle.std.proofs.lemmas.Bool.Decides.{nat_tests}
+use Rattle.std.proofs.Common.{◌≡◌, ℕ, ◌+◌, ◌≤◌, None, List, [], ◌∷◌, length, replicate, refl, sym, arith, subst}
 use Rattle.std.proofs.lemmas.List.{length-replicate}
 use Rattle.pb_text.specs.declared.quantity.Quantity.TheVariants as quantity
 use Rattle.pb_text.specs.declared.token.Token.{Token}
@@ -8,7 +7,6 @@ use Rattle.pb_text.specs.declared.token.Mark.TheVariants as marks
 use Rattle.pb_text.specs.declared.token.Key.TheVariants as keys
 use Rattle.pb_text.specs.Tokens.{IsName}
 use Rattle.pb_syntax.specs.declared.tree.RoleText.{RoleText}
-use Rattle.pb_syntax.specs.Form.{done, many}
 use Rattle.pb_syntax.specs.Tree.{PlainFile}
 use Rattle.pb_syntax.specs.Grammar.{role, comma_role, roles, block, file, IsFile}
 use Rattle.pb_parse.specs.declared.limits.Counts.{Counts}
@@ -16,9 +14,9 @@ use Rattle.pb_parse.specs.declared.limits.Behind.{Behind}
 use Rattle.pb_parse.specs.declared.limits.Behind.TheVariants as behind
 use Rattle.pb_parse.specs.declared.limits.Sort.{Sort}
 use Rattle.pb_parse.specs.declared.limits.Sort.TheVariants.{LeftBrace, RightBrace, Semicolon, LeftBracket, Dots, ElementType, Role, Choice, Or, Statement, Name, Number, Other}
-use Rattle.pb_parse.specs.Limits.{sort_of, full, counted, sort_passed, name_passed, name_counted, counts_next, counts_from, at_start}
+use Rattle.pb_parse.specs.Limits.{sort_of, counted, sort_passed, name_passed, name_counted, counts_next, counts_from, at_start}
 use Rattle.pb_accepted.proofs.Bools.{not_full}
-use Rattle.pb_accepted.proofs.Counted.{AreFine, Does, co, IsInside, after, done_does, weaker, many_do, ◌>>>◌, ◌>>=◌}
+use Rattle.pb_accepted.proofs.Counted.{AreFine, Does, co, IsInside, after, done_does, many_do, ◌>>>◌, ◌>>=◌}
 use Rattle.pb_accepted.proofs.Tokens.{mark_step, key_step, name_step, number_step}
 use Rattle.pb_accepted.proofs.Forms.{IsTop, top_quiet, role_range_quiet}
 use Rattle.pb_accepted.proofs.Measures.{texts_in, tall_in, AreWell}

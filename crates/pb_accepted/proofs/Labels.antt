@@ -1,16 +1,14 @@
 -- The labels of a file in its core: each once, with its payload.
-use Rattle.std.proofs.Common.{◌≡◌, ℕ, zero, suc, ◌+◌, ◌≤◌, Bool, true, false, ◌||◌, ◌&&◌, if◌then◌else◌, List, [], ◌∷◌, ◌++◌, length, map, get_or, refl, sym, ap, subst, ◌∙◌, arith}
+use Rattle.std.proofs.Common.{◌≡◌, ◌+◌, ◌≤◌, Bool, true, false, ◌||◌, if◌then◌else◌, List, [], ◌∷◌, ◌++◌, length, map, refl, sym, ap, subst, ◌∙◌, arith}
 use Rattle.std.specs.Prelude.{All}
 use Rattle.std.proofs.lemmas.List.{length-append}
 use Rattle.std.proofs.lemmas.List.Elements.{All-push, All-nil}
 use Rattle.pb_text.specs.Tokens.{IsName}
 use Rattle.pb_syntax.specs.declared.core_label.CoreLabel.{CoreLabel}
-use Rattle.pb_syntax.specs.declared.tree.Payload.{Payload}
-use Rattle.pb_syntax.specs.declared.tree.Payload.TheVariants.{Unit as Signal, Int32, Uint32}
 use Rattle.pb_syntax.specs.Tree.{PlainStatement, message, foreach, loop, again, choice, compute, barrier, broadcast, reduce, allreduce, PlainStatements, nothing, more, PlainBranches, no_branch, branch}
 use Rattle.pb_core.specs.Names.{Name, same, is_named}
-use Rattle.pb_core.specs.FileRules.{Labelled, labels_at, labels_in, labels_among, payload_eq, first_payload, mislabelled}
-use Rattle.pb_core.specs.Meaning.{position_of, has_label, label_names, labels_after}
+use Rattle.pb_core.specs.FileRules.{Labelled, labels_at, labels_in, labels_among}
+use Rattle.pb_core.specs.Meaning.{has_label, labels_after}
 use Rattle.pb_local.specs.WellMade.{IsPayload, IsLabelRow, AreLabels}
 use Rattle.pb_accepted.proofs.Words.{named}
 use Rattle.pb_accepted.proofs.Measures.{texts_at, texts_in, texts_among, IsWell, AreWell, AreWellAmong}

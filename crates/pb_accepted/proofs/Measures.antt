@@ -1,5 +1,5 @@
 -- How many statements a file has, how many braces are open in it, and what the grammar and the limits say of its names, payloads and branches.
-use Rattle.std.proofs.Common.{◌≡◌, ℕ, suc, ◌+◌, ◌≤◌, max}
+use Rattle.std.proofs.Common.{ℕ, ◌+◌, ◌≤◌, max}
 use Rattle.pb_text.specs.Tokens.{IsName}
 use Rattle.pb_syntax.specs.Tree.{PlainStatement, message, foreach, loop, again, choice, compute, barrier, broadcast, reduce, allreduce, PlainStatements, nothing, more, PlainBranches, no_branch, branch}
 use Rattle.pb_local.specs.WellMade.{IsPayload}

@@ -1,5 +1,5 @@
 -- The roles of a file in its core: each once, with an index for every N, and a size that tells N.
-use Rattle.std.proofs.Common.{◌≡◌, ◌≢◌, ℕ, zero, suc, ◌≤◌, ℤ, pos, negsuc, ◌+ℤ◌, ◌-ℤ◌, ◌≤ℤ◌, int_le, Bool, true, false, ◌||◌, ◌&&◌, nat_eq, nat_lt, if◌then◌else◌, ◌⊎◌, inl, inr, Option, Some, None, List, [], ◌∷◌, ◌++◌, length, map, refl, sym, ap, ap₂, subst, ◌∙◌, arith}
+use Rattle.std.proofs.Common.{◌≡◌, ◌≢◌, ℕ, zero, suc, ◌≤◌, ℤ, pos, negsuc, ◌+ℤ◌, ◌-ℤ◌, ◌≤ℤ◌, int_le, Bool, true, false, ◌||◌, ◌&&◌, nat_lt, if◌then◌else◌, ◌⊎◌, inl, inr, Option, Some, None, List, [], ◌∷◌, length, map, refl, sym, ap, ap₂, subst, ◌∙◌, arith}
 use Rattle.std.specs.Prelude.{All, Contains, IsTrue}
 use Rattle.std.proofs.lemmas.Bool.Decides.{nat_tests}
 use Rattle.std.proofs.lemmas.Int.{ints}
@@ -19,13 +19,12 @@ use Rattle.pb_syntax.specs.Tree.{PlainFile}
 use Rattle.pb_core.specs.declared.protocol.CoreRole.{CoreRole}
 use Rattle.pb_core.specs.Tree.{Mark}
 use Rattle.pb_core.specs.Names.{Name, same, is_named, a_role, declared, Visit, no_scope, range_visits, role_visits, roles_visits}
-use Rattle.pb_core.specs.FileRules.{role_names, is_visited, growth, role_growth, total_growth, is_below, is_just, broken_5}
+use Rattle.pb_core.specs.FileRules.{role_names, growth, role_growth, total_growth, is_below, is_just, broken_5}
 use Rattle.pb_core.specs.Meaning.{lin_of, role_of, roles_of, high_of, meaning}
 use Rattle.pb_core.specs.Plain.{Protocol}
 use Rattle.pb_core.specs.Rules.{is_empty, empty_roles, nobody, Breach, broken_6, breaches}
 use Rattle.pb_core.specs.Sound.{is_small, is_over_n, is_bound, are_roles}
-use Rattle.pb_core.specs.Verdict.{IsIn, IsUpTo, Broken, KeepsAll}
-use Rattle.pb_local.specs.declared.tables.Role.{Role}
+use Rattle.pb_core.specs.Verdict.{IsIn, IsUpTo, KeepsAll}
 use Rattle.pb_local.specs.Names.{is_name}
 use Rattle.pb_local.specs.Ranks.{Sum, factor, no_ranks, size_with, with_role, ranks_of}
 use Rattle.pb_local.specs.WellMade.{IsInRange, IsRange, IsUpperEnd, IsSingle, IsRole}

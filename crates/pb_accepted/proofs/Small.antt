@@ -1,10 +1,10 @@
 -- How large the text of a file's core may be.
-use Rattle.std.proofs.Common.{◌≡◌, ℕ, suc, ◌+◌, ◌*◌, ◌≤◌, max, List, [], ◌∷◌, arith}
+use Rattle.std.proofs.Common.{ℕ, suc, ◌+◌, ◌*◌, ◌≤◌, List, [], ◌∷◌, arith}
 use Rattle.pb_text.specs.declared.place.Spot.{Spot}
 use Rattle.pb_syntax.specs.declared.tree.IndexText.{IndexText}
 use Rattle.pb_syntax.specs.declared.tree.IndexText.TheVariants.{Zero, At, Bind}
 use Rattle.pb_syntax.specs.declared.tree.End.{End}
-use Rattle.pb_syntax.specs.Tree.{PlainStatement, message, foreach, loop, again, choice, compute, barrier, broadcast, reduce, allreduce, PlainStatements, nothing, more, PlainBranches, no_branch, branch, PlainFile}
+use Rattle.pb_syntax.specs.Tree.{PlainStatement, message, foreach, loop, again, choice, compute, barrier, broadcast, reduce, allreduce, PlainStatements, nothing, more, PlainBranches, no_branch, branch}
 use Rattle.pb_core.specs.Tree.{StmtTree}
 use Rattle.pb_core.specs.Meaning.{Table, Open, with_sender, message_of, bound_message, stmts_at, blocks_at, stmts_in, blocks_in, stmt_of, block_of, branches_of, table_of}
 use Rattle.pb_shape.specs.Sizes.{room, room_all, room_among, room_each, depth, depth_all, depth_among}

@@ -1,21 +1,18 @@
 -- What each statement and each block reads.
-use Rattle.std.proofs.Common.{◌≡◌, ℕ, zero, suc, ◌+◌, ◌-◌, ◌<◌, ◌≤◌, Bool, true, false, nat_le, if◌then◌else◌, max, Some, None, List, [], ◌∷◌, length, refl, sym, ap, ap₂, ◌∙◌, arith, subst}
+use Rattle.std.proofs.Common.{◌≡◌, ℕ, zero, suc, ◌+◌, ◌-◌, ◌<◌, ◌≤◌, List, [], ◌∷◌, length, refl, sym, ap, ap₂, ◌∙◌, arith, subst}
 use Rattle.std.specs.Prelude.{slice_index, slice_set}
-use Rattle.std.proofs.lemmas.Bool.Decides.{nat_tests}
 use Rattle.std.proofs.lemmas.List.{get_or-set_same, get_or-set_other, length-set}
-use Rattle.pb_text.specs.declared.quantity.Quantity.{Quantity}
 use Rattle.pb_text.specs.declared.quantity.Quantity.TheVariants as quantity
 use Rattle.pb_text.specs.declared.token.Mark.TheVariants as marks
 use Rattle.pb_text.specs.declared.token.Key.TheVariants as keys
-use Rattle.pb_syntax.specs.Form.{Form, done, many}
-use Rattle.pb_syntax.specs.Tree.{PlainStatement, PlainStatements, nothing, more, PlainBlock, statements_of, branches_of}
+use Rattle.pb_syntax.specs.Form.{Form}
+use Rattle.pb_syntax.specs.Tree.{PlainStatement, PlainStatements, more, PlainBlock, statements_of, branches_of}
 use Rattle.pb_syntax.specs.Grammar.{message_text, item_message, compute_text, collective, and_semicolon, braces, item, foreach_text, rec_text, continue_text, or_block, choice_text, statement, block}
 use Rattle.pb_parse.specs.declared.limits.Counts.{Counts}
 use Rattle.pb_parse.specs.declared.limits.Behind.{Behind}
 use Rattle.pb_parse.specs.declared.limits.Behind.TheVariants as behind
-use Rattle.pb_parse.specs.Limits.{full}
 use Rattle.pb_accepted.proofs.Bools.{not_full}
-use Rattle.pb_accepted.proofs.Counted.{Does, Quiet, co, IsInside, after, done_does, weaker, many_do, ◌>>>◌, ◌>>=◌, ◌or_does◌}
+use Rattle.pb_accepted.proofs.Counted.{Does, co, after, done_does, weaker, many_do, ◌>>>◌, ◌>>=◌, ◌or_does◌}
 use Rattle.pb_accepted.proofs.Tokens.{mark_step, key_step, name_step, label_step}
 use Rattle.pb_accepted.proofs.Forms.{range_quiet, payload_quiet, op_quiet, plain_end_quiet, any_end_quiet, end_beside_quiet}
 use Rattle.pb_accepted.proofs.Measures.{texts_at, texts_in, texts_among, tall_at, tall_in, tall_among, branch_count, IsWell, AreWell, AreWellAmong}
@@ -142,20 +139,23 @@ chosen : {d : ℕ} {c c1 c2 c3 : Counts} (first second : PlainBlock) (others : L
     → Moved d c c3 (texts_among (branches_of (first ∷ second ∷ others))) × ((2 ≤ branch_count (branches_of (first ∷ second ∷ others))) × ((branch_count (branches_of (first ∷ second ∷ others)) ≤ 64)
     × (AreWellAmong (branches_of (first ∷ second ∷ others)) × (d + (1 + tall_among (branches_of (first ∷ second ∷ others))) ≤ 64))))
 chosen first second others m one f p q = (
-    record { statements = omega (arith, m.statements, p.moved.statements, q.moved.statements); below = λ j h. q.moved.below j h ∙ (p.moved.below j h ∙ m.below j (omega (arith, h))) },
-    (omega arith, (omega (arith, one, p.count, q.count, q.few p.few), ((f.0, (p.fits.0, q.well)), omega (arith, f.1, p.fits.1, q.tall (omega (arith, f.1)))))))
+  record { statements = omega (arith, m.statements, p.moved.statements, q.moved.statements); below = λ j h. q.moved.below j h ∙ (p.moved.below j h ∙ m.below j (omega (arith, h))) },
+  (omega arith, (omega (arith, one, p.count, q.count, q.few p.few), ((f.0, (p.fits.0, q.well)), omega (arith, f.1, p.fits.1, q.tall (omega (arith, f.1)))))),
+)
 
 module _ {d : ℕ} (inner : Form PlainBlock) (holds : (s1 r1 : ℕ) (bs1 : List ℕ) (l : Behind) → length bs1 ≡ 65 → Does (co d s1 r1 bs1 l) inner (Blocked d (co d s1 r1 bs1 l))) where
   or_at : d ≤ 64 → (s1 r1 : ℕ) (bs1 : List ℕ) → length bs1 ≡ 65 → Does (co d s1 r1 bs1 behind.Boundary) (or_block inner) (λ c1 b. IsAt d c1 × Branched d (co d s1 r1 bs1 behind.Boundary) c1 b)
   or_at few s1 r1 bs1 long1 =
       key_step keys.Or >>> λ q passes. weaker (holds s1 r1 (slice_set bs1 d (slice_index bs1 d + 1)) behind.Other (length-set bs1 d (slice_index bs1 d + 1) ∙ long1)) (λ c1 b g.
-      let one : slice_index c1.branches d ≡ slice_index bs1 d + 1 = g.1.0.below d (omega arith) ∙ get_or-set_same bs1 d (slice_index bs1 d + 1) 0 (omega (arith, few, long1)) in
-      (g.0, record {
-        moved = record { statements = g.1.0.statements; below = λ j h. g.1.0.below j (omega (arith, h)) ∙ get_or-set_other bs1 d j (slice_index bs1 d + 1) 0 (λ e. omega (arith, e, h)) };
-        count = one;
-        few = omega (arith, one, not_full 64 (slice_index bs1 d) quantity.Branches passes);
-        fits = g.1.1;
-      }))
+      let one : slice_index c1.branches d ≡ slice_index bs1 d + 1 = g.1.0.below d (omega arith) ∙ get_or-set_same bs1 d (slice_index bs1 d + 1) 0 (omega (arith, few, long1)) in (
+        g.0,
+        record {
+          moved = record { statements = g.1.0.statements; below = λ j h. g.1.0.below j (omega (arith, h)) ∙ get_or-set_other bs1 d j (slice_index bs1 d + 1) 0 (λ e. omega (arith, e, h)) };
+          count = one;
+          few = omega (arith, one, not_full 64 (slice_index bs1 d) quantity.Branches passes);
+          fits = g.1.1;
+        },
+      ))
 
   or_does_so : d ≤ 64 → (c : Counts) → IsAt d c → Does c (or_block inner) (λ c1 b. IsAt d c1 × Branched d c c1 b)
   or_does_so few c h = subst (λ (c1 : Counts). Does c1 (or_block inner) (λ c2 b. IsAt d c2 × Branched d c1 c2 b)) (sym (at_co d c h)) (or_at few c.statements c.roles c.branches h.length)
@@ -181,8 +181,13 @@ module _ {d s r : ℕ} {bs : List ℕ} (long : length bs ≡ 65) where
         after (many_do {good = Branched d} {all = Others d} {from = IsAt d} (or_does_so inner holds few) (λ c h. none_other) (λ c c3 c4 b3 bs3 p q. one_other p q) c2 g2.0) (λ c3 bs3 g3.
         let one : slice_index c1.branches d ≡ 1 = g.1.0.below d (omega arith) ∙ get_or-set_same bs d 1 0 (omega (arith, few, long)) in
         let all = chosen b b2 bs3 g.1.0 one g.1.1 g2.1 g3.1 in
-        done_does _ (g3.0, (record { statements = omega (arith, all.0.statements); below = λ j h. all.0.below j h ∙ get_or-set_other bs d j 1 0 (λ e. omega (arith, e, h)) },
-        ((named, (all.1.0, (all.1.1.0, all.1.1.1.0))), all.1.1.1.1))))))
+        done_does _ (
+          g3.0,
+          (
+            record { statements = omega (arith, all.0.statements); below = λ j h. all.0.below j h ∙ get_or-set_other bs d j 1 0 (λ e. omega (arith, e, h)) },
+            ((named, (all.1.0, (all.1.1.0, all.1.1.1.0))), all.1.1.1.1),
+          ),
+        ))))
 
     statement_does : d ≤ 64 → Does (co d s r bs behind.Boundary) (statement inner) (Stated d (co d s r bs behind.Boundary))
     statement_does few =

@@ -1,15 +1,13 @@
 -- The tables of an accepted file's core are as a text wants them.
-use Rattle.std.proofs.Common.{◌≡◌, ℕ, suc, ◌≤◌, Bool, true, false, ◌&&◌, nat_le, List, [], ◌∷◌, ◌++◌, length, map, refl, sym, ap, subst, ◌∙◌, arith}
-use Rattle.std.proofs.lemmas.Bool.Decides.{nat_tests}
+use Rattle.std.proofs.Common.{◌≡◌, suc, true, false, ◌&&◌, nat_le, List, [], ◌∷◌, ◌++◌, length, map, refl, sym, ap, subst, arith}
 use Rattle.pb_syntax.specs.declared.tree.RoleText.{RoleText}
 use Rattle.pb_syntax.specs.Tree.{PlainFile}
-use Rattle.pb_core.specs.Names.{Name, Kind, the_constant, the_protocol, declared, no_scope, Visit, roles_visits, block_visits, visits}
+use Rattle.pb_core.specs.Names.{Name, Kind, no_scope, roles_visits, block_visits, visits}
 use Rattle.pb_core.specs.FileRules.{role_names, labels_in, has_other_kind}
-use Rattle.pb_core.specs.Meaning.{kernels_in, roles_of, kernels_of, labels_of, meaning}
+use Rattle.pb_core.specs.Meaning.{kernels_in, roles_of, kernels_of, meaning}
 use Rattle.pb_core.specs.Sound.{is_range, are_roles, is_block, rows_of, is_sound}
 use Rattle.pb_core.specs.Verdict.{IsAccepted}
 use Rattle.pb_parse.specs.Limits.{at_start}
-use Rattle.pb_parsed.specs.Laws.{IsTreeOf}
 use Rattle.pb_parsed.proofs.Sound.{parsed_is_sound}
 use Rattle.pb_local.specs.WellMade.{AreRoles}
 use Rattle.pb_shape.specs.Shape as S

@@ -1,5 +1,5 @@
 -- The names that a text's tokens have are names of a text to be printed.
-use Rattle.std.proofs.Common.{◌≡◌, ◌≢◌, ℕ, suc, ◌<◌, ◌≤◌, Bool, true, false, ◌||◌, ◌&&◌, not, nat_le, nat_lt, List, [], ◌∷◌, length, take, drop, map, get_or, Option, None, Some, if◌then◌else◌, refl, sym, ap, subst, ◌∙◌, arith}
+use Rattle.std.proofs.Common.{◌≡◌, ℕ, suc, ◌<◌, ◌≤◌, Bool, true, false, ◌||◌, nat_le, nat_lt, List, [], ◌∷◌, length, take, drop, map, get_or, Option, None, Some, if◌then◌else◌, refl, sym, subst, ◌∙◌, arith}
 use Rattle.std.specs.Prelude.{codes, IsTrue}
 use Rattle.std.specs.Char.{is_ascii_digit}
 use Rattle.std.specs.Cmp.Lexicographic.{pointwise}
@@ -13,12 +13,12 @@ use Rattle.pb_text.specs.declared.token.Token.{Token}
 use Rattle.pb_text.specs.declared.token.Key.{Key}
 use Rattle.pb_text.specs.declared.token.Mark.{Mark}
 use Rattle.pb_text.specs.Spellings.{begins_with, key_of, keys, key_spelling, mark_at}
-use Rattle.pb_text.specs.Lexemes.{Lexeme, nothing, gap, token, bad, lexeme, lexeme_of, begins_word, goes_on_word, is_blank, word, word_token, closed, close_of, number, mark_token, value_from, line_comment}
+use Rattle.pb_text.specs.Lexemes.{Lexeme, nothing, gap, token, bad, lexeme, begins_word, goes_on_word, is_blank, word, word_token, closed, close_of, number, mark_token, value_from}
 use Rattle.pb_text.specs.Tokens.{Lexes, done, skip, read, IsName, IsSoundKind}
 use Rattle.pb_lex.proofs.Naming as naming
 use Rattle.pb_parse.specs.declared.limits.Counts.{Counts}
 use Rattle.pb_parse.specs.Limits.{NonePasses, counts_next}
-use Rattle.pb_local.specs.Names.{is_letter, is_digit, is_word, is_keyword, keywords, is_name}
+use Rattle.pb_local.specs.Names.{is_letter, is_digit, is_word, is_keyword, is_name}
 use Rattle.pb_accepted.proofs.Bools.{both, differ, at_most}
 use Rattle.pb_accepted.proofs.Counted.{AreFine}
 

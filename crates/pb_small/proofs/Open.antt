@@ -1,5 +1,5 @@
 -- How many braces are open behind each line of a program's statements.
-use Rattle.std.proofs.Common.{◌≡◌, ℕ, zero, suc, ◌+◌, ◌-◌, ◌≤◌, Bool, true, false, if◌then◌else◌, max, List, [], ◌∷◌, ◌++◌, take, arith}
+use Rattle.std.proofs.Common.{◌≡◌, ℕ, zero, suc, ◌+◌, ◌-◌, ◌≤◌, Bool, true, false, if◌then◌else◌, List, [], ◌∷◌, ◌++◌, take, arith}
 use Rattle.pb_affine.specs.declared.guard.Guard.{Guard}
 use Rattle.pb_local.specs.declared.stmt.Peer.{Peer}
 use Rattle.pb_local.specs.declared.stmt.Relay.{Relay}
@@ -7,7 +7,7 @@ use Rattle.pb_local.specs.declared.stmt.Test.{Test}
 use Rattle.pb_local.specs.Tree.{Code, when, for_each, own, loop, again, choice, send, recv, run, barrier, broadcast, reduce, allreduce, Codes, nothing, more, Parts, no_part, part, Program}
 use Rattle.pb_local.specs.WellMade.{Scope, outermost, behind, in_loop, loops_at, loops_in}
 use Rattle.pb_ctree.specs.Lines.{Line, line, makes, takes}
-use Rattle.pb_ctree.specs.Small.{outgoing, incoming}
+use Rattle.pb_ctree.specs.Small.{incoming}
 use Rattle.pb_ctree.specs.Rules.{is_label, is_wordy}
 use Rattle.pb_ctree.specs.Spelling.{relay_lines, probe_lines, next_tests, test_lines, abort_lines, told_lines, spelled, spelled_all, spelled_other, spelled_parts}
 use Rattle.pb_cmain.specs.Marks.{counted, opens, closes}

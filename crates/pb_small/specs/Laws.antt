@@ -1,5 +1,5 @@
 -- Which programs keep the limits of a text.
-use Rattle.std.specs.Prelude.{ℕ, ◌≤◌}
+use Rattle.std.specs.Prelude.{◌≤◌}
 use Rattle.pb_local.specs.Tree.{Program, size_all}
 use Rattle.pb_cread.specs.Limits.{KeepsLimits}
 use Rattle.pb_shape.specs.Sizes.{braces_all}
