@@ -43,13 +43,13 @@ use Rattle.pb_local.proofs.Moves.{move_is}
 use Rattle.pb_shape.specs.Shape as S
 use Rattle.pb_shape.specs.Shape.{Here, inside, Around, takers, alone, told_by, peer_of, is_end, is_told, guards_of, Names, Tests, Relays, scope_of, One, Shape, Shapes, number_at}
 use Rattle.pb_shape.specs.Straight.{IsVariable, at_todo, IsOpenTo, IsEnd}
-use Rattle.pb_ranks.proofs.Stacks.{weight, weight_pushed, all, me_rank, held, flat, coded, IsAround, IsMadeIn, Sits, Stands, Sim, block}
-use Rattle.pb_ranks.proofs.Fronts.{debt, Budget, Rel, stands, Front, acts, asks, ReadTo, ProbeTo, DoesTo}
-use Rattle.pb_ranks.proofs.Pieces.{Left, one_leaves}
-use Rattle.pb_ranks.proofs.Steps.{Given, Ahead, one_skips, one_enters, told_front, IsFound, plainly, by_index}
-use Rattle.pb_ranks.proofs.Blocks.{Over, made_later}
-use Rattle.pb_ranks.proofs.Branches.{tree_at, part_at, shape_at, size_at, fine_at, simple_at, MadeAt, made_at, IsEntered, entered_is, branch_is, keeps_at, counts_are, arm_is, FoundArm, found_arm, one_branch, IsToldBy, told_by_one}
-use Rattle.pb_ranks.proofs.Tells.{tested_is, relays_fit, source_made}
+use Rattle.pb_follow.proofs.Stacks.{weight, weight_pushed, all, me_rank, held, flat, coded, IsAround, IsMadeIn, Sits, Stands, Sim, block}
+use Rattle.pb_follow.proofs.Fronts.{debt, Budget, Rel, stands, Front, acts, asks, ReadTo, ProbeTo, DoesTo}
+use Rattle.pb_follow.proofs.Pieces.{Left, one_leaves}
+use Rattle.pb_follow.proofs.Steps.{Given, Ahead, one_skips, one_enters, told_front, IsFound, plainly, by_index}
+use Rattle.pb_follow.proofs.Blocks.{Over, made_later}
+use Rattle.pb_follow.proofs.Branches.{tree_at, part_at, shape_at, size_at, fine_at, simple_at, MadeAt, made_at, IsEntered, entered_is, branch_is, keeps_at, counts_are, arm_is, FoundArm, found_arm, one_branch, IsToldBy, told_by_one}
+use Rattle.pb_follow.proofs.Tells.{tested_is, relays_fit, source_made}
 
 module _ (p : Protocol) (l : Program) (n : ℤ) (me : Seat) (g : Given p l n me) where
   module _ (h : Here) (a : Around) (m : Mark) (kern : ℕ) (from : CoreEnd) (bs : BranchTrees) (rest : BlockTree) (who : Guard) (relays : List Relay) (tests : List Test) (parts : Parts) (tail codes : Codes) where

@@ -19,7 +19,7 @@ use Rattle.pb_shape.specs.Shape.{Around}
 use Rattle.pb_shape.specs.Straight.{IsVariable, at_todo}
 use Rattle.pb_shape.specs.Ways as V
 use Rattle.pb_shape.specs.Ways.{Way}
-use Rattle.pb_ranks.proofs.Stacks.{weight, all, Sim}
+use Rattle.pb_follow.proofs.Stacks.{weight, all, Sim}
 
 -- ---- straight code of an endpoint
 

@@ -12,7 +12,7 @@ use Rattle.pb_local.specs.Ranks.{Seat}
 use Rattle.pb_local.specs.Tree.{Program}
 use Rattle.pb_local.specs.Machine.{Rank}
 use Rattle.pb_local.specs.Family.{most_silent}
-use Rattle.pb_ranks.proofs.Fronts.{down, Rel, QuietTo, DoesTo, ReadTo, ProbeTo, Front, over, quiets, acts, asks}
+use Rattle.pb_follow.proofs.Fronts.{down, Rel, QuietTo, DoesTo, ReadTo, ProbeTo, Front, over, quiets, acts, asks}
 
 -- the endpoint's machine, which is lost where it goes back twice without an action between
 abbrev pub up : Machine (Once (List Part))

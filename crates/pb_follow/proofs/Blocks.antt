@@ -27,11 +27,11 @@ use Rattle.pb_shape.specs.Shape as S
 use Rattle.pb_shape.specs.Shape.{Here, inside, Around, in_loop, number_at, takers, alone, scope_of, One, Piece, Shape}
 use Rattle.pb_shape.specs.Straight.{IsVariable, at_todo, IsOpenTo, AreFine}
 use Rattle.pb_shape.specs.Ways.{mine}
-use Rattle.pb_ranks.proofs.Stacks.{weight, weight_pushed, all, me_rank, held, flat, coded, IsAround, IsMadeIn, Sits, Stands, IsFresh, Sim, body, Back, go_back}
-use Rattle.pb_ranks.proofs.Fronts.{laid, debt, Budget, Rel, stands, Front, quiets}
-use Rattle.pb_ranks.proofs.Chains.{straight_all, piece_code, piece_keeps}
-use Rattle.pb_ranks.proofs.Pieces.{Left, one_leaves, piece_leaves}
-use Rattle.pb_ranks.proofs.Steps.{Given, Ahead, piece_front, one_skips, one_enters}
+use Rattle.pb_follow.proofs.Stacks.{weight, weight_pushed, all, me_rank, held, flat, coded, IsAround, IsMadeIn, Sits, Stands, IsFresh, Sim, body, Back, go_back}
+use Rattle.pb_follow.proofs.Fronts.{laid, debt, Budget, Rel, stands, Front, quiets}
+use Rattle.pb_follow.proofs.Chains.{straight_all, piece_code, piece_keeps}
+use Rattle.pb_follow.proofs.Pieces.{Left, one_leaves, piece_leaves}
+use Rattle.pb_follow.proofs.Steps.{Given, Ahead, piece_front, one_skips, one_enters}
 
 -- what a block's code stands over: the endpoint's stack below, and what the text has still to do behind
 pub record Over (p : Protocol) (l : Program) (n : ℤ) (me : Seat) (a : Around) (o : Option Code) (K : List Part) (t : Todo) : Type 0 where

@@ -16,7 +16,7 @@ use Rattle.pb_local.specs.Tree.{Codes}
 use Rattle.pb_shape.specs.Shape as S
 use Rattle.pb_shape.specs.Shape.{Scope, Here, Piece}
 use Rattle.pb_shape.specs.Ways.{mine}
-use Rattle.pb_ranks.proofs.Fronts.{AreStraight, laid}
+use Rattle.pb_follow.proofs.Fronts.{AreStraight, laid}
 
 -- ---- what a rank does of straight statements is no choice
 

@@ -29,16 +29,16 @@ use Rattle.pb_shape.specs.Shape as S
 use Rattle.pb_shape.specs.Shape.{Here, Around, outermost, takers, alone, told_by, peer_of, is_end, Names, Tests, Relays, scope_of, One, Piece, Shape, Shapes, number_at, inside}
 use Rattle.pb_shape.specs.Straight.{IsVariable, at_todo}
 use Rattle.pb_shape.specs.Ways.{mine}
-use Rattle.pb_ranks.proofs.Stacks.{weight, weight_pushed, all, me_rank, held, flat, coded, Sits, Stands, Sim, empty}
-use Rattle.pb_ranks.proofs.Stacks as Y
-use Rattle.pb_ranks.proofs.Fronts.{AreStraight, laid, down, debt, Budget, Near, Rel, moves, after, Front, same_front}
-use Rattle.pb_ranks.proofs.Fronts as F
-use Rattle.pb_ranks.proofs.Simulated.{up, simulated}
-use Rattle.pb_ranks.proofs.Chains.{straight_all, piece_code}
-use Rattle.pb_ranks.proofs.Pieces.{Left, one_leaves, piece_leaves}
-use Rattle.pb_ranks.proofs.Steps.{Given, Ahead, quiet_way, act_way, piece_front, one_skips, one_enters, told_front, IsFound}
-use Rattle.pb_ranks.proofs.Blocks.{Over, sits_piece, sits_behind_loop, made_later, end_front, loop_front, again_front}
-use Rattle.pb_ranks.proofs.Choices.{IsThere, Room, told_size, choose_front, ask_front}
+use Rattle.pb_follow.proofs.Stacks.{weight, weight_pushed, all, me_rank, held, flat, coded, Sits, Stands, Sim, empty}
+use Rattle.pb_follow.proofs.Stacks as Y
+use Rattle.pb_follow.proofs.Fronts.{AreStraight, laid, down, debt, Budget, Near, Rel, moves, after, Front, same_front}
+use Rattle.pb_follow.proofs.Fronts as F
+use Rattle.pb_follow.proofs.Simulated.{up, simulated}
+use Rattle.pb_follow.proofs.Chains.{straight_all, piece_code}
+use Rattle.pb_follow.proofs.Pieces.{Left, one_leaves, piece_leaves}
+use Rattle.pb_follow.proofs.Steps.{Given, Ahead, quiet_way, act_way, piece_front, one_skips, one_enters, told_front, IsFound}
+use Rattle.pb_follow.proofs.Blocks.{Over, sits_piece, sits_behind_loop, made_later, end_front, loop_front, again_front}
+use Rattle.pb_follow.proofs.Choices.{IsThere, Room, told_size, choose_front, ask_front}
 
 module _ (p : Protocol) (l : Program) (n : ℤ) (me : Seat) (g : Given p l n me) where
   -- ---- the end of a loop's body is passed without a step
