@@ -109,6 +109,3 @@ module _ (p : Protocol) (l : Program) (n : ℤ) (me : Seat) where
       rw (back_pushed x number codes (end_of x start inner t), e) (record { around = in_loop (scope_of p) a id x whole; sim = body start id x start loop loop fresh small sim; small = omega (arith, small, weight_pushed start inner (end_of x start inner t)) })
   go_back (body {a = a} {codes = codes} {inner = inner} {t = t} number id x start stands loop fresh small sim) (suc k) lt =
       rw (back_pushed (number_at a.numbers k) number codes (end_of x start inner t), fresh k (omega (arith, lt))) (go_back sim k (omega (arith, lt)))
-
-abbrev pub checked : ℕ
-checked = 0

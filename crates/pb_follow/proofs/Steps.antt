@@ -26,13 +26,13 @@ use Rattle.pb_shape.specs.Shape.{Here, Around, Who, One, there, gone, scope_of, 
 use Rattle.pb_shape.specs.Straight.{IsSeated, IsVariable, at_todo, IsOpenTo, StraightPasses}
 use Rattle.pb_shape.specs.Ways as V
 use Rattle.pb_shape.specs.Ways.{Way, renewed}
+use Rattle.pb_straight.proofs.Fits.{fits_is}
 use Rattle.pb_follow.proofs.Stacks.{weight, weight_pushed, all, me_rank, IsMadeIn, Sim}
 use Rattle.pb_follow.proofs.Fronts.{AreStraight, laid, after, down, debt, Budget, Rel, stands, moves, Front, acts, later, step}
 use Rattle.pb_follow.proofs.Pieces.{Left, one_leaves}
 
-pub variable_fits : (x : ℤ) → IsVariable x → fits x ≡ true
-variable_fits (pos n) h = let u = h.high in lt-ltb n (2 ^ 31) (omega (arith, ints))
-variable_fits (negsuc n) h = let u = h.low in lt-ltb n (2 ^ 31) (omega (arith, ints))
+variable_fits : (x : ℤ) → IsVariable x → fits x ≡ true
+variable_fits x h = let l = h.low in let u = h.high in fits_is x (omega (arith, ints)) (omega (arith, ints))
 
 -- what is known of a rank: it sits in the world, straight code passes, and what it computes fits
 pub record Given (p : Protocol) (l : Program) (n : ℤ) (me : Seat) : Type 0 where

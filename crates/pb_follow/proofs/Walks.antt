@@ -1,5 +1,5 @@
 -- The text of a rank does next what its endpoint does next, and so simulates it.
-use Rattle.std.proofs.Common.{◌≡◌, ◌≤◌, ◌<◌, ℕ, zero, suc, ◌+◌, ◌*◌, ◌==◌, ℤ, pos, Bool, true, false, ◌&&◌, ◌||◌, cond, nat_eq, List, [], ◌∷◌, length, Option, Some, None, refl, sym, ap, ◌∙◌, subst, arith}
+use Rattle.std.proofs.Common.{◌≡◌, ◌≤◌, ◌<◌, ℕ, zero, suc, ◌+◌, ◌*◌, ◌==◌, ℤ, pos, Bool, true, false, ◌&&◌, ◌||◌, cond, nat_eq, List, [], ◌∷◌, length, Option, Some, None, refl, sym, ap, ◌∙◌, subst, true≢false, arith}
 use Rattle.pb_affine.specs.declared.guard.Guard.{Guard}
 use Rattle.pb_world.specs.Actions.{Action}
 use Rattle.pb_world.specs.Machine.{Ended}
@@ -132,16 +132,13 @@ module _ (p : Protocol) (l : Program) (n : ℤ) (me : Seat) (g : Given p l n me)
 
   -- ---- a block
 
-  not_both : true ≡ false → ⊥
-  not_both e = cc
-
   with_code : {k : ℕ} {c : Bool} {y : Rank} {o : Option Code} {K : List Part} (x z : Code) → x ≡ z → Ahead p l n me g k c y (record { body = o; code = z } ∷ K) → Ahead p l n me g k c y (record { body = o; code = x } ∷ K)
   with_code {k = k} {c = c} {y = y} {o = o} {K = K} x z e f = subst (λ q. Ahead p l n me g k c y (record { body = o; code = q } ∷ K)) (sym e) f
 
   pub block_front : {h : Here} {a : Around} {core : BlockTree} {codes : Codes} {o : Option Code} {K : List Part} {t : Todo} (c : Bool) (k number : ℕ) (i : ℤ) → Shape (scope_of p) h a core codes → Sits p l n me h a core codes → Over p l n me a o K t → IsVariable i →
       Budget p l n me c k (pushed number codes t) → Ahead p l n me g k c (at_todo me i (pushed number codes t)) (record { body = o; code = coded p l n me a core } ∷ K)
   block_front c k number i S.none z over near room = end_front p l n me g c k i over near room
-  block_front c k number i (S.unreached nobody) z over near room = absurd (not_both (nobody n i me.role me.index g.seated.within g.seated.is (z.here.at i) (z.here.comes i)))
+  block_front c k number i (S.unreached nobody) z over near room = absurd (true≢false (nobody n i me.role me.index g.seated.within g.seated.is (z.here.at i) (z.here.comes i)))
   block_front {a = a} {codes = codes} {o = o} {K = K} {t = t} c k number i (S.piece {m = m} {s = s} {rest = rest} {tail = tail} piece shape) z over near room =
       let r = me_rank p l n me in
       let both = and_both (has_simple_items s) (have_simple_items rest) z.simple in
