@@ -1,5 +1,5 @@
 -- The branches of a choice: in the core, in the endpoint and in the text.
-use Rattle.std.proofs.Common.{◌≡◌, ◌≤◌, ◌<◌, ℕ, zero, suc, ◌+◌, ◌==◌, ℤ, pos, Bool, true, false, ◌&&◌, ◌||◌, cond, MatchBool, List, [], ◌∷◌, length, Option, Some, None, ◌⊎◌, inl, inr, refl, sym, ap, ◌∙◌, subst, arith}
+use Rattle.std.proofs.Common.{◌≡◌, ◌≤◌, ◌<◌, ℕ, zero, suc, ◌+◌, ◌==◌, ℤ, pos, Bool, true, false, cond, MatchBool, List, ◌∷◌, Some, refl, ap, ◌∙◌, subst, arith}
 use Rattle.std.proofs.lemmas.Bool.Decides.{nat_tests}
 use Rattle.pb_core.specs.declared.protocol.CoreRole.{CoreRole}
 use Rattle.pb_core.specs.Tree as T
@@ -7,16 +7,15 @@ use Rattle.pb_core.specs.Tree.{BlockTree, BranchTrees}
 use Rattle.pb_core.specs.Plain.{Protocol}
 use Rattle.pb_core.specs.Flat.{Block, stop, message, compute, together, choice, looped, again, Branches, no_branch, branch, takes_part, takes_part_among, count, branch_at}
 use Rattle.pb_core.specs.FlatOf.{flat_block, flat_branches}
-use Rattle.pb_core.specs.Outcomes.{firsts, firsts_among, labels_of, is_among}
+use Rattle.pb_core.specs.Outcomes.{firsts, labels_of, is_among}
 use Rattle.pb_core.specs.Run.{Env}
 use Rattle.pb_endpoint.specs.Core.{have_simple_items, branches_have_simple_items}
-use Rattle.pb_endpoint.specs.Endpoint.{Code, Arms, code, arms, count_arms, arm_at, arm_of}
+use Rattle.pb_endpoint.specs.Endpoint.{Code, code, arms, count_arms, arm_at, arm_of}
 use Rattle.pb_endpoint.proofs.Kept.{Receives_first, Receives_each, first_label, first_label_among, Apart, Keeps, Keeps_each}
 use Rattle.pb_endpoint.proofs.Moves.{arm_is as arm_is_branch, among_at}
 use Rattle.pb_endpoint.proofs.Progress.{and_both}
 use Rattle.pb_endpoint.proofs.Branches.{or_left}
-use Rattle.pb_endpoint.proofs.Stacks.{bool_cases}
-use Rattle.pb_local.specs.Tree.{Codes, nothing, more, size_all, size_parts, Parts, no_part, part, Program}
+use Rattle.pb_local.specs.Tree.{Codes, nothing, size_all, size_parts, Parts, no_part, part, Program}
 use Rattle.pb_local.specs.WellMade as W
 use Rattle.pb_local.specs.WellMade.{AreMade, ArePartsMade, count_parts}
 use Rattle.pb_local.specs.Machine.{Todo, pushed, entered}

@@ -1,11 +1,10 @@
 -- The stack of a rank's endpoint beside what its text has still to do.
-use Rattle.std.proofs.Common.{◌≡◌, ◌≤◌, ◌<◌, ℕ, zero, suc, ◌+◌, ◌*◌, ℤ, pos, Bool, true, false, nat_eq, if◌then◌else◌, cond, List, [], ◌∷◌, length, Option, Some, None, refl, sym, ap, ◌∙◌, subst, arith}
+use Rattle.std.proofs.Common.{◌≡◌, ◌≤◌, ◌<◌, ℕ, zero, suc, ◌+◌, ℤ, pos, Bool, true, false, nat_eq, List, [], ◌∷◌, length, Some, None, refl, sym, subst, arith}
 use Rattle.std.proofs.lemmas.Bool.Decides.{nat_tests}
 use Rattle.pb_core.specs.Ranks.{total}
-use Rattle.pb_core.specs.Tree as T
 use Rattle.pb_core.specs.Tree.{BlockTree}
 use Rattle.pb_core.specs.Plain.{Protocol}
-use Rattle.pb_core.specs.Flat.{Block, stop, nth, takes_part}
+use Rattle.pb_core.specs.Flat.{Block, stop, nth}
 use Rattle.pb_core.specs.FlatOf.{flat_block}
 use Rattle.pb_core.specs.Run.{Env, at_rank}
 use Rattle.pb_flat.specs.Seated.{rank}

@@ -1,11 +1,8 @@
 -- The ranks of a program of the shape at their starts, and what they follow.
-use Rattle.std.proofs.Common.{◌≡◌, ◌≤◌, ◌<◌, ℕ, zero, suc, ◌+◌, ◌*◌, ◌++◌, ℤ, pos, Bool, true, false, List, [], ◌∷◌, length, map, None, refl, sym, ap, ◌∙◌, subst, arith}
+use Rattle.std.proofs.Common.{◌≡◌, ◌≤◌, ◌<◌, ℕ, zero, suc, ◌++◌, ℤ, pos, Bool, true, List, [], ◌∷◌, length, map, refl, sym, ap, ◌∙◌, subst, arith}
 use Rattle.std.proofs.lemmas.Int.{ints}
-use Rattle.pb_world.specs.Actions.{Action, Collective}
-use Rattle.pb_world.specs.Counted.{Counted, counted, counted_start}
-use Rattle.pb_world.specs.Family.{Family, Laws}
-use Rattle.pb_world.specs.Theorem.{AllRanks}
-use Rattle.pb_world.specs.Once.{Once, once_start}
+use Rattle.pb_world.specs.Actions.{Action}
+use Rattle.pb_world.specs.Once.{once_start}
 use Rattle.pb_world.specs.Carry.{Simulates}
 use Rattle.pb_world.proofs.CarryLaws.{below}
 use Rattle.pb_core.specs.Collectives.{setting_of}
@@ -17,28 +14,25 @@ use Rattle.pb_core.specs.Rules.{breaches, flat_at}
 use Rattle.pb_core.specs.Sound.{is_sound}
 use Rattle.pb_core.specs.Verdict.{IsIn}
 use Rattle.pb_flat.proofs.Seats.{rank_of_seat}
-use Rattle.pb_endpoint.specs.Core.{IsProper, CoreRanks}
-use Rattle.pb_endpoint.specs.Endpoint.{Part, code, endpoint}
-use Rattle.pb_endpoint.specs.Once.{once_family}
-use Rattle.pb_endpoint.proofs.Kept.{Keeps}
+use Rattle.pb_endpoint.specs.Core.{IsProper}
+use Rattle.pb_endpoint.specs.Endpoint.{endpoint}
 use Rattle.pb_endpoint.proofs.Derive.{obeyed}
 use Rattle.pb_endpoint.proofs.CoreDone.{accepted}
-use Rattle.pb_local.specs.Family.{most_silent, family}
-use Rattle.pb_local.specs.Machine.{Rank, pushed, finished, machine, start}
+use Rattle.pb_local.specs.Family.{most_silent}
+use Rattle.pb_local.specs.Machine.{pushed, finished, machine, start}
 use Rattle.pb_local.specs.Ranks as LR
 use Rattle.pb_local.specs.Ranks.{Seat}
 use Rattle.pb_local.specs.Tree.{Program}
 use Rattle.pb_local.specs.WellMade as W
 use Rattle.pb_local.specs.WellMade.{IsWellMade}
 use Rattle.pb_shape.specs.Shape.{HasShape, everywhere, outermost}
-use Rattle.pb_shape.specs.Straight.{StraightPasses, IsSeated, at_todo}
-use Rattle.pb_shape.specs.Theorem.{sequence_of, DoesRun}
+use Rattle.pb_shape.specs.Straight.{IsSeated, at_todo}
 use Rattle.pb_straight.proofs.Ends.{ends_are_fine}
 use Rattle.pb_straight.proofs.Fits.{guard_fits, guards_fit}
 use Rattle.pb_straight.proofs.Pieces.{straight_passes}
 use Rattle.pb_straight.proofs.Peers.{world, index_is_near, peer_is}
 use Rattle.pb_follow.specs.Follow.{RankFollows}
-use Rattle.pb_follow.proofs.Stacks.{weight_pushed, me_rank, Sim, empty, block}
+use Rattle.pb_follow.proofs.Stacks.{weight_pushed, me_rank, empty, block}
 use Rattle.pb_follow.proofs.Fronts.{Rel, stands}
 use Rattle.pb_follow.proofs.Steps.{Given}
 use Rattle.pb_follow.proofs.Walks.{simulates}
@@ -92,7 +86,8 @@ module _ (numbered : Numbered) (totalled : Totalled) where
     given me seat =
         let size = (world numbered totalled p l n sound shape made within few).size in
         record {
-          passes = straight_passes numbered totalled; seated = seat;
+          passes = straight_passes numbered totalled;
+          seated = seat;
           index = index_is_near numbered totalled p l n sound shape made within few me.role me.index seat.is;
           guards = λ i near gs h. guards_fit l n me i size near gs h;
           guard = λ i near g h. guard_fits l n me i size near g h;
@@ -104,11 +99,14 @@ module _ (numbered : Numbered) (totalled : Totalled) where
     begins me seat =
         let w = weight_pushed 0 l.body finished in
         record {
-          twin = at_todo me (pos 0) (pushed 0 l.body finished); same = refl;
+          twin = at_todo me (pos 0) (pushed 0 l.body finished);
+          same = refl;
           near = stands (block {h = everywhere} {a = outermost} {core = p.body.block} 0 (record {
             shape = shape.body;
             sits = record {
-              fine = ends_are_fine p n sound within keeps; here = record { at = λ i. refl; comes = λ i. refl }; simple = proper.simple;
+              fine = ends_are_fine p n sound within keeps;
+              here = record { at = λ i. refl; comes = λ i. refl };
+              simple = proper.simple;
               around = record { env = []; same = refl; deep = refl; is_held = λ k lt. absurd (omega (arith, lt)) };
               keeps = (obeyed (setting_of p n) (flat_at p n) (accepted p n keeps proper)).keeps;
               made = record { at = W.outermost; made = made.body; below = λ k lt. absurd (omega (arith, lt)) };

@@ -1,19 +1,18 @@
 -- The text of a rank does next what its endpoint does next, and so simulates it.
-use Rattle.std.proofs.Common.{◌≡◌, ◌≤◌, ◌<◌, ℕ, zero, suc, ◌+◌, ◌*◌, ◌==◌, ℤ, pos, Bool, true, false, ◌&&◌, ◌||◌, cond, nat_eq, List, [], ◌∷◌, length, Option, Some, None, refl, sym, ap, ◌∙◌, subst, true≢false, arith}
+use Rattle.std.proofs.Common.{◌≡◌, ◌≤◌, ◌<◌, ℕ, zero, suc, ◌+◌, ◌==◌, ℤ, pos, Bool, true, false, ◌||◌, cond, List, [], ◌∷◌, length, Option, refl, sym, ap, ◌∙◌, subst, true≢false, arith}
 use Rattle.pb_affine.specs.declared.guard.Guard.{Guard}
 use Rattle.pb_world.specs.Actions.{Action}
-use Rattle.pb_world.specs.Machine.{Ended}
 use Rattle.pb_world.specs.Once.{Once}
 use Rattle.pb_world.specs.Carry.{here, Simulates}
 use Rattle.pb_core.specs.declared.tree.CoreEnd.{CoreEnd}
 use Rattle.pb_core.specs.Tree as T
 use Rattle.pb_core.specs.Tree.{Mark, StmtTree, BlockTree, BranchTrees}
 use Rattle.pb_core.specs.Plain.{Protocol}
-use Rattle.pb_core.specs.Flat.{Block, stop, nth, takes_part_among}
+use Rattle.pb_core.specs.Flat.{stop, takes_part_among}
 use Rattle.pb_core.specs.FlatOf.{flat_stmt, flat_branches, rank_of, between}
 use Rattle.pb_core.specs.Outcomes.{firsts_among, source_of}
 use Rattle.pb_endpoint.specs.Core.{has_simple_items, have_simple_items, branches_have_simple_items}
-use Rattle.pb_endpoint.specs.Endpoint.{Code, Part, code, arms, done, choose, told, again}
+use Rattle.pb_endpoint.specs.Endpoint.{Code, Part, arms, done, choose, told, again}
 use Rattle.pb_endpoint.proofs.Progress.{and_both}
 use Rattle.pb_local.specs.declared.stmt.Test.{Test}
 use Rattle.pb_local.specs.declared.stmt.Relay.{Relay}
@@ -36,7 +35,7 @@ use Rattle.pb_follow.proofs.Fronts as F
 use Rattle.pb_follow.proofs.Simulated.{up, simulated}
 use Rattle.pb_follow.proofs.Chains.{straight_all, piece_code}
 use Rattle.pb_follow.proofs.Pieces.{Left, one_leaves, piece_leaves}
-use Rattle.pb_follow.proofs.Steps.{Given, Ahead, quiet_way, act_way, piece_front, one_skips, one_enters, told_front, IsFound}
+use Rattle.pb_follow.proofs.Steps.{Given, Ahead, quiet_way, act_way, piece_front, one_skips, one_enters, told_front}
 use Rattle.pb_follow.proofs.Blocks.{Over, sits_piece, sits_behind_loop, made_later, end_front, loop_front, again_front}
 use Rattle.pb_follow.proofs.Choices.{IsThere, Room, told_size, choose_front, ask_front}
 
@@ -126,7 +125,11 @@ module _ (p : Protocol) (l : Program) (n : ℤ) (me : Seat) (g : Given p l n me)
 
   sits_behind_choice : {h : Here} {a : Around} {m : Mark} {kern : ℕ} {from : CoreEnd} {bs : BranchTrees} {rest : BlockTree} {tail codes : Codes} → (z : Sits p l n me h a (T.more m (T.choice kern from bs) rest) codes) → Left l z.made.at codes tail → Sits p l n me h a rest tail
   sits_behind_choice {a = a} {bs = bs} {rest = rest} {tail = tail} {codes = codes} z left = record {
-    fine = z.fine.1 refl; here = z.here; simple = (and_both (branches_have_simple_items bs) (have_simple_items rest) z.simple).1; around = z.around; keeps = z.keeps.4;
+    fine = z.fine.1 refl;
+    here = z.here;
+    simple = (and_both (branches_have_simple_items bs) (have_simple_items rest) z.simple).1;
+    around = z.around;
+    keeps = z.keeps.4;
     made = made_later p l n me g a codes tail z.made left;
   }
 

@@ -1,13 +1,10 @@
 -- The family of a text, and that of its protocol: the same ranks, answers and collectives.
-use Rattle.std.proofs.Common.{◌≡◌, ℕ, zero, suc, ◌+◌, ◌==◌, ℤ, pos, Bool, cond, nat_lt, get_or, List, [], ◌∷◌, ◌++◌, map, length, refl, sym, ap, ap₂, ◌∙◌, subst}
+use Rattle.std.proofs.Common.{◌≡◌, ℕ, zero, suc, ◌==◌, ℤ, cond, nat_lt, get_or, List, [], ◌∷◌, length, refl, sym, ap, ap₂, ◌∙◌}
 use Rattle.std.proofs.Math.Path.{fun_ext}
-use Rattle.std.proofs.lemmas.List.{length-map}
-use Rattle.pb_affine.specs.Values.{value, range}
 use Rattle.pb_syntax.specs.declared.tree.Payload.{Payload}
 use Rattle.pb_syntax.specs.declared.tree.Payload.TheVariants.{Unit as NoWords, Int32, Uint32}
 use Rattle.pb_syntax.specs.declared.core_label.CoreLabel.{CoreLabel}
 use Rattle.pb_world.specs.Actions.{Action, Choose, Run, Send, Recv, Enter, Leave, Operation, Max, Min, Sum, Collective, Barrier, Broadcast, Reduce, Allreduce}
-use Rattle.pb_core.specs.declared.protocol.CoreRole.{CoreRole}
 use Rattle.pb_core.specs.Collectives as C
 use Rattle.pb_core.specs.Collectives.{setting_of, payload_of}
 use Rattle.pb_core.specs.Ranks as CR
@@ -16,7 +13,6 @@ use Rattle.pb_core.specs.Run.{Setting}
 use Rattle.pb_core.specs.Run as R
 use Rattle.pb_local.specs.Collectives as L
 use Rattle.pb_local.specs.Family as F
-use Rattle.pb_local.specs.Ranks as LR
 use Rattle.pb_local.specs.Tables.{label_at}
 use Rattle.pb_local.specs.Tree.{Program}
 use Rattle.pb_shape.specs.Shape.{HasShape}

@@ -1,43 +1,27 @@
 -- The ranks of a program of the shape do the protocol's run.
-use Rattle.std.proofs.Common.{◌≡◌, ◌≤◌, ◌<◌, ℕ, zero, suc, ◌+◌, ◌*◌, ℤ, pos, Bool, true, false, List, [], ◌∷◌, length, map, None, refl, sym, ap, ◌∙◌, subst, arith}
-use Rattle.std.proofs.lemmas.Int.{ints}
+use Rattle.std.proofs.Common.{◌≡◌, ◌≤◌, ℕ, ℤ, Bool, true, List, [], ap, ◌∙◌, subst}
 use Rattle.pb_world.specs.Actions.{Action, Collective}
 use Rattle.pb_world.specs.Counted.{Counted, counted, counted_start}
 use Rattle.pb_world.specs.Family.{Family, Laws}
-use Rattle.pb_world.specs.Theorem.{AllRanks}
-use Rattle.pb_world.specs.Once.{Once, once_start}
 use Rattle.pb_world.specs.Carry.{lowered}
 use Rattle.pb_world.proofs.CarryLaws.{carried}
 use Rattle.pb_world.proofs.Theorem.{all_ranks}
 use Rattle.pb_core.specs.Collectives.{setting_of}
 use Rattle.pb_core.specs.Laws.{Numbered, Totalled}
 use Rattle.pb_core.specs.Plain.{Protocol}
-use Rattle.pb_core.specs.Ranks as CR
 use Rattle.pb_core.specs.Ranks.{total}
 use Rattle.pb_core.specs.Rules.{breaches, flat_at}
 use Rattle.pb_core.specs.Sound.{is_sound}
 use Rattle.pb_core.specs.Verdict.{IsIn}
-use Rattle.pb_flat.proofs.Seats.{rank_of_seat}
-use Rattle.pb_endpoint.specs.Core.{IsProper, CoreRanks}
-use Rattle.pb_endpoint.specs.Endpoint.{Part, code, endpoint}
+use Rattle.pb_endpoint.specs.Core.{IsProper}
 use Rattle.pb_endpoint.specs.Once.{once_family}
-use Rattle.pb_endpoint.proofs.Kept.{Keeps}
-use Rattle.pb_endpoint.proofs.Derive.{obeyed}
 use Rattle.pb_endpoint.proofs.CoreDone.{core_ranks}
 use Rattle.pb_local.specs.Family.{most_silent, family}
-use Rattle.pb_local.specs.Machine.{Rank, pushed, finished, machine, start}
-use Rattle.pb_local.specs.Ranks as LR
-use Rattle.pb_local.specs.Ranks.{Seat}
+use Rattle.pb_local.specs.Machine.{Rank, machine, start}
 use Rattle.pb_local.specs.Tree.{Program}
-use Rattle.pb_local.specs.WellMade as W
 use Rattle.pb_local.specs.WellMade.{IsWellMade}
-use Rattle.pb_shape.specs.Shape.{HasShape, everywhere, outermost}
-use Rattle.pb_shape.specs.Straight.{StraightPasses, IsSeated, at_todo}
+use Rattle.pb_shape.specs.Shape.{HasShape}
 use Rattle.pb_shape.specs.Theorem.{sequence_of, DoesRun}
-use Rattle.pb_straight.proofs.Ends.{ends_are_fine}
-use Rattle.pb_straight.proofs.Fits.{guard_fits, guards_fit}
-use Rattle.pb_straight.proofs.Pieces.{straight_passes}
-use Rattle.pb_straight.proofs.Peers.{world, index_is_near, peer_is}
 use Rattle.pb_ranks.specs.Ranks.{TextRanks}
 use Rattle.pb_follow.proofs.Fronts.{Rel}
 use Rattle.pb_follow.proofs.Starts.{total_same, me_at, rank_simulates, rank_begins}
