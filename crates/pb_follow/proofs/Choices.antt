@@ -176,9 +176,9 @@ module _ (p : Protocol) (l : Program) (n : ℤ) (me : Seat) (g : Given p l n me)
     abbrev teller_at : ℕ
     teller_at = source_of (firsts_among (held p l n me a) (me_rank p l n me) flats)
 
-    source_at : (x : IsThere) (j : ℤ) (lab : ℕ) → is_told (scope_of p) a bs 0 lab n (pos 0) me.role me.index ≡ true → IsFound p l n me g j relays →
+    source_at : (x : IsThere) (j : ℤ) (lab : ℕ) → (rank_of p.roles n from (pos 0) == me_rank p l n me) ≡ false → is_told (scope_of p) a bs 0 lab n (pos 0) me.role me.index ≡ true → IsFound p l n me g j relays →
         rank p.roles n (N.source_of n me j relays (peer_of from)).role (value (N.source_of n me j relays (peer_of from)).at n j) ≡ teller_at
-    source_at x j lab is_so found = go relays found (x.relayed n me.role me.index 0 lab g.seated.within g.seated.is is_so)
+    source_at x j lab other is_so found = go relays found (x.relayed n me.role me.index 0 lab g.seated.within g.seated.is (sym (end_is_at p.roles n (pos 0) from me.role me.index g.seated.is) ∙ other) is_so)
       where
         go : (rs : List Relay) → IsFound p l n me g j rs →
             rank p.roles n (N.source_of n me me.index rs (peer_of from)).role (value (N.source_of n me me.index rs (peer_of from)).at n me.index) ≡ teller_at →
@@ -226,7 +226,7 @@ module _ (p : Protocol) (l : Program) (n : ℤ) (me : Seat) (g : Given p l n me)
         let first = told_by_one bits r teller_at (total p.roles n) env flats x.sits.keeps.1 x.sits.keeps.3 is_told'.receives in
         let told0 : is_told (scope_of p) a bs 0 first.label n (pos 0) me.role me.index ≡ true = is_told'.labels 0 first.label first.told in
         let source = N.source_of n me j relays (peer_of from) in
-        let source_is = source_at x j first.label told0 found in
+        let source_is = source_at x j first.label other told0 found in
         let seated : is_rank p.roles n source.role (value source.at n j) ≡ true = is_below (seats p.roles n) (record { role = source.role; index = value source.at n j }) ∙ lt-ltb _ _ (subst (λ q. q < total p.roles n) (sym source_is) first.source) in
         let fits = g.peer j near source (source_made l n me j (g.guards j near) relays (peer_of from) made.choice.each_relay made.choice.source) seated in
         let tested : (b lab : ℕ) → is_for_some n me j (guards_of b lab tests) ≡ is_told (scope_of p) a bs b lab n (pos 0) me.role me.index = λ b lab. x.tested b lab n j me.role me.index g.seated.within g.seated.is (x.sits.here.at j) in

@@ -119,7 +119,7 @@ nobody_told : (k m : ℕ) (P : Type 0) → is_told (scope_of rounds) in_round bo
 nobody_told k m P h = (let e : true ≡ false = sym h ∙ told_first k m in cc)
 
 relayed : Relays (scope_of rounds) in_round (end_at 0) both_ways relays
-relayed n role x k m within is = by_rank (λ n role x. is_told (scope_of rounds) in_round both_ways k m n (pos 0) role x ≡ true → rank workers n (source_of n (record { role = role; index = x }) x relays (peer_of (end_at 0))).role (value (source_of n (record { role = role; index = x }) x relays (peer_of (end_at 0))).at n x) ≡ teller (scope_of rounds) in_round both_ways n role x) n role x within is (λ h. nobody_told k m _ h) (λ h. refl) (λ h. refl)
+relayed n role x k m within is = by_rank (λ n role x. is_end (end_at 0) n (pos 0) role x ≡ false → is_told (scope_of rounds) in_round both_ways k m n (pos 0) role x ≡ true → rank workers n (source_of n (record { role = role; index = x }) x relays (peer_of (end_at 0))).role (value (source_of n (record { role = role; index = x }) x relays (peer_of (end_at 0))).at n x) ≡ teller (scope_of rounds) in_round both_ways n role x) n role x within is (λ other h. nobody_told k m _ h) (λ other h. refl) (λ other h. refl)
 
 -- ---- the shape
 
