@@ -22,7 +22,7 @@ arms_count : (held : List Bool) (r : ℕ) (bs : Branches) → count_arms (arms h
 arms_count held r no_branch = refl
 arms_count held r (branch mark b bs) = ap suc (arms_count held r bs)
 
-arm_is : (held : List Bool) (r : ℕ) (bs : Branches) (x : ℕ) → arm_at x (arms held r bs) ≡ code held r (branch_at x bs)
+pub arm_is : (held : List Bool) (r : ℕ) (bs : Branches) (x : ℕ) → arm_at x (arms held r bs) ≡ code held r (branch_at x bs)
 arm_is held r no_branch x = refl
 arm_is held r (branch mark b bs) zero = refl
 arm_is held r (branch mark b bs) (suc x) = arm_is held r bs x
@@ -43,7 +43,7 @@ among_right l [] ys h = h
 among_right l (x ∷ xs) ys h = or_right (x == l) _ (among_right l xs ys h)
 
 -- the labels of a branch are among those of all
-among_at : (held : List Bool) (r : ℕ) (bs : Branches) (x l : ℕ) → is_among l (labels_of (firsts held r (branch_at x bs))) ≡ true → is_among l (labels_of (firsts_among held r bs)) ≡ true
+pub among_at : (held : List Bool) (r : ℕ) (bs : Branches) (x l : ℕ) → is_among l (labels_of (firsts held r (branch_at x bs))) ≡ true → is_among l (labels_of (firsts_among held r bs)) ≡ true
 among_at held r no_branch x l h = h
 among_at held r (branch mark b bs) zero l h = ap (is_among l) (labels_append (firsts held r b) (firsts_among held r bs)) ∙ among_left l (labels_of (firsts held r b)) (labels_of (firsts_among held r bs)) h
 among_at held r (branch mark b bs) (suc x) l h = ap (is_among l) (labels_append (firsts held r b) (firsts_among held r bs)) ∙ among_right l (labels_of (firsts held r b)) (labels_of (firsts_among held r bs)) (among_at held r bs x l h)

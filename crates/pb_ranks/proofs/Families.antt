@@ -1,13 +1,10 @@
 -- The family of a text, and that of its protocol: the same ranks, answers and collectives.
-use Rattle.std.proofs.Common.{◌≡◌, ℕ, zero, suc, ◌+◌, ◌==◌, ℤ, pos, Bool, cond, nat_lt, get_or, List, [], ◌∷◌, ◌++◌, map, length, refl, sym, ap, ap₂, ◌∙◌, subst}
+use Rattle.std.proofs.Common.{◌≡◌, ℕ, zero, suc, ◌==◌, ℤ, cond, nat_lt, get_or, List, [], ◌∷◌, length, refl, sym, ap, ap₂, ◌∙◌}
 use Rattle.std.proofs.Math.Path.{fun_ext}
-use Rattle.std.proofs.lemmas.List.{length-map}
-use Rattle.pb_affine.specs.Values.{value, range}
 use Rattle.pb_syntax.specs.declared.tree.Payload.{Payload}
 use Rattle.pb_syntax.specs.declared.tree.Payload.TheVariants.{Unit as NoWords, Int32, Uint32}
 use Rattle.pb_syntax.specs.declared.core_label.CoreLabel.{CoreLabel}
 use Rattle.pb_world.specs.Actions.{Action, Choose, Run, Send, Recv, Enter, Leave, Operation, Max, Min, Sum, Collective, Barrier, Broadcast, Reduce, Allreduce}
-use Rattle.pb_core.specs.declared.protocol.CoreRole.{CoreRole}
 use Rattle.pb_core.specs.Collectives as C
 use Rattle.pb_core.specs.Collectives.{setting_of, payload_of}
 use Rattle.pb_core.specs.Ranks as CR
@@ -16,28 +13,10 @@ use Rattle.pb_core.specs.Run.{Setting}
 use Rattle.pb_core.specs.Run as R
 use Rattle.pb_local.specs.Collectives as L
 use Rattle.pb_local.specs.Family as F
-use Rattle.pb_local.specs.Ranks as LR
 use Rattle.pb_local.specs.Tables.{label_at}
 use Rattle.pb_local.specs.Tree.{Program}
-use Rattle.pb_shape.specs.Shape.{role_of, HasShape}
-
--- ---- ranks
-
-abbrev pub seat_to : CR.Seat → LR.Seat
-seat_to s = record { role = s.role; index = s.index }
-
-seats_step : (k : ℕ) (xs : List ℤ) (ys : List LR.Seat) (zs : List CR.Seat) → ys ≡ map seat_to zs → map (λ x. record { role = k; index = x }) xs ++ ys ≡ map seat_to (map (λ x. record { role = k; index = x }) xs ++ zs)
-seats_step k [] ys zs e = e
-seats_step k (x ∷ xs) ys zs e = ap (λ more. record { role = k; index = x } ∷ more) (seats_step k xs ys zs e)
-
-seats_from_same : (roles : List CoreRole) (k : ℕ) (n : ℤ) → LR.seats_from k (map role_of roles) n ≡ map seat_to (CR.seats_from k roles n)
-seats_from_same [] k n = refl
-seats_from_same (r ∷ rs) k n = seats_step k (range (value r.low n (pos 0)) (value r.high n (pos 0))) (LR.seats_from (suc k) (map role_of rs) n) (CR.seats_from (suc k) rs n) (seats_from_same rs (suc k) n)
-
-seat_at_same : (r : ℕ) (xs : List CR.Seat) → LR.seat_at r (map seat_to xs) ≡ seat_to (CR.seat_at r xs)
-seat_at_same r [] = refl
-seat_at_same zero (x ∷ xs) = refl
-seat_at_same (suc r) (x ∷ xs) = seat_at_same r xs
+use Rattle.pb_shape.specs.Shape.{HasShape}
+use Rattle.pb_follow.proofs.Starts.{total_same}
 
 -- ---- words
 
@@ -76,15 +55,6 @@ payload_same (x ∷ xs) zero = refl
 payload_same (x ∷ xs) (suc k) = payload_same xs k
 
 module _ (p : Protocol) (l : Program) (n : ℤ) (shape : HasShape p l) where
-  pub seats_same : LR.seats l.roles n ≡ map seat_to (CR.seats p.roles n)
-  seats_same = ap (λ roles. LR.seats roles n) shape.roles ∙ seats_from_same p.roles 0 n
-
-  pub seat_same : (r : ℕ) → LR.seat_at r (LR.seats l.roles n) ≡ seat_to (CR.seat_at r (CR.seats p.roles n))
-  seat_same r = ap (LR.seat_at r) seats_same ∙ seat_at_same r (CR.seats p.roles n)
-
-  pub total_same : CR.total p.roles n ≡ LR.total l.roles n
-  total_same = sym (ap length seats_same ∙ length-map (CR.seats p.roles n) seat_to)
-
   label_same : (k : ℕ) → payload_of p.labels k ≡ (label_at l k).payload
   label_same k = payload_same p.labels k ∙ ap (λ labels. (get_or {A = CoreLabel} labels k (record { name = []; payload = NoWords })).payload) (sym shape.labels)
 
@@ -120,11 +90,11 @@ module _ (p : Protocol) (l : Program) (n : ℤ) (shape : HasShape p l) where
   combination_same : (label : ℕ) (operation : Operation) (words : ℕ → List ℕ) → C.combined_of (C.combine (payload_of p.labels label) operation) (CR.total p.roles n) words ≡ L.combination l n label operation words
   combination_same label operation words =
       combined_of_same (C.combine (payload_of p.labels label) operation) (CR.total p.roles n) words
-      ∙ ap₂ (λ f t. L.combined_of f t words) (fun_ext (λ x. fun_ext (λ y. combine_same (payload_of p.labels label) operation x y)) ∙ ap (λ payload. L.combine payload operation) (label_same label)) total_same
+      ∙ ap₂ (λ f t. L.combined_of f t words) (fun_ext (λ x. fun_ext (λ y. combine_same (payload_of p.labels label) operation x y)) ∙ ap (λ payload. L.combine payload operation) (label_same label)) (total_same p l n shape)
 
   outcome_by : (j : Collective) (r : ℕ) (words : ℕ → List ℕ) → (setting_of p n).outcome j r words ≡ L.outcome l n j r words
   outcome_by Barrier r words = refl
-  outcome_by (Broadcast label root) r words = ap (λ t. cond (nat_lt root t) (words root) []) total_same
+  outcome_by (Broadcast label root) r words = ap (λ t. cond (nat_lt root t) (words root) []) (total_same p l n shape)
   outcome_by (Reduce label operation root) r words = ap (λ xs. cond (r == root) xs []) (combination_same label operation words)
   outcome_by (Allreduce label operation) r words = combination_same label operation words
 

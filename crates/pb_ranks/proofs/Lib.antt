@@ -1,16 +1,5 @@
-pub mod Stacks
-pub mod Fronts
-pub mod Chains
-pub mod Pieces
-pub mod Steps
-pub mod Blocks
-pub mod Branches
-pub mod Tells
-pub mod Choices
-pub mod Walks
 pub mod Families
 pub mod Theorem
 pub mod Rows
 pub mod Relayed
 pub mod RelayedMade
-pub mod Simulated

@@ -1,5 +1,5 @@
 -- A loop, a choice and a relay: the worked text has the shape.
-use Rattle.std.proofs.Common.{◌≡◌, ℕ, zero, suc, ◌==◌, ℤ, pos, negsuc, ◌+ℤ◌, ◌≤ℤ◌, Bool, true, false, ◌&&◌, ◌||◌, nat_eq, int_le, if◌then◌else◌, List, [], ◌∷◌, refl, sym, ◌∙◌, subst, arith}
+use Rattle.std.proofs.Common.{◌≡◌, ℕ, zero, suc, ℤ, pos, negsuc, ◌+ℤ◌, ◌≤ℤ◌, Bool, true, false, ◌&&◌, ◌||◌, nat_eq, int_le, if◌then◌else◌, List, [], ◌∷◌, refl, sym, ◌∙◌, subst, arith}
 use Rattle.std.proofs.lemmas.Int.{ints}
 use Rattle.std.proofs.lemmas.Bool.Decides.{nat_tests}
 use Rattle.pb_affine.specs.declared.guard.Guard.{Guard}
@@ -14,7 +14,7 @@ use Rattle.pb_local.specs.Tree.{nothing, more}
 use Rattle.pb_shape.specs.Shape as S
 use Rattle.pb_shape.specs.Shape.{Here, Who, Around, outermost, in_loop, takers, inside, Names, Somebody, is_end, is_told, teller, peer_of, guards_of, scope_of, everywhere, One, Tests, Relays, Shape, Shapes, HasShape}
 use Rattle.pb_ranks.specs.Worked.{mark_of, w, workers}
-use Rattle.pb_ranks.specs.Rounds.{three, end_at, told_on, both_ways, round, rounds, everybody, just, at_first, at_second, on_from_second, at_third, told_text, both_parts, relays, test_of, tests, choosing, round_text, rounds_text}
+use Rattle.pb_ranks.specs.Rounds.{three, end_at, told_on, both_ways, round, rounds, everybody, just, at_second, on_from_second, at_third, told_text, relays, test_of, tests, round_text, rounds_text}
 
 -- ---- the three ranks
 
@@ -85,10 +85,12 @@ tests_hold : (k m : ℕ) (i : ℤ) (x : ℤ) →
     (nat_eq k 0 && nat_eq m 0 && holds (just 1) (pos 3) i 0 x) || ((nat_eq k 0 && nat_eq m 1 && holds (just 2) (pos 3) i 0 x) || ((nat_eq k 1 && nat_eq m 2 && holds (just 1) (pos 3) i 0 x) || ((nat_eq k 1 && nat_eq m 3 && holds (just 2) (pos 3) i 0 x) || false)))
 tests_hold k m i x =
     let d = hold_if (nat_eq k 1 && nat_eq m 3) (just 2) [] (pos 3) i 0 x in
-    rw (hold_if (nat_eq k 0 && nat_eq m 0) (just 1) (guards_of k m (test_of 0 1 2 ∷ test_of 1 2 1 ∷ test_of 1 3 2 ∷ [])) (pos 3) i 0 x,
+    rw (
+      hold_if (nat_eq k 0 && nat_eq m 0) (just 1) (guards_of k m (test_of 0 1 2 ∷ test_of 1 2 1 ∷ test_of 1 3 2 ∷ [])) (pos 3) i 0 x,
       hold_if (nat_eq k 0 && nat_eq m 1) (just 2) (guards_of k m (test_of 1 2 1 ∷ test_of 1 3 2 ∷ [])) (pos 3) i 0 x,
       hold_if (nat_eq k 1 && nat_eq m 2) (just 1) (guards_of k m (test_of 1 3 2 ∷ [])) (pos 3) i 0 x,
-      d) refl
+      d,
+    ) refl
 
 told_first : (k m : ℕ) → is_told (scope_of rounds) in_round both_ways k m (pos 3) (pos 0) 0 (pos 0) ≡ false
 told_first zero m = refl
@@ -117,7 +119,7 @@ nobody_told : (k m : ℕ) (P : Type 0) → is_told (scope_of rounds) in_round bo
 nobody_told k m P h = (let e : true ≡ false = sym h ∙ told_first k m in cc)
 
 relayed : Relays (scope_of rounds) in_round (end_at 0) both_ways relays
-relayed n role x k m within is = by_rank (λ n role x. is_told (scope_of rounds) in_round both_ways k m n (pos 0) role x ≡ true → rank workers n (source_of n (record { role = role; index = x }) x relays (peer_of (end_at 0))).role (value (source_of n (record { role = role; index = x }) x relays (peer_of (end_at 0))).at n x) ≡ teller (scope_of rounds) in_round both_ways n role x) n role x within is (λ h. nobody_told k m _ h) (λ h. refl) (λ h. refl)
+relayed n role x k m within is = by_rank (λ n role x. is_end (end_at 0) n (pos 0) role x ≡ false → is_told (scope_of rounds) in_round both_ways k m n (pos 0) role x ≡ true → rank workers n (source_of n (record { role = role; index = x }) x relays (peer_of (end_at 0))).role (value (source_of n (record { role = role; index = x }) x relays (peer_of (end_at 0))).at n x) ≡ teller (scope_of rounds) in_round both_ways n role x) n role x within is (λ other h. nobody_told k m _ h) (λ other h. refl) (λ other h. refl)
 
 -- ---- the shape
 

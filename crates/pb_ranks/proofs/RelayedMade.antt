@@ -1,5 +1,5 @@
 -- The worked text with a loop, a choice and a relay is well made, and its ranks do the run.
-use Rattle.std.proofs.Common.{◌≡◌, ◌≢◌, ℕ, zero, suc, ◌+◌, ◌<◌, ℤ, pos, negsuc, ◌≤ℤ◌, inl, inr, All, Contains, List, [], ◌∷◌, map, length, slice_index_or, IsTrue, Some, None, codes, refl, sym, ap, ◌∙◌, arith}
+use Rattle.std.proofs.Common.{◌≡◌, ◌≢◌, ℕ, zero, suc, ◌+◌, ◌<◌, ℤ, pos, negsuc, ◌≤ℤ◌, inl, inr, Contains, List, [], ◌∷◌, slice_index_or, IsTrue, codes, refl, sym, ap, ◌∙◌, arith}
 use Rattle.std.proofs.lemmas.Int.{ints}
 use Rattle.std.proofs.lemmas.List.Elements.{All-nil, All-cons}
 use Rattle.pb_affine.specs.declared.guard.Guard.{Guard}
@@ -7,7 +7,6 @@ use Rattle.pb_affine.specs.Values.{IsSmall}
 use Rattle.pb_syntax.specs.declared.core_label.CoreKernel.{CoreKernel}
 use Rattle.pb_syntax.specs.declared.core_label.KernelKind.TheVariants.{Choice}
 use Rattle.pb_core.specs.Laws.{Numbered, Totalled}
-use Rattle.pb_core.specs.declared.tree.CoreEnd.{CoreEnd}
 use Rattle.pb_endpoint.specs.Core.{IsProper}
 use Rattle.pb_local.specs.Names.{is_name}
 use Rattle.pb_local.specs.Tree as L
@@ -16,8 +15,8 @@ use Rattle.pb_local.specs.WellMade as W
 use Rattle.pb_local.specs.WellMade.{Scope, IsRole, IsGuard, AreGuards, IsPeer, IsRelay, IsTest, IsChoice, IsMade, AreMade, IsWellMade, IsLabelRow, AreLabels}
 use Rattle.pb_shape.specs.Shape.{peer_of, alone}
 use Rattle.pb_shape.specs.Theorem.{DoesRun}
-use Rattle.pb_ranks.specs.Worked.{number, worker, only, signal}
-use Rattle.pb_ranks.specs.Rounds.{end_at, rounds, everybody, just, at_first, at_second, on_from_second, at_third, told_text, both_parts, relays, test_of, tests, choosing, round_text, rounds_text}
+use Rattle.pb_ranks.specs.Worked.{signal}
+use Rattle.pb_ranks.specs.Rounds.{end_at, rounds, everybody, just, told_text, relays, test_of, tests, choosing, rounds_text}
 use Rattle.pb_ranks.proofs.Relayed.{rounds_shape}
 use Rattle.pb_ranks.proofs.Theorem.{text_ranks}
 
@@ -43,8 +42,10 @@ peer_made k lt = record { role = omega arith; off = small_at k lt }
 told_made : (s : Scope) (a b : ℕ) (rest : Codes) → a < 4 → b < 4 → AreMade rounds_text (W.behind (W.behind (W.behind (W.behind s 0) 0) 0) 0) rest → AreMade rounds_text s (told_text a b rest)
 told_made s a b rest x y h = (
   (guards_made (just 0) (guard_made 0 (omega arith)), ((x, peer_made 1 (omega arith)), tt), tt),
-  ((guards_made (just 1) (guard_made 1 (omega arith)), ((x, peer_made 0 (omega arith)), tt), tt),
-  ((guards_made (just 1) (guard_made 1 (omega arith)), ((y, peer_made 2 (omega arith)), tt), tt), ((guards_made (just 2) (guard_made 2 (omega arith)), ((y, peer_made 1 (omega arith)), tt), tt), h))),
+  (
+    (guards_made (just 1) (guard_made 1 (omega arith)), ((x, peer_made 0 (omega arith)), tt), tt),
+    ((guards_made (just 1) (guard_made 1 (omega arith)), ((y, peer_made 2 (omega arith)), tt), tt), ((guards_made (just 2) (guard_made 2 (omega arith)), ((y, peer_made 1 (omega arith)), tt), tt), h)),
+  ),
 )
 
 -- ---- the tables

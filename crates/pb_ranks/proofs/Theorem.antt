@@ -1,93 +1,38 @@
 -- The ranks of a program of the shape do the protocol's run.
-use Rattle.std.proofs.Common.{◌≡◌, ◌≤◌, ◌<◌, ℕ, zero, suc, ◌+◌, ◌*◌, ℤ, pos, Bool, true, false, List, [], ◌∷◌, length, map, None, refl, sym, ap, ◌∙◌, subst, arith}
-use Rattle.std.proofs.lemmas.Int.{ints}
+use Rattle.std.proofs.Common.{◌≡◌, ◌≤◌, ℕ, ℤ, Bool, true, List, [], ap, ◌∙◌, subst}
 use Rattle.pb_world.specs.Actions.{Action, Collective}
 use Rattle.pb_world.specs.Counted.{Counted, counted, counted_start}
 use Rattle.pb_world.specs.Family.{Family, Laws}
-use Rattle.pb_world.specs.Theorem.{AllRanks}
-use Rattle.pb_world.specs.Once.{Once, once_start}
 use Rattle.pb_world.specs.Carry.{lowered}
 use Rattle.pb_world.proofs.CarryLaws.{carried}
 use Rattle.pb_world.proofs.Theorem.{all_ranks}
 use Rattle.pb_core.specs.Collectives.{setting_of}
 use Rattle.pb_core.specs.Laws.{Numbered, Totalled}
 use Rattle.pb_core.specs.Plain.{Protocol}
-use Rattle.pb_core.specs.Ranks as CR
 use Rattle.pb_core.specs.Ranks.{total}
 use Rattle.pb_core.specs.Rules.{breaches, flat_at}
 use Rattle.pb_core.specs.Sound.{is_sound}
 use Rattle.pb_core.specs.Verdict.{IsIn}
-use Rattle.pb_flat.proofs.Seats.{rank_of_seat}
-use Rattle.pb_endpoint.specs.Core.{IsProper, CoreRanks}
-use Rattle.pb_endpoint.specs.Endpoint.{Part, code, endpoint}
+use Rattle.pb_endpoint.specs.Core.{IsProper}
 use Rattle.pb_endpoint.specs.Once.{once_family}
-use Rattle.pb_endpoint.proofs.Kept.{Keeps}
-use Rattle.pb_endpoint.proofs.Derive.{obeyed}
-use Rattle.pb_endpoint.proofs.CoreDone.{accepted, core_ranks}
+use Rattle.pb_endpoint.proofs.CoreDone.{core_ranks}
 use Rattle.pb_local.specs.Family.{most_silent, family}
-use Rattle.pb_local.specs.Machine.{Rank, pushed, finished, machine, start}
-use Rattle.pb_local.specs.Ranks as LR
-use Rattle.pb_local.specs.Ranks.{Seat}
+use Rattle.pb_local.specs.Machine.{Rank, machine, start}
 use Rattle.pb_local.specs.Tree.{Program}
-use Rattle.pb_local.specs.WellMade as W
 use Rattle.pb_local.specs.WellMade.{IsWellMade}
-use Rattle.pb_shape.specs.Shape.{HasShape, everywhere, outermost}
-use Rattle.pb_shape.specs.Straight.{StraightPasses, IsSeated, at_todo}
+use Rattle.pb_shape.specs.Shape.{HasShape}
 use Rattle.pb_shape.specs.Theorem.{sequence_of, DoesRun}
-use Rattle.pb_straight.proofs.Ends.{ends_are_fine}
-use Rattle.pb_straight.proofs.Fits.{guard_fits, guards_fit}
-use Rattle.pb_straight.proofs.Pieces.{straight_passes}
-use Rattle.pb_straight.proofs.Peers.{world, index_is_near, peer_is}
 use Rattle.pb_ranks.specs.Ranks.{TextRanks}
-use Rattle.pb_ranks.proofs.Stacks.{weight_pushed, me_rank, Sim, empty, block}
-use Rattle.pb_ranks.proofs.Fronts.{Rel, stands}
-use Rattle.pb_ranks.proofs.Steps.{Given}
-use Rattle.pb_ranks.proofs.Walks.{simulates}
-use Rattle.pb_ranks.proofs.Families.{seat_to, seat_same, total_same, allowed_same, needs_same, outcome_same}
+use Rattle.pb_follow.proofs.Fronts.{Rel}
+use Rattle.pb_follow.proofs.Starts.{total_same, me_at, rank_simulates, rank_begins}
+use Rattle.pb_ranks.proofs.Families.{allowed_same, needs_same, outcome_same}
 
 module _ (numbered : Numbered) (totalled : Totalled) where
   module _ (p : Protocol) (l : Program) (n : ℤ) (sound : is_sound p ≡ true) (proper : IsProper p) (shape : HasShape p l) (made : IsWellMade l) (within : IsIn p.range n) (few : total p.roles n ≤ 2000000000) (keeps : breaches p n ≡ []) where
-    abbrev me_at : ℕ → Seat
-    me_at r = LR.seat_at r (LR.seats l.roles n)
-
-    seated : (r : ℕ) → r < total p.roles n → IsSeated p l n r (me_at r)
-    seated r lt =
-        let h = rank_of_seat p.roles n r lt in
-        subst (λ me. IsSeated p l n r me) (sym (seat_same p l n shape r)) (record { sound = sound; shape = shape; made = made; within = within; few = few; is = h.0; number = h.1 })
-
-    given : (me : Seat) → IsSeated p l n (me_rank p l n me) me → Given p l n me
-    given me seat =
-        let size = (world numbered totalled p l n sound shape made within few).size in
-        record {
-          passes = straight_passes numbered totalled; seated = seat;
-          index = index_is_near numbered totalled p l n sound shape made within few me.role me.index seat.is;
-          guards = λ i near gs h. guards_fit l n me i size near gs h;
-          guard = λ i near g h. guard_fits l n me i size near g h;
-          peer = λ i near e h is. let it = peer_is numbered totalled p l n sound shape made within few me e i is in (it.there, it.same);
-        }
-
-    -- at its start
-    begins : (me : Seat) → IsSeated p l n (me_rank p l n me) me → Rel p l n me (most_silent l) (once_start (endpoint (flat_at p n) (me_rank p l n me))) (at_todo me (pos 0) (pushed 0 l.body finished))
-    begins me seat =
-        let w = weight_pushed 0 l.body finished in
-        record {
-          twin = at_todo me (pos 0) (pushed 0 l.body finished); same = refl;
-          near = stands (block {h = everywhere} {a = outermost} {core = p.body.block} 0 (record {
-            shape = shape.body;
-            sits = record {
-              fine = ends_are_fine p n sound within keeps; here = record { at = λ i. refl; comes = λ i. refl }; simple = proper.simple;
-              around = record { env = []; same = refl; deep = refl; is_held = λ k lt. absurd (omega (arith, lt)) };
-              keeps = (obeyed (setting_of p n) (flat_at p n) (accepted p n keeps proper)).keeps;
-              made = record { at = W.outermost; made = made.body; below = λ k lt. absurd (omega (arith, lt)) };
-            };
-          }) empty) (record { low = omega (arith, ints); high = omega (arith, ints) }) (record { small = omega arith; enough = omega arith });
-        }
-
     low_family : Laws (lowered (once_family (setting_of p n) (flat_at p n)) (machine l n) (most_silent l) (start l n))
     low_family =
-        carried (once_family (setting_of p n) (flat_at p n)) (machine l n) (most_silent l) (start l n) (λ r. Rel p l n (me_at r))
-        (λ r lt. let s = seated r lt in simulates p l n (me_at r) (given (me_at r) (subst (λ q. IsSeated p l n q (me_at r)) (sym s.number) s)) ((once_family (setting_of p n) (flat_at p n)).allowed r))
-        (λ r lt. let s = seated r lt in subst (λ q. Rel p l n (me_at r) (most_silent l) (once_start (endpoint (flat_at p n) q)) (start l n r)) s.number (begins (me_at r) (subst (λ q. IsSeated p l n q (me_at r)) (sym s.number) s)))
+        carried (once_family (setting_of p n) (flat_at p n)) (machine l n) (most_silent l) (start l n) (λ r. Rel p l n (me_at numbered totalled p l n sound proper shape made within few keeps r))
+        (λ r lt. rank_simulates numbered totalled p l n sound proper shape made within few keeps r lt ((once_family (setting_of p n) (flat_at p n)).allowed r)) (rank_begins numbered totalled p l n sound proper shape made within few keeps)
         (core_ranks p n proper keeps).0
 
     abbrev mixed : ℕ → (ℕ → Action → Bool) → (Collective → ℕ → ℕ → Bool) → (Collective → ℕ → (ℕ → List ℕ) → List ℕ) → Family (Counted Rank)

@@ -273,10 +273,11 @@ guards_of k l (t ∷ ts) = if nat_eq k t.branch && nat_eq l t.label then t.guard
 abbrev pub Tests : Scope → Here → Around → BranchTrees → List Test → Type 0
 Tests sc h a bs tests = (k l : ℕ) → Names sc h (guards_of k l tests) (is_told sc a bs k l)
 
--- The first relay that holds for a rank that is told, or else the chooser, is the one source of its first outcomes. Behind `Own` of 0 the variable is the own index
+-- The first relay that holds for a rank that is told, or else the chooser, is the one source of its first outcomes; of the chooser itself nothing is
+-- asked. Behind `Own` of 0 the variable is the own index
 abbrev pub Relays : Scope → Around → CoreEnd → BranchTrees → List Relay → Type 0
 Relays sc a at bs relays =
-    (n : ℤ) (role : ℕ) (x : ℤ) (k l : ℕ) → IsIn sc.range n → is_rank sc.roles n role x ≡ true → is_told sc a bs k l n (pos 0) role x ≡ true →
+    (n : ℤ) (role : ℕ) (x : ℤ) (k l : ℕ) → IsIn sc.range n → is_rank sc.roles n role x ≡ true → is_end at n (pos 0) role x ≡ false → is_told sc a bs k l n (pos 0) role x ≡ true →
     rank sc.roles n (C.source_of n (record { role = role; index = x }) x relays (peer_of at)).role
     (value (C.source_of n (record { role = role; index = x }) x relays (peer_of at)).at n x) ≡ teller sc a bs n role x
 

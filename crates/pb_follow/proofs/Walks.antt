@@ -1,19 +1,18 @@
 -- The text of a rank does next what its endpoint does next, and so simulates it.
-use Rattle.std.proofs.Common.{◌≡◌, ◌≤◌, ◌<◌, ℕ, zero, suc, ◌+◌, ◌*◌, ◌==◌, ℤ, pos, Bool, true, false, ◌&&◌, ◌||◌, cond, nat_eq, List, [], ◌∷◌, length, Option, Some, None, refl, sym, ap, ◌∙◌, subst, arith}
+use Rattle.std.proofs.Common.{◌≡◌, ◌≤◌, ◌<◌, ℕ, zero, suc, ◌+◌, ◌==◌, ℤ, pos, Bool, true, false, ◌||◌, cond, List, [], ◌∷◌, length, Option, refl, sym, ap, ◌∙◌, subst, true≢false, arith}
 use Rattle.pb_affine.specs.declared.guard.Guard.{Guard}
 use Rattle.pb_world.specs.Actions.{Action}
-use Rattle.pb_world.specs.Machine.{Ended}
 use Rattle.pb_world.specs.Once.{Once}
 use Rattle.pb_world.specs.Carry.{here, Simulates}
 use Rattle.pb_core.specs.declared.tree.CoreEnd.{CoreEnd}
 use Rattle.pb_core.specs.Tree as T
 use Rattle.pb_core.specs.Tree.{Mark, StmtTree, BlockTree, BranchTrees}
 use Rattle.pb_core.specs.Plain.{Protocol}
-use Rattle.pb_core.specs.Flat.{Block, stop, nth, takes_part_among}
+use Rattle.pb_core.specs.Flat.{stop, takes_part_among}
 use Rattle.pb_core.specs.FlatOf.{flat_stmt, flat_branches, rank_of, between}
 use Rattle.pb_core.specs.Outcomes.{firsts_among, source_of}
 use Rattle.pb_endpoint.specs.Core.{has_simple_items, have_simple_items, branches_have_simple_items}
-use Rattle.pb_endpoint.specs.Endpoint.{Code, Part, code, arms, done, choose, told, again}
+use Rattle.pb_endpoint.specs.Endpoint.{Code, Part, arms, done, choose, told, again}
 use Rattle.pb_endpoint.proofs.Progress.{and_both}
 use Rattle.pb_local.specs.declared.stmt.Test.{Test}
 use Rattle.pb_local.specs.declared.stmt.Relay.{Relay}
@@ -29,16 +28,16 @@ use Rattle.pb_shape.specs.Shape as S
 use Rattle.pb_shape.specs.Shape.{Here, Around, outermost, takers, alone, told_by, peer_of, is_end, Names, Tests, Relays, scope_of, One, Piece, Shape, Shapes, number_at, inside}
 use Rattle.pb_shape.specs.Straight.{IsVariable, at_todo}
 use Rattle.pb_shape.specs.Ways.{mine}
-use Rattle.pb_ranks.proofs.Stacks.{weight, weight_pushed, all, me_rank, held, flat, coded, Sits, Stands, Sim, empty}
-use Rattle.pb_ranks.proofs.Stacks as Y
-use Rattle.pb_ranks.proofs.Fronts.{AreStraight, laid, down, debt, Budget, Near, Rel, moves, after, Front, same_front}
-use Rattle.pb_ranks.proofs.Fronts as F
-use Rattle.pb_ranks.proofs.Simulated.{up, simulated}
-use Rattle.pb_ranks.proofs.Chains.{straight_all, piece_code}
-use Rattle.pb_ranks.proofs.Pieces.{Left, one_leaves, piece_leaves}
-use Rattle.pb_ranks.proofs.Steps.{Given, Ahead, quiet_way, act_way, piece_front, one_skips, one_enters, told_front, IsFound}
-use Rattle.pb_ranks.proofs.Blocks.{Over, sits_piece, sits_behind_loop, made_later, end_front, loop_front, again_front}
-use Rattle.pb_ranks.proofs.Choices.{IsThere, Room, told_size, choose_front, ask_front}
+use Rattle.pb_follow.proofs.Stacks.{weight, weight_pushed, all, me_rank, held, flat, coded, Sits, Stands, Sim, empty}
+use Rattle.pb_follow.proofs.Stacks as Y
+use Rattle.pb_follow.proofs.Fronts.{AreStraight, laid, down, debt, Budget, Near, Rel, moves, after, Front, same_front}
+use Rattle.pb_follow.proofs.Fronts as F
+use Rattle.pb_follow.proofs.Simulated.{up, simulated}
+use Rattle.pb_follow.proofs.Chains.{straight_all, piece_code}
+use Rattle.pb_follow.proofs.Pieces.{Left, one_leaves, piece_leaves}
+use Rattle.pb_follow.proofs.Steps.{Given, Ahead, quiet_way, act_way, piece_front, one_skips, one_enters, told_front}
+use Rattle.pb_follow.proofs.Blocks.{Over, sits_piece, sits_behind_loop, made_later, end_front, loop_front, again_front}
+use Rattle.pb_follow.proofs.Choices.{IsThere, Room, told_size, choose_front, ask_front}
 
 module _ (p : Protocol) (l : Program) (n : ℤ) (me : Seat) (g : Given p l n me) where
   -- ---- the end of a loop's body is passed without a step
@@ -126,14 +125,15 @@ module _ (p : Protocol) (l : Program) (n : ℤ) (me : Seat) (g : Given p l n me)
 
   sits_behind_choice : {h : Here} {a : Around} {m : Mark} {kern : ℕ} {from : CoreEnd} {bs : BranchTrees} {rest : BlockTree} {tail codes : Codes} → (z : Sits p l n me h a (T.more m (T.choice kern from bs) rest) codes) → Left l z.made.at codes tail → Sits p l n me h a rest tail
   sits_behind_choice {a = a} {bs = bs} {rest = rest} {tail = tail} {codes = codes} z left = record {
-    fine = z.fine.1 refl; here = z.here; simple = (and_both (branches_have_simple_items bs) (have_simple_items rest) z.simple).1; around = z.around; keeps = z.keeps.4;
+    fine = z.fine.1 refl;
+    here = z.here;
+    simple = (and_both (branches_have_simple_items bs) (have_simple_items rest) z.simple).1;
+    around = z.around;
+    keeps = z.keeps.4;
     made = made_later p l n me g a codes tail z.made left;
   }
 
   -- ---- a block
-
-  not_both : true ≡ false → ⊥
-  not_both e = cc
 
   with_code : {k : ℕ} {c : Bool} {y : Rank} {o : Option Code} {K : List Part} (x z : Code) → x ≡ z → Ahead p l n me g k c y (record { body = o; code = z } ∷ K) → Ahead p l n me g k c y (record { body = o; code = x } ∷ K)
   with_code {k = k} {c = c} {y = y} {o = o} {K = K} x z e f = subst (λ q. Ahead p l n me g k c y (record { body = o; code = q } ∷ K)) (sym e) f
@@ -141,7 +141,7 @@ module _ (p : Protocol) (l : Program) (n : ℤ) (me : Seat) (g : Given p l n me)
   pub block_front : {h : Here} {a : Around} {core : BlockTree} {codes : Codes} {o : Option Code} {K : List Part} {t : Todo} (c : Bool) (k number : ℕ) (i : ℤ) → Shape (scope_of p) h a core codes → Sits p l n me h a core codes → Over p l n me a o K t → IsVariable i →
       Budget p l n me c k (pushed number codes t) → Ahead p l n me g k c (at_todo me i (pushed number codes t)) (record { body = o; code = coded p l n me a core } ∷ K)
   block_front c k number i S.none z over near room = end_front p l n me g c k i over near room
-  block_front c k number i (S.unreached nobody) z over near room = absurd (not_both (nobody n i me.role me.index g.seated.within g.seated.is (z.here.at i) (z.here.comes i)))
+  block_front c k number i (S.unreached nobody) z over near room = absurd (true≢false (nobody n i me.role me.index g.seated.within g.seated.is (z.here.at i) (z.here.comes i)))
   block_front {a = a} {codes = codes} {o = o} {K = K} {t = t} c k number i (S.piece {m = m} {s = s} {rest = rest} {tail = tail} piece shape) z over near room =
       let r = me_rank p l n me in
       let both = and_both (has_simple_items s) (have_simple_items rest) z.simple in

@@ -1,11 +1,10 @@
 -- The stack of a rank's endpoint beside what its text has still to do.
-use Rattle.std.proofs.Common.{◌≡◌, ◌≤◌, ◌<◌, ℕ, zero, suc, ◌+◌, ◌*◌, ℤ, pos, Bool, true, false, nat_eq, if◌then◌else◌, cond, List, [], ◌∷◌, length, Option, Some, None, refl, sym, ap, ◌∙◌, subst, arith}
+use Rattle.std.proofs.Common.{◌≡◌, ◌≤◌, ◌<◌, ℕ, zero, suc, ◌+◌, ℤ, pos, Bool, true, false, nat_eq, List, [], ◌∷◌, length, Some, None, refl, sym, subst, arith}
 use Rattle.std.proofs.lemmas.Bool.Decides.{nat_tests}
 use Rattle.pb_core.specs.Ranks.{total}
-use Rattle.pb_core.specs.Tree as T
 use Rattle.pb_core.specs.Tree.{BlockTree}
 use Rattle.pb_core.specs.Plain.{Protocol}
-use Rattle.pb_core.specs.Flat.{Block, stop, nth, takes_part}
+use Rattle.pb_core.specs.Flat.{Block, stop, nth}
 use Rattle.pb_core.specs.FlatOf.{flat_block}
 use Rattle.pb_core.specs.Run.{Env, at_rank}
 use Rattle.pb_flat.specs.Seated.{rank}
@@ -109,6 +108,3 @@ module _ (p : Protocol) (l : Program) (n : ℤ) (me : Seat) where
       rw (back_pushed x number codes (end_of x start inner t), e) (record { around = in_loop (scope_of p) a id x whole; sim = body start id x start loop loop fresh small sim; small = omega (arith, small, weight_pushed start inner (end_of x start inner t)) })
   go_back (body {a = a} {codes = codes} {inner = inner} {t = t} number id x start stands loop fresh small sim) (suc k) lt =
       rw (back_pushed (number_at a.numbers k) number codes (end_of x start inner t), fresh k (omega (arith, lt))) (go_back sim k (omega (arith, lt)))
-
-abbrev pub checked : ℕ
-checked = 0

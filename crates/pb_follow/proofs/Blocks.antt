@@ -1,19 +1,17 @@
 -- What a text does next in a block, beside what the endpoint does next in it.
-use Rattle.std.proofs.Common.{◌≡◌, ◌≤◌, ◌<◌, ℕ, zero, suc, ◌+◌, ◌*◌, ◌==◌, ℤ, pos, Bool, true, false, ◌&&◌, ◌||◌, cond, nat_eq, List, [], ◌∷◌, length, Option, Some, None, refl, sym, ap, ◌∙◌, subst, arith}
+use Rattle.std.proofs.Common.{◌≡◌, ◌≤◌, ◌<◌, ℕ, zero, suc, ◌+◌, ℤ, pos, Bool, true, false, ◌||◌, cond, nat_eq, List, ◌∷◌, length, Option, refl, sym, ap, subst, arith}
 use Rattle.std.proofs.lemmas.Bool.Decides.{nat_tests}
-use Rattle.pb_world.specs.Machine.{Silent}
 use Rattle.pb_world.specs.Carry.{Quietly, here, further}
 use Rattle.pb_core.specs.Ranks.{total}
 use Rattle.pb_core.specs.Tree as T
 use Rattle.pb_core.specs.Tree.{Mark, StmtTree, BlockTree}
 use Rattle.pb_core.specs.Plain.{Protocol}
 use Rattle.pb_core.specs.Flat.{Block, stop, nth, takes_part}
-use Rattle.pb_core.specs.FlatOf.{flat_stmt, flat_block, between}
-use Rattle.pb_core.specs.Run.{Env, at_rank}
+use Rattle.pb_core.specs.FlatOf.{flat_block, between}
+use Rattle.pb_core.specs.Run.{at_rank}
 use Rattle.pb_flat.specs.GoesOn.{is_again}
 use Rattle.pb_endpoint.specs.Core.{has_simple_items, have_simple_items}
-use Rattle.pb_endpoint.specs.Endpoint.{Code, Part, code, loop, again, return_to, return_over}
-use Rattle.pb_endpoint.proofs.Kept.{Keeps}
+use Rattle.pb_endpoint.specs.Endpoint.{Code, Part, loop, again, return_to}
 use Rattle.pb_endpoint.proofs.Progress.{and_both}
 use Rattle.pb_local.specs.Ranks.{Seat}
 use Rattle.pb_local.specs.Tree as L
@@ -25,13 +23,12 @@ use Rattle.pb_local.specs.Machine.{Todo, Rank, pushed, back_to, move}
 use Rattle.pb_local.proofs.Moves.{move_is}
 use Rattle.pb_shape.specs.Shape as S
 use Rattle.pb_shape.specs.Shape.{Here, inside, Around, in_loop, number_at, takers, alone, scope_of, One, Piece, Shape}
-use Rattle.pb_shape.specs.Straight.{IsVariable, at_todo, IsOpenTo, AreFine}
-use Rattle.pb_shape.specs.Ways.{mine}
-use Rattle.pb_ranks.proofs.Stacks.{weight, weight_pushed, all, me_rank, held, flat, coded, IsAround, IsMadeIn, Sits, Stands, IsFresh, Sim, body, Back, go_back}
-use Rattle.pb_ranks.proofs.Fronts.{laid, debt, Budget, Rel, stands, Front, quiets}
-use Rattle.pb_ranks.proofs.Chains.{straight_all, piece_code, piece_keeps}
-use Rattle.pb_ranks.proofs.Pieces.{Left, one_leaves, piece_leaves}
-use Rattle.pb_ranks.proofs.Steps.{Given, Ahead, piece_front, one_skips, one_enters}
+use Rattle.pb_shape.specs.Straight.{IsVariable, at_todo}
+use Rattle.pb_follow.proofs.Stacks.{weight, weight_pushed, all, me_rank, held, flat, coded, IsAround, IsMadeIn, Sits, Stands, IsFresh, Sim, body, Back, go_back}
+use Rattle.pb_follow.proofs.Fronts.{debt, Budget, stands, quiets}
+use Rattle.pb_follow.proofs.Chains.{piece_keeps}
+use Rattle.pb_follow.proofs.Pieces.{Left}
+use Rattle.pb_follow.proofs.Steps.{Given, Ahead, one_skips, one_enters}
 
 -- what a block's code stands over: the endpoint's stack below, and what the text has still to do behind
 pub record Over (p : Protocol) (l : Program) (n : ℤ) (me : Seat) (a : Around) (o : Option Code) (K : List Part) (t : Todo) : Type 0 where
@@ -61,7 +58,10 @@ module _ (p : Protocol) (l : Program) (n : ℤ) (me : Seat) (g : Given p l n me)
   sits_piece {a = a} {m = m} {s = s} {rest = rest} {tail = tail} {codes = codes} piece x left =
       let both = and_both (has_simple_items s) (have_simple_items rest) x.simple in
       record {
-        fine = x.fine.1 (piece_goes piece); here = x.here; simple = both.1; around = x.around;
+        fine = x.fine.1 (piece_goes piece);
+        here = x.here;
+        simple = both.1;
+        around = x.around;
         keeps = piece_keeps p.roles n (me_rank p l n me) (total p.roles n) x.around.env a.opens m s piece both.0 (flat p l n me a rest) x.keeps;
         made = made_later a codes tail x.made left;
       }
@@ -107,13 +107,21 @@ module _ (p : Protocol) (l : Program) (n : ℤ) (me : Seat) (g : Given p l n me)
   unfolding around_loop
   sits_loop {h = h} {a = a} {m = m} {mark = mark} {id = id} {x = x} {whole = whole} {rest = rest} {inner = inner} s e z below made =
       let taker : takers (scope_of p) a m (T.loop id mark whole) n (pos 0) me.role me.index ≡ true = ap (λ b. b || false) e in record {
-        fine = z.fine.0; here = record { at = z.here.at; comes = λ i. rw taker (z.here.comes i) }; simple = (and_both (have_simple_items whole) (have_simple_items rest) z.simple).0;
-        around = around_loop a id x whole e z.around; keeps = z.keeps.0; made = made_loop a id x whole inner s below made;
+        fine = z.fine.0;
+        here = record { at = z.here.at; comes = λ i. rw taker (z.here.comes i) };
+        simple = (and_both (have_simple_items whole) (have_simple_items rest) z.simple).0;
+        around = around_loop a id x whole e z.around;
+        keeps = z.keeps.0;
+        made = made_loop a id x whole inner s below made;
       }
 
   pub sits_behind_loop : {h : Here} {a : Around} {m mark : Mark} {id : ℕ} {whole rest : BlockTree} {tail codes : Codes} → (z : Sits p l n me h a (T.more m (T.loop id mark whole) rest) codes) → Left l z.made.at codes tail → Sits p l n me h a rest tail
   sits_behind_loop {a = a} {whole = whole} {rest = rest} {tail = tail} {codes = codes} z left = record {
-    fine = z.fine.1 refl; here = z.here; simple = (and_both (have_simple_items whole) (have_simple_items rest) z.simple).1; around = z.around; keeps = z.keeps.1;
+    fine = z.fine.1 refl;
+    here = z.here;
+    simple = (and_both (have_simple_items whole) (have_simple_items rest) z.simple).1;
+    around = z.around;
+    keeps = z.keeps.1;
     made = made_later a codes tail z.made left;
   }
 
@@ -122,7 +130,11 @@ module _ (p : Protocol) (l : Program) (n : ℤ) (me : Seat) (g : Given p l n me)
   pub end_front : {a : Around} {o : Option Code} {K : List Part} {t : Todo} (c : Bool) (k : ℕ) (i : ℤ) → Over p l n me a o K t → IsVariable i → Budget p l n me c k t → Ahead p l n me g k c (at_todo me i t) (record { body = o; code = coded p l n me a T.nothing } ∷ K)
   end_front {t = t} c k i over near room =
       quiets refl (λ h. record {
-        j = zero; i = k; z = at_todo me i t; steps = here; few = omega arith;
+        j = zero;
+        i = k;
+        z = at_todo me i t;
+        steps = here;
+        few = omega arith;
         rel = record { twin = at_todo me i over.behind; same = over.same i; near = stands over.below near (record { small = (let e = over.weighs in let a = room.small in omega arith); enough = (let e = over.weighs in let a = room.enough in omega arith) }) };
       })
 
@@ -156,11 +168,14 @@ module _ (p : Protocol) (l : Program) (n : ℤ) (me : Seat) (g : Given p l n me)
           let last = at_todo me i (pushed start inner (X.end_of x start inner t')) in
           let m' = move_is l n (at_todo me i (X.next at_number (L.loop x inner) t')) in
           quiets refl (λ h'. record {
-            j = 1; i = k'; z = last;
+            j = 1;
+            i = k';
+            z = last;
             steps = further (ap X.next_in m') (subst (λ y. Quietly (X.machine l n) 0 y last) (sym (ap (X.quiet_in (at_todo me i (X.next at_number (L.loop x inner) t'))) m')) here);
             few = omega arith;
             rel = record {
-              twin = last; same = refl;
+              twin = last;
+              same = refl;
               near = stands (body start id x start here' here' (fresh_loop a x inner z.made.at z.made.below made) (omega arith) (over.on_top behind (record { shape = shape'; sits = sits }))) near (record { small = omega arith; enough = omega arith });
             };
           })
@@ -182,7 +197,9 @@ module _ (p : Protocol) (l : Program) (n : ℤ) (me : Seat) (g : Given p l n me)
       let b : Back p l n me (return_to (record { body = o; code = coded p l n me a (T.more m (T.again id) rest) } ∷ K) e) (back_to x (pushed number (alone (L.again x)) t)) = go_back p l n me sim e deep in
       let m' = move_is l n first in
       quiets refl (λ h'. record {
-        j = 1; i = k; z = last;
+        j = 1;
+        i = k;
+        z = last;
         steps = further (ap X.next_in m') (subst (λ y. Quietly (X.machine l n) 0 y last) (sym (ap (X.quiet_in first) m')) here);
         few = omega arith;
         rel = record { twin = last; same = refl; near = stands b.sim near (record { small = b.small; enough = hot c h' b.small room.enough }) };

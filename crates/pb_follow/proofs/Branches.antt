@@ -1,5 +1,5 @@
 -- The branches of a choice: in the core, in the endpoint and in the text.
-use Rattle.std.proofs.Common.{◌≡◌, ◌≤◌, ◌<◌, ℕ, zero, suc, ◌+◌, ◌==◌, ℤ, pos, Bool, true, false, ◌&&◌, ◌||◌, cond, MatchBool, List, [], ◌∷◌, length, Option, Some, None, ◌⊎◌, inl, inr, refl, sym, ap, ◌∙◌, subst, arith}
+use Rattle.std.proofs.Common.{◌≡◌, ◌≤◌, ◌<◌, ℕ, zero, suc, ◌+◌, ◌==◌, ℤ, pos, Bool, true, false, cond, MatchBool, List, ◌∷◌, Some, refl, ap, ◌∙◌, subst, arith}
 use Rattle.std.proofs.lemmas.Bool.Decides.{nat_tests}
 use Rattle.pb_core.specs.declared.protocol.CoreRole.{CoreRole}
 use Rattle.pb_core.specs.Tree as T
@@ -7,16 +7,15 @@ use Rattle.pb_core.specs.Tree.{BlockTree, BranchTrees}
 use Rattle.pb_core.specs.Plain.{Protocol}
 use Rattle.pb_core.specs.Flat.{Block, stop, message, compute, together, choice, looped, again, Branches, no_branch, branch, takes_part, takes_part_among, count, branch_at}
 use Rattle.pb_core.specs.FlatOf.{flat_block, flat_branches}
-use Rattle.pb_core.specs.Outcomes.{firsts, firsts_among, labels_of, is_among}
+use Rattle.pb_core.specs.Outcomes.{firsts, labels_of, is_among}
 use Rattle.pb_core.specs.Run.{Env}
 use Rattle.pb_endpoint.specs.Core.{have_simple_items, branches_have_simple_items}
-use Rattle.pb_endpoint.specs.Endpoint.{Code, Arms, code, arms, count_arms, arm_at, arm_of}
+use Rattle.pb_endpoint.specs.Endpoint.{Code, code, arms, count_arms, arm_at, arm_of}
 use Rattle.pb_endpoint.proofs.Kept.{Receives_first, Receives_each, first_label, first_label_among, Apart, Keeps, Keeps_each}
-use Rattle.pb_endpoint.proofs.Moves.{labels_append, among_left, among_right}
+use Rattle.pb_endpoint.proofs.Moves.{arm_is as arm_is_branch, among_at}
 use Rattle.pb_endpoint.proofs.Progress.{and_both}
 use Rattle.pb_endpoint.proofs.Branches.{or_left}
-use Rattle.pb_endpoint.proofs.Stacks.{bool_cases}
-use Rattle.pb_local.specs.Tree.{Codes, nothing, more, size_all, size_parts, Parts, no_part, part, Program}
+use Rattle.pb_local.specs.Tree.{Codes, nothing, size_all, size_parts, Parts, no_part, part, Program}
 use Rattle.pb_local.specs.WellMade as W
 use Rattle.pb_local.specs.WellMade.{AreMade, ArePartsMade, count_parts}
 use Rattle.pb_local.specs.Machine.{Todo, pushed, entered}
@@ -100,9 +99,7 @@ module _ (roles : List CoreRole) (n : ℤ) (opens : List ℕ) where
   counts_are held r (T.branch m b bs) (part a parts) (S.branch s ss) = ap suc (counts_are held r bs parts ss)
 
   pub arm_is : (held : List Bool) (r : ℕ) (bs : BranchTrees) (y : ℕ) → arm_at y (arms held r (flats bs)) ≡ code held r (flat_block roles n opens (pos 0) (tree_at y bs) stop)
-  arm_is held r T.no_branch y = refl
-  arm_is held r (T.branch m b bs) zero = refl
-  arm_is held r (T.branch m b bs) (suc y) = arm_is held r bs y
+  arm_is held r bs y = arm_is_branch held r (flats bs) y ∙ ap (code held r) (branch_is bs y)
 
 -- ---- by a label
 
@@ -124,17 +121,12 @@ module _ (held : List Bool) (r : ℕ) where
       go true e h ih = record { branch = zero; is = cc; told = e }
       go false e h ih = let f = ih h in record { branch = suc f.branch; is = f.is; told = f.told }
 
-  among_all : (bs : Branches) (y label : ℕ) → is_among label (labels_at y bs) ≡ true → is_among label (labels_of (firsts_among held r bs)) ≡ true
-  among_all no_branch y label h = h
-  among_all (branch m b bs) zero label h = ap (is_among label) (labels_append (firsts held r b) (firsts_among held r bs)) ∙ among_left label (labels_of (firsts held r b)) (labels_of (firsts_among held r bs)) h
-  among_all (branch m b bs) (suc y) label h = ap (is_among label) (labels_append (firsts held r b) (firsts_among held r bs)) ∙ among_right label (labels_of (firsts held r b)) (labels_of (firsts_among held r bs)) (among_all bs y label h)
-
   -- no label tells two branches
   pub one_branch : (bs : Branches) (x y label : ℕ) → Apart held r bs → is_among label (labels_at x bs) ≡ true → is_among label (labels_at y bs) ≡ true → x ≡ y
   one_branch no_branch x y label apart h k = cc
   one_branch (branch m b bs) zero zero label apart h k = refl
-  one_branch (branch m b bs) zero (suc y) label apart h k = absurd (apart.0 label h (among_all bs y label k))
-  one_branch (branch m b bs) (suc x) zero label apart h k = absurd (apart.0 label k (among_all bs x label h))
+  one_branch (branch m b bs) zero (suc y) label apart h k = absurd (apart.0 label h (among_at held r bs y label k))
+  one_branch (branch m b bs) (suc x) zero label apart h k = absurd (apart.0 label k (among_at held r bs x label h))
   one_branch (branch m b bs) (suc x) (suc y) label apart h k = ap suc (one_branch bs x y label apart.1 h k)
 
 -- ---- whoever is told, is told by a rank, and by some label

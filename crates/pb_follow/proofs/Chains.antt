@@ -1,5 +1,5 @@
 -- The endpoint's code of a straight statement.
-use Rattle.std.proofs.Common.{◌≡◌, ◌≤◌, ℕ, zero, suc, ◌+◌, ◌==◌, ℤ, pos, Bool, true, false, ◌&&◌, cond, List, [], ◌∷◌, ◌++◌, refl, sym, ap, ◌∙◌, subst, arith}
+use Rattle.std.proofs.Common.{◌≡◌, ℕ, ◌==◌, ℤ, pos, Bool, true, false, cond, List, [], ◌∷◌, ◌++◌, refl, sym, ap, ◌∙◌}
 use Rattle.pb_affine.specs.Values.{value, range}
 use Rattle.pb_world.specs.Actions.{Kind, Sends, Receives, Runs, Enters, Leaves, Chooses}
 use Rattle.pb_core.specs.declared.protocol.CoreRole.{CoreRole}
@@ -8,15 +8,14 @@ use Rattle.pb_core.specs.Tree.{Mark, Bounds, StmtTree, BlockTree}
 use Rattle.pb_core.specs.Flat.{Block, stop, message, compute, together, choice, looped, again}
 use Rattle.pb_core.specs.FlatOf.{rank_of, for_each, flat_stmt, flat_block}
 use Rattle.pb_core.specs.Run.{Env}
-use Rattle.pb_endpoint.specs.Core.{are_simple, is_simple, has_simple_items}
+use Rattle.pb_endpoint.specs.Core.{are_simple, has_simple_items}
 use Rattle.pb_endpoint.specs.Endpoint.{Code, send, receive, run, code}
 use Rattle.pb_endpoint.proofs.Kept.{Keeps}
-use Rattle.pb_endpoint.proofs.Progress.{and_both}
 use Rattle.pb_local.specs.Tree.{Codes}
 use Rattle.pb_shape.specs.Shape as S
 use Rattle.pb_shape.specs.Shape.{Scope, Here, Piece}
 use Rattle.pb_shape.specs.Ways.{mine}
-use Rattle.pb_ranks.proofs.Fronts.{AreStraight, laid}
+use Rattle.pb_follow.proofs.Fronts.{AreStraight, laid}
 
 -- ---- what a rank does of straight statements is no choice
 

@@ -1,6 +1,6 @@
 -- Where the text is known to do next what the endpoint does next, it simulates it.
-use Rattle.std.proofs.Common.{◌≡◌, ◌≤◌, ◌<◌, ℕ, suc, ◌+◌, ℤ, Bool, true, false, ◌&&◌, ◌||◌, cond, List, [], ◌∷◌, Option, Some, None, refl, sym, ap, ◌∙◌, subst}
-use Rattle.pb_world.specs.Actions.{Action, Kind, kind_of}
+use Rattle.std.proofs.Common.{◌≡◌, ◌≤◌, ℕ, ℤ, Bool, true, false, ◌&&◌, ◌||◌, cond, List, Option, Some, None, refl, sym, ap, ◌∙◌, subst}
+use Rattle.pb_world.specs.Actions.{Action, Kind}
 use Rattle.pb_world.specs.Machine.{Next, Silent, Does, Probe, Ended, Lost, Machine}
 use Rattle.pb_world.specs.Once.{Once, once_read, once}
 use Rattle.pb_world.specs.Carry.{Quietly, Simulates}
@@ -12,7 +12,7 @@ use Rattle.pb_local.specs.Ranks.{Seat}
 use Rattle.pb_local.specs.Tree.{Program}
 use Rattle.pb_local.specs.Machine.{Rank}
 use Rattle.pb_local.specs.Family.{most_silent}
-use Rattle.pb_ranks.proofs.Fronts.{down, Rel, QuietTo, DoesTo, ReadTo, ProbeTo, Front, over, quiets, acts, asks}
+use Rattle.pb_follow.proofs.Fronts.{down, Rel, QuietTo, DoesTo, ProbeTo, Front, over, quiets, acts, asks}
 
 -- the endpoint's machine, which is lost where it goes back twice without an action between
 abbrev pub up : Machine (Once (List Part))
@@ -81,9 +81,15 @@ module _ (p : Protocol) (l : Program) (n : ℤ) (me : Seat) where
     does = λ k x y kind rel h. let r = acts_front kind (front k x y rel) h in (r.j, r.z, r.steps, r.few, r.next, λ a e al. r.act a e);
     ends = λ k x y rel h. ends_front (front k x y rel) h;
     probes = λ k x y q rel h.
-        let r = asks_front q (front k x y rel) h in
-        (r.j, r.z, r.steps, r.few, r.next, λ label x' e.
-        let got = read_by x.went_back x.state label x' (read_at x.state label) refl e in
-        let to = r.read label got.state got.reads in
-        (to.i, to.behind, to.reads, to.few, subst (λ w. Rel p l n me to.i w to.behind) (sym got.is) to.rel));
+        let r = asks_front q (front k x y rel) h in (
+          r.j,
+          r.z,
+          r.steps,
+          r.few,
+          r.next,
+          λ label x' e.
+              let got = read_by x.went_back x.state label x' (read_at x.state label) refl e in
+              let to = r.read label got.state got.reads in
+              (to.i, to.behind, to.reads, to.few, subst (λ w. Rel p l n me to.i w to.behind) (sym got.is) to.rel),
+        );
   }

@@ -1,12 +1,11 @@
 -- The steps of a text before a loop or a choice, and through a straight statement.
-use Rattle.std.proofs.Common.{◌≡◌, ◌≤◌, ◌<◌, ℕ, zero, suc, ◌+◌, ◌*◌, ◌^◌, ℤ, pos, negsuc, ◌+ℤ◌, Bool, true, false, cond, if◌then◌else◌, nat_eq, List, [], ◌∷◌, length, Option, Some, None, refl, sym, ap, ◌∙◌, subst, lt-ltb, arith}
+use Rattle.std.proofs.Common.{◌≡◌, ◌≤◌, ℕ, zero, suc, ◌+◌, ℤ, pos, ◌+ℤ◌, Bool, true, false, List, [], ◌∷◌, Option, refl, sym, ◌∙◌, subst, arith}
 use Rattle.std.proofs.lemmas.Int.{ints}
 use Rattle.pb_affine.specs.declared.guard.Guard.{Guard}
 use Rattle.pb_affine.specs.Values.{value, count_of}
-use Rattle.pb_world.specs.Actions.{Action, Kind, Sends, Receives, Runs, Enters, Leaves, Chooses, kind_of}
-use Rattle.pb_world.specs.Machine.{Silent, Does}
-use Rattle.pb_world.specs.Once.{Once}
-use Rattle.pb_world.specs.Carry.{Quietly, here, further}
+use Rattle.pb_world.specs.Actions.{Action, Kind, Sends, Receives, Runs, Enters, Leaves, Chooses}
+use Rattle.pb_world.specs.Machine.{Does}
+use Rattle.pb_world.specs.Carry.{here}
 use Rattle.pb_core.specs.Plain.{Protocol}
 use Rattle.pb_flat.specs.Seated.{rank, is_rank}
 use Rattle.pb_endpoint.specs.Endpoint.{Code, Part, next_code, act_at, branch_of}
@@ -22,17 +21,16 @@ use Rattle.pb_local.specs.WellMade.{AreMade, AreGuards, IsGuard, IsPeer}
 use Rattle.pb_local.specs.Machine as X
 use Rattle.pb_local.specs.Machine.{Todo, Rank, pushed, move, move_from}
 use Rattle.pb_local.specs.Family.{most_silent}
-use Rattle.pb_shape.specs.Shape.{Here, Around, Who, One, there, gone, scope_of, number_at, told_by, alone}
+use Rattle.pb_shape.specs.Shape.{Here, Around, Who, One, there, gone, scope_of, told_by, alone}
 use Rattle.pb_shape.specs.Straight.{IsSeated, IsVariable, at_todo, IsOpenTo, StraightPasses}
 use Rattle.pb_shape.specs.Ways as V
 use Rattle.pb_shape.specs.Ways.{Way, renewed}
-use Rattle.pb_ranks.proofs.Stacks.{weight, weight_pushed, all, me_rank, IsMadeIn, Sim}
-use Rattle.pb_ranks.proofs.Fronts.{AreStraight, laid, after, down, debt, Budget, Rel, stands, moves, Front, acts, later, step}
-use Rattle.pb_ranks.proofs.Pieces.{Left, one_leaves}
+use Rattle.pb_straight.proofs.Fits.{fits_is}
+use Rattle.pb_follow.proofs.Stacks.{weight_pushed, me_rank, Sim}
+use Rattle.pb_follow.proofs.Fronts.{AreStraight, laid, after, down, Budget, Rel, moves, Front, acts, later, step}
 
-pub variable_fits : (x : ℤ) → IsVariable x → fits x ≡ true
-variable_fits (pos n) h = let u = h.high in lt-ltb n (2 ^ 31) (omega (arith, ints))
-variable_fits (negsuc n) h = let u = h.low in lt-ltb n (2 ^ 31) (omega (arith, ints))
+variable_fits : (x : ℤ) → IsVariable x → fits x ≡ true
+variable_fits x h = let l = h.low in let u = h.high in fits_is x (omega (arith, ints)) (omega (arith, ints))
 
 -- what is known of a rank: it sits in the world, straight code passes, and what it computes fits
 pub record Given (p : Protocol) (l : Program) (n : ℤ) (me : Seat) : Type 0 where
@@ -88,7 +86,11 @@ module _ (p : Protocol) (l : Program) (n : ℤ) (me : Seat) (g : Given p l n me)
       let head = head_is kind kinds rest h in
       let near' = moves {c = false} w (tail_straight kind kinds h) sim near (subst (λ b. Budget p l n me b left t) (sym (still kinds)) room) in
       acts kind head.0 head.1 (record {
-        j = zero; z = y; steps = here; few = omega arith; next = e;
+        j = zero;
+        z = y;
+        steps = here;
+        few = omega arith;
+        next = e;
         act = λ b same. subst (λ w. Rel p l n me (most_silent l) (record { state = act_at (record { body = o; code = laid (kind ∷ kinds) rest } ∷ K) (branch_of b); went_back = false }) w) (sym (f b same))
             (subst (λ K'. Rel p l n me (most_silent l) (record { state = K'; went_back = false }) z) (sym (head.2 o K b)) (record { twin = z; same = refl; near = near' }));
       })

@@ -1,25 +1,21 @@
 -- What a rank's text does next, beside what its endpoint does next.
-use Rattle.std.proofs.Common.{◌≡◌, ◌≤◌, ◌<◌, ℕ, zero, suc, ◌+◌, ◌*◌, ℤ, Bool, true, false, ◌&&◌, ◌||◌, cond, List, [], ◌∷◌, Option, Some, None, refl, sym, ap, ◌∙◌, subst, arith}
+use Rattle.std.proofs.Common.{◌≡◌, ◌≤◌, ◌<◌, ℕ, zero, suc, ◌+◌, ◌*◌, ℤ, Bool, false, ◌&&◌, ◌||◌, cond, List, [], ◌∷◌, Option, Some, refl, sym, ap, ◌∙◌, subst, arith}
 use Rattle.pb_world.specs.Actions.{Action, Kind, Sends, Receives, Runs, Enters, Leaves, Chooses, kind_of}
-use Rattle.pb_world.specs.Machine.{Next, Silent, Does, Probe, Ended, Lost, Undefined, Machine}
-use Rattle.pb_world.specs.Once.{Once, once_read, once}
-use Rattle.pb_world.specs.Carry.{Quietly, here, further, Simulates}
+use Rattle.pb_world.specs.Machine.{Silent, Does, Probe, Ended, Machine}
+use Rattle.pb_world.specs.Once.{Once}
+use Rattle.pb_world.specs.Carry.{Quietly, here, further}
 use Rattle.pb_core.specs.Plain.{Protocol}
-use Rattle.pb_endpoint.specs.Endpoint.{Code, send, receive, run, enter, leave, Part, next_code, next_at, quiet_at, branch_of, act_at, read_at}
-use Rattle.pb_endpoint.specs.Endpoint as E
-use Rattle.pb_endpoint.specs.Once.{is_again, is_at_again}
+use Rattle.pb_endpoint.specs.Endpoint.{Code, send, receive, run, enter, leave, Part, next_code, quiet_at, branch_of, act_at, read_at}
+use Rattle.pb_endpoint.specs.Once.{is_again}
 use Rattle.pb_local.specs.Ranks.{Seat}
-use Rattle.pb_local.specs.Tree as L
 use Rattle.pb_local.specs.Tree.{Program}
-use Rattle.pb_local.specs.Machine as X
 use Rattle.pb_local.specs.Machine.{Todo, Rank, Move, silent, does, chooses, probes, ends, undefined, move_from, move, next_in, quiet_in, read_in, act_in, machine}
 use Rattle.pb_local.specs.Family.{most_silent}
 use Rattle.pb_local.proofs.Moves.{move_is}
 use Rattle.pb_shape.specs.Shape.{Around}
 use Rattle.pb_shape.specs.Straight.{IsVariable, at_todo}
-use Rattle.pb_shape.specs.Ways as V
 use Rattle.pb_shape.specs.Ways.{Way}
-use Rattle.pb_ranks.proofs.Stacks.{weight, all, Sim}
+use Rattle.pb_follow.proofs.Stacks.{weight, all, Sim}
 
 -- ---- straight code of an endpoint
 

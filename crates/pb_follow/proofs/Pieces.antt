@@ -1,5 +1,5 @@
 -- What is left of well-made code behind a straight statement.
-use Rattle.std.proofs.Common.{◌≤◌, ℕ, ◌+◌, ℤ, List, arith}
+use Rattle.std.proofs.Common.{◌≤◌, ℕ, ℤ, List, arith}
 use Rattle.pb_core.specs.declared.protocol.CoreRole.{CoreRole}
 use Rattle.pb_core.specs.Tree.{Bounds, StmtTree, BlockTree}
 use Rattle.pb_local.specs.Tree.{Codes, size_all, Program}

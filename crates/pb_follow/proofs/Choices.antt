@@ -1,32 +1,28 @@
 -- What a text does next at a choice, beside what the endpoint does next at it.
-use Rattle.std.proofs.Common.{◌≡◌, ◌≤◌, ◌<◌, ℕ, zero, suc, ◌+◌, ◌*◌, ◌==◌, ℤ, pos, ◌+ℤ◌, Bool, true, false, ◌&&◌, ◌||◌, cond, if◌then◌else◌, nat_eq, unwrap_or, List, [], ◌∷◌, length, Option, Some, None, refl, sym, ap, ◌∙◌, subst, lt-ltb, arith, inl, inr}
+use Rattle.std.proofs.Common.{◌≡◌, ◌≤◌, ◌<◌, ℕ, zero, suc, ◌+◌, ◌==◌, ℤ, pos, ◌+ℤ◌, Bool, true, false, ◌&&◌, ◌||◌, if◌then◌else◌, nat_eq, unwrap_or, List, [], ◌∷◌, Option, Some, None, refl, sym, ap, ◌∙◌, subst, lt-ltb, arith}
 use Rattle.std.specs.Ordering.{int_eq}
-use Rattle.std.proofs.lemmas.Bool.Decides.{nat_tests}
 use Rattle.pb_affine.specs.declared.guard.Guard.{Guard}
 use Rattle.pb_affine.specs.declared.lin.Base.{Base}
 use Rattle.pb_affine.specs.declared.lin.Base.TheVariants.{Fixed, Param, Var}
-use Rattle.pb_affine.specs.Values.{value, base_value, count_of, hold}
+use Rattle.pb_affine.specs.Values.{value, base_value, count_of}
 use Rattle.pb_world.specs.Actions.{Action, Choose, Run, Send, Recv, Enter, Leave, Chooses, branch_in}
-use Rattle.pb_world.specs.Machine.{Silent, Does, Probe}
-use Rattle.pb_world.specs.Carry.{Quietly, here, further}
+use Rattle.pb_world.specs.Machine.{Does, Probe}
+use Rattle.pb_world.specs.Carry.{here}
 use Rattle.pb_core.specs.declared.tree.CoreEnd.{CoreEnd}
-use Rattle.pb_core.specs.Ranks as C
 use Rattle.pb_core.specs.Ranks.{total, seats}
 use Rattle.pb_core.specs.Tree as T
 use Rattle.pb_core.specs.Tree.{Mark, BlockTree, BranchTrees}
 use Rattle.pb_core.specs.Plain.{Protocol}
-use Rattle.pb_core.specs.Flat.{Block, stop, Branches, takes_part_among, branch_at}
-use Rattle.pb_core.specs.FlatOf.{flat_block, flat_branches, rank_of}
-use Rattle.pb_core.specs.Run.{Env, at_rank}
-use Rattle.pb_core.specs.Outcomes.{firsts, firsts_among, source_of, labels_of, is_among}
+use Rattle.pb_core.specs.Flat.{Branches, takes_part_among}
+use Rattle.pb_core.specs.FlatOf.{flat_branches, rank_of}
+use Rattle.pb_core.specs.Outcomes.{firsts_among, source_of}
 use Rattle.pb_core.specs.Sound.{is_over_n}
-use Rattle.pb_flat.specs.Seated.{rank, is_rank, is_at}
+use Rattle.pb_flat.specs.Seated.{rank, is_rank}
 use Rattle.pb_flat.proofs.Seats.{end_is_at, seat_of_rank, is_below}
 use Rattle.pb_endpoint.specs.Core.{have_simple_items, branches_have_simple_items}
-use Rattle.pb_endpoint.specs.Endpoint.{Code, Arms, Part, code, arms, count_arms, choose, told, arm_at, arm_of, branch_of, act_at, read_at, chosen}
-use Rattle.pb_endpoint.proofs.Kept.{IsTold, Keeps}
+use Rattle.pb_endpoint.specs.Endpoint.{Code, Arms, Part, code, arms, count_arms, choose, told, arm_at, arm_of, branch_of, chosen}
+use Rattle.pb_endpoint.proofs.Kept.{IsTold}
 use Rattle.pb_endpoint.proofs.Progress.{and_both}
-use Rattle.pb_local.specs.declared.stmt.Peer.{Peer}
 use Rattle.pb_local.specs.declared.stmt.Test.{Test}
 use Rattle.pb_local.specs.declared.stmt.Relay.{Relay}
 use Rattle.pb_local.specs.Ranks.{Seat}
@@ -40,16 +36,14 @@ use Rattle.pb_local.specs.Machine as X
 use Rattle.pb_local.specs.Machine.{Todo, Rank, pushed, entered, move, move_from}
 use Rattle.pb_local.specs.Family.{most_silent}
 use Rattle.pb_local.proofs.Moves.{move_is}
-use Rattle.pb_shape.specs.Shape as S
-use Rattle.pb_shape.specs.Shape.{Here, inside, Around, takers, alone, told_by, peer_of, is_end, is_told, guards_of, Names, Tests, Relays, scope_of, One, Shape, Shapes, number_at}
-use Rattle.pb_shape.specs.Straight.{IsVariable, at_todo, IsOpenTo, IsEnd}
-use Rattle.pb_ranks.proofs.Stacks.{weight, weight_pushed, all, me_rank, held, flat, coded, IsAround, IsMadeIn, Sits, Stands, Sim, block}
-use Rattle.pb_ranks.proofs.Fronts.{debt, Budget, Rel, stands, Front, acts, asks, ReadTo, ProbeTo, DoesTo}
-use Rattle.pb_ranks.proofs.Pieces.{Left, one_leaves}
-use Rattle.pb_ranks.proofs.Steps.{Given, Ahead, one_skips, one_enters, told_front, IsFound, plainly, by_index}
-use Rattle.pb_ranks.proofs.Blocks.{Over, made_later}
-use Rattle.pb_ranks.proofs.Branches.{tree_at, part_at, shape_at, size_at, fine_at, simple_at, MadeAt, made_at, IsEntered, entered_is, branch_is, keeps_at, counts_are, arm_is, FoundArm, found_arm, one_branch, IsToldBy, told_by_one}
-use Rattle.pb_ranks.proofs.Tells.{tested_is, relays_fit, source_made}
+use Rattle.pb_shape.specs.Shape.{Here, inside, Around, takers, told_by, peer_of, is_end, is_told, guards_of, Names, Tests, Relays, scope_of, Shape, Shapes}
+use Rattle.pb_shape.specs.Straight.{IsVariable, at_todo, IsEnd}
+use Rattle.pb_follow.proofs.Stacks.{weight, weight_pushed, all, me_rank, held, coded, Sits, Sim, block}
+use Rattle.pb_follow.proofs.Fronts.{debt, Budget, Rel, stands, acts, asks}
+use Rattle.pb_follow.proofs.Steps.{Given, Ahead, IsFound, plainly, by_index}
+use Rattle.pb_follow.proofs.Blocks.{Over}
+use Rattle.pb_follow.proofs.Branches.{tree_at, part_at, shape_at, size_at, fine_at, simple_at, made_at, entered_is, branch_is, keeps_at, counts_are, arm_is, found_arm, one_branch, told_by_one}
+use Rattle.pb_follow.proofs.Tells.{tested_is, relays_fit, source_made}
 
 module _ (p : Protocol) (l : Program) (n : ℤ) (me : Seat) (g : Given p l n me) where
   module _ (h : Here) (a : Around) (m : Mark) (kern : ℕ) (from : CoreEnd) (bs : BranchTrees) (rest : BlockTree) (who : Guard) (relays : List Relay) (tests : List Test) (parts : Parts) (tail codes : Codes) where
@@ -161,7 +155,10 @@ module _ (p : Protocol) (l : Program) (n : ℤ) (me : Seat) (g : Given p l n me)
         let to : ℕ → Rank = λ b. at_todo me j (entered (suc number) b parts (pushed behind tail t)) in
         let m' : move l n z ≡ X.chooses kern (count_parts parts) to = move_is l n z ∙ rw (g.guard j near who made.choice.guard, chooses_is x j ∙ mine) refl in
         acts (Chooses kern (count_arms my_arms)) refl refl (record {
-          j = zero; z = z; steps = here; few = omega arith;
+          j = zero;
+          z = z;
+          steps = here;
+          few = omega arith;
           next = ap X.next_in m' ∙ ap (λ q. Does (Chooses kern q)) (sym (counts_are p.roles n a.opens (held p l n me a) (me_rank p l n me) bs parts x.shapes));
           act = λ b same.
               let y = branch_of b in
@@ -179,9 +176,9 @@ module _ (p : Protocol) (l : Program) (n : ℤ) (me : Seat) (g : Given p l n me)
     abbrev teller_at : ℕ
     teller_at = source_of (firsts_among (held p l n me a) (me_rank p l n me) flats)
 
-    source_at : (x : IsThere) (j : ℤ) (lab : ℕ) → is_told (scope_of p) a bs 0 lab n (pos 0) me.role me.index ≡ true → IsFound p l n me g j relays →
+    source_at : (x : IsThere) (j : ℤ) (lab : ℕ) → (rank_of p.roles n from (pos 0) == me_rank p l n me) ≡ false → is_told (scope_of p) a bs 0 lab n (pos 0) me.role me.index ≡ true → IsFound p l n me g j relays →
         rank p.roles n (N.source_of n me j relays (peer_of from)).role (value (N.source_of n me j relays (peer_of from)).at n j) ≡ teller_at
-    source_at x j lab is_so found = go relays found (x.relayed n me.role me.index 0 lab g.seated.within g.seated.is is_so)
+    source_at x j lab other is_so found = go relays found (x.relayed n me.role me.index 0 lab g.seated.within g.seated.is (sym (end_is_at p.roles n (pos 0) from me.role me.index g.seated.is) ∙ other) is_so)
       where
         go : (rs : List Relay) → IsFound p l n me g j rs →
             rank p.roles n (N.source_of n me me.index rs (peer_of from)).role (value (N.source_of n me me.index rs (peer_of from)).at n me.index) ≡ teller_at →
@@ -229,7 +226,7 @@ module _ (p : Protocol) (l : Program) (n : ℤ) (me : Seat) (g : Given p l n me)
         let first = told_by_one bits r teller_at (total p.roles n) env flats x.sits.keeps.1 x.sits.keeps.3 is_told'.receives in
         let told0 : is_told (scope_of p) a bs 0 first.label n (pos 0) me.role me.index ≡ true = is_told'.labels 0 first.label first.told in
         let source = N.source_of n me j relays (peer_of from) in
-        let source_is = source_at x j first.label told0 found in
+        let source_is = source_at x j first.label other told0 found in
         let seated : is_rank p.roles n source.role (value source.at n j) ≡ true = is_below (seats p.roles n) (record { role = source.role; index = value source.at n j }) ∙ lt-ltb _ _ (subst (λ q. q < total p.roles n) (sym source_is) first.source) in
         let fits = g.peer j near source (source_made l n me j (g.guards j near) relays (peer_of from) made.choice.each_relay made.choice.source) seated in
         let tested : (b lab : ℕ) → is_for_some n me j (guards_of b lab tests) ≡ is_told (scope_of p) a bs b lab n (pos 0) me.role me.index = λ b lab. x.tested b lab n j me.role me.index g.seated.within g.seated.is (x.sits.here.at j) in
@@ -237,7 +234,10 @@ module _ (p : Protocol) (l : Program) (n : ℤ) (me : Seat) (g : Given p l n me)
         let m' : move l n z ≡ X.probes (count_of (peer_number n me j l source)) to =
         move_is l n z ∙ rw (g.guard j near who made.choice.guard, chooses_is x j ∙ other) (asks_is z tests 0 first.label (suc number) t' (tested 0 first.label ∙ told0) ∙ rw (relays_fit l n me j (g.guards j near) relays made.choice.each_relay, fits.0) refl) in
         asks teller_at refl refl (record {
-          j = zero; z = z; steps = here; few = (let e = room.enough in omega arith);
+          j = zero;
+          z = z;
+          steps = here;
+          few = (let e = room.enough in omega arith);
           next = ap X.next_in m' ∙ ap (λ q. Probe q) (fits.1 ∙ source_is);
           read = λ lab K' h.
               let as_read = read_as o K lab K' h in
@@ -247,7 +247,8 @@ module _ (p : Protocol) (l : Program) (n : ℤ) (me : Seat) (g : Given p l n me)
               let one : (b : ℕ) → is_for_some n me j (guards_of b lab tests) ≡ true → b ≡ y = λ b e. one_branch bits r flats b y lab is_told'.apart (sym (tested b lab) ∙ e) as_read.told in
               let found_test : branch_for n me j tests lab ≡ Some y = tested_is l n me j (g.guards j near) (count_parts parts) y lab tests made.choice.each_test one (tested y lab ∙ as_read.told) in
               record {
-                i = size_parts parts + weight t' + debt p l n me c; behind = last;
+                i = size_parts parts + weight t' + debt p l n me c;
+                behind = last;
                 reads = ap (λ q. X.read_in q lab) m' ∙ ap (X.told z (suc number) parts t') found_test ∙ ap (λ q. Some (at_todo me j q)) into.is;
                 few = (let e = room.enough in omega arith);
                 rel = subst (λ q. Rel p l n me (size_parts parts + weight t' + debt p l n me c) (record { state = q; went_back = c }) last) (sym as_read.is)

@@ -1,0 +1,12 @@
+pub mod Stacks
+pub mod Fronts
+pub mod Simulated
+pub mod Chains
+pub mod Pieces
+pub mod Steps
+pub mod Blocks
+pub mod Branches
+pub mod Tells
+pub mod Choices
+pub mod Walks
+pub mod Starts
