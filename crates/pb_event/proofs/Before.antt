@@ -64,6 +64,7 @@ as_before s channels sound m w = record {
   tree = refl;
   n = refl;
   stands = refl;
+  words = w;
 } where
   waits : (r : ℕ) (v : Option Waits) → IsWaiting s r v → IsWaiting (remade s s.ranks s.stands channels s.joins) r v
   waits r None h = tt

@@ -38,7 +38,7 @@ use Rattle.pb_event.proofs.Exits.{inside, entry_there}
 
 -- ---- lists of messages
 
-first_label : (b : Bool) (ms : List Message) (m : W.Message) (rest : List W.Message) → moded b ms ≡ m ∷ rest → label_of ms ≡ Some m.label
+pub first_label : (b : Bool) (ms : List Message) (m : W.Message) (rest : List W.Message) → moded b ms ≡ m ∷ rest → label_of ms ≡ Some m.label
 first_label b [] m rest e = absurd (clash e) where
   clash : ◌≡◌ {A = List W.Message} [] (m ∷ rest) → ⊥
   clash z = cc
@@ -164,7 +164,7 @@ module _ (s : State) (r : ℕ) (sequence : Sequence) (sound : IsState s) where
   by_next : (next : N.Next) → W.IsFree (family (program s) s.n sequence) (world_of s) r → next_step s r ≡ next → can_next s r (state_at s r) (next_of next) ≡ true → can s r ≡ true
   by_next next free e h = ap (λ w. unless_waiting w (can_next s r (state_at s r) (next_of (next_step s r)))) (waits_none free) ∙ ap (λ y. can_next s r (state_at s r) (next_of y)) e ∙ h
 
-  enter_can : (j : Collective) → agrees s.joins r j ≡ true → can_act s r (entry_of j) ≡ true
+  pub enter_can : (j : Collective) → agrees s.joins r j ≡ true → can_act s r (entry_of j) ≡ true
   enter_can Barrier h = h
   enter_can (Broadcast label root) h = h
   enter_can (Reduce label operation root) h = ap (λ o. agrees s.joins r (Reduce label o root)) (operation_back operation) ∙ h

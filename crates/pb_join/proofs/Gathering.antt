@@ -29,7 +29,7 @@ in_front [] y k d h = absurd (omega (arith, h))
 in_front (x ∷ xs) y zero d h = refl
 in_front (x ∷ xs) y (suc k) d h = in_front xs y k d (omega (arith, h))
 
-get_pushed : {A : Type 0} (xs : List A) (y : A) (k : ℕ) (z : A) → slice_get (xs ++ y ∷ []) k ≡ Some z → (slice_get xs k ≡ Some z) ⊎ ((k ≡ length xs) × (y ≡ z))
+pub get_pushed : {A : Type 0} (xs : List A) (y : A) (k : ℕ) (z : A) → slice_get (xs ++ y ∷ []) k ≡ Some z → (slice_get xs k ≡ Some z) ⊎ ((k ≡ length xs) × (y ≡ z))
 get_pushed [] y zero z e = inr (refl, same e) where
   same : Some y ≡ Some z → y ≡ z
   same e = cc
