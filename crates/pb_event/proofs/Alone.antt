@@ -118,7 +118,7 @@ module _ (s : State) (r : ℕ) (z : Counted M.Rank) (ranks : Vec Rank) (new : St
 
     pub own_kept : IsJoining s.joins r (stand s r).left z.state.todo → IsState (remade s ranks stands s.channels s.joins)
     own_kept joining =
-        kept s r z ranks r new stands s.channels s.joins sound h h m w sound.joined sound.joins sound.words
+        kept s r z ranks r new stands s.channels s.joins sound h h m w sound.joined sound.joins sound.words sound.within sound.opened
         (λ q lt. each_but (λ i v (u : Unit {0}). i < total_of s → IsWaiting s i v.waits) (stand s) (λ i. tt) r new tt (λ l. subst (IsWaiting s r) (sym ws) (sound.waits r l)) q (λ n l. sound.waits q l) lt)
         (λ q lt. each_but (λ i v (y : Counted M.Rank). i < total_of s → IsJoining s.joins i v.left y.state.todo) (stand s) (state_at s) r new z (λ l. subst (λ (k : ℕ). IsJoining s.joins r k z.state.todo) (sym ls) joining) q (λ n l. sound.joining q l) lt)
 

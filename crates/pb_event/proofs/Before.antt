@@ -55,6 +55,8 @@ as_before s channels sound m w = record {
     joined = sound.joined;
     each = sound.each;
     words = subst (λ (k : ℕ). k ≤ 16777216) (sym w) sound.words;
+    within = λ p q h. sound.within p q (λ e. h (m p q ∙ e));
+    opened = sound.opened;
     waits = λ r lt. waits r (stand s r).waits (sound.waits r lt);
     joining = sound.joining;
   };
@@ -62,6 +64,7 @@ as_before s channels sound m w = record {
   tree = refl;
   n = refl;
   stands = refl;
+  words = w;
 } where
   waits : (r : ℕ) (v : Option Waits) → IsWaiting s r v → IsWaiting (remade s s.ranks s.stands channels s.joins) r v
   waits r None h = tt

@@ -20,7 +20,7 @@ use Rattle.pb_event.proofs.Alone.{acts_next}
 
 -- ---- the collective that an entry names
 
-operation_back : (o : Operation) → operation_of (op_of o) ≡ o
+pub operation_back : (o : Operation) → operation_of (op_of o) ≡ o
 operation_back Max = refl
 operation_back Min = refl
 operation_back Sum = refl

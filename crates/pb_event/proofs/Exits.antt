@@ -1,11 +1,10 @@
 -- A collective is left.
-use Rattle.std.proofs.Common.{◌≡◌, ◌<◌, ◌≤◌, ℕ, zero, suc, ◌+◌, Bool, true, false, ◌&&◌, ◌||◌, not, cond, nat_eq, nat_lt, nat_le, if◌then◌else◌, ◌⊎◌, inl, inr, Option, Some, List, [], ◌∷◌, length, get_or, refl, ap, sym, ◌∙◌, subst, arith}
+use Rattle.std.proofs.Common.{◌≡◌, ◌<◌, ◌≤◌, ℕ, suc, Bool, true, false, ◌&&◌, ◌||◌, not, cond, nat_eq, nat_le, ◌⊎◌, inl, inr, Option, Some, List, [], ◌∷◌, length, refl, ap, sym, ◌∙◌, subst, arith}
 use Rattle.std.specs.Global.{Vec}
-use Rattle.std.specs.List.{slice_set, slice_get, sum_by}
+use Rattle.std.specs.List.{slice_set, slice_get}
 use Rattle.std.proofs.lemmas.Bool.{cases_eq}
 use Rattle.std.proofs.lemmas.Bool.Decides.{nat_tests}
 use Rattle.std.proofs.lemmas.List.{length-map}
-use Rattle.std.proofs.lemmas.List.Sums.{sum_by-cons}
 use Rattle.std.proofs.lemmas.Option.{slice_get-get_or}
 use Rattle.pb_text.specs.declared.mode.Mode.{Mode}
 use Rattle.pb_text.specs.declared.mode.Mode.TheVariants.{Eager, Waiting}
@@ -21,8 +20,9 @@ use Rattle.pb_chan.specs.Lists.{messages}
 use Rattle.pb_join.specs.declared.call.Call.{Call}
 use Rattle.pb_join.specs.declared.call.Call.TheVariants as C
 use Rattle.pb_join.specs.Calls.{collective_of, label_in}
-use Rattle.pb_join.specs.Joined.{Joined, words_of, number, collectives, entries, has_entered, came_to, came, all_entered}
+use Rattle.pb_join.specs.Joined.{Joined, words_of, number, collectives, entries, has_entered, came, all_entered}
 use Rattle.pb_join.specs.Outcomes.{words_at, outcome_of}
+use Rattle.pb_join.proofs.Entering.{each_came}
 use Rattle.pb_machine.specs.declared.act.Act.{Act}
 use Rattle.pb_machine.specs.declared.act.Act.TheVariants as A
 use Rattle.pb_machine.specs.declared.act.Next.TheVariants as X
@@ -98,41 +98,6 @@ pub exit_act : (s : State) (r : ℕ) (j : Collective) (rest : M.Todo) (words : L
 exit_act s r j rest words e = ap (λ m. (M.act_in (state_at s r).state m (Leave j words)).todo) (exit_move (program s) s.n (state_at s r).state j rest e)
 
 -- ---- who has entered
-
-one_least : (k : ℕ) (xs : List (List (List ℕ))) → sum_by (came_to k) xs ≤ length xs
-one_least k [] = omega arith
-one_least k (x ∷ xs) =
-    let c : sum_by (came_to k) (x ∷ xs) ≡ came_to k x + sum_by (came_to k) xs = sum_by-cons (came_to k) x xs in
-    let u : sum_by (came_to k) xs ≤ length xs = one_least k xs in
-    let o : came_to k x ≤ 1 = one (nat_lt k (length x)) in
-    omega (arith, c, u, o) where
-      one : (b : Bool) → (if b then 1 else 0) ≤ 1
-      one true = omega arith
-      one false = omega arith
-
-pub each_came : (k : ℕ) (xs : List (List (List ℕ))) → sum_by (came_to k) xs ≡ length xs → (q : ℕ) → q < length xs → k < length (get_or xs q [])
-each_came k [] e q h = absurd (omega (arith, h))
-each_came k (x ∷ xs) e q h = by_place q h (each_came k xs others) where
-  c : sum_by (came_to k) (x ∷ xs) ≡ came_to k x + sum_by (came_to k) xs
-  c = sum_by-cons (came_to k) x xs
-
-  u : sum_by (came_to k) xs ≤ length xs
-  u = one_least k xs
-
-  it : k < length x
-  it = by_case (nat_lt k (length x)) refl where
-    by_case : (b : Bool) → nat_lt k (length x) ≡ b → k < length x
-    by_case true f = grind (arith, nat_tests)
-    by_case false f = let z : came_to k x ≡ 0 = ap (λ b. if b then 1 else 0) f in absurd (omega (arith, c, u, z, e))
-
-  others : sum_by (came_to k) xs ≡ length xs
-  others = let z : came_to k x ≡ 1 = ap (λ b. if b then 1 else 0) (true_of it) in omega (arith, c, z, e) where
-    true_of : k < length x → nat_lt k (length x) ≡ true
-    true_of h = grind (arith, nat_tests)
-
-  by_place : (q : ℕ) → q < suc (length xs) → ((q : ℕ) → q < length xs → k < length (get_or xs q [])) → k < length (get_or (x ∷ xs) q [])
-  by_place zero h f = it
-  by_place (suc q) h f = f q (omega (arith, h))
 
 pub all_there : (x : Joined) (k : ℕ) → all_entered x k ≡ true → (q : ℕ) → q < length x.words → k < number x q
 all_there x k e q h = let f : came x k ≡ length x.words = equal_of e in each_came k x.words f q h where
@@ -252,7 +217,7 @@ module _ (s : State) (r : ℕ) (ranks : Vec Rank) (stands : Vec Stand) (call : C
 
     sound : IsState (remade s ranks stands s.channels s.joins)
     sound =
-        kept s r ((text_machine (program s) s.n).act (state_at s r) (Leave (collective_of call) words)) ranks r new stands s.channels s.joins may.sound may.there may.there m w may.sound.joined may.sound.joins may.sound.words
+        kept s r ((text_machine (program s) s.n).act (state_at s r) (Leave (collective_of call) words)) ranks r new stands s.channels s.joins may.sound may.there may.there m w may.sound.joined may.sound.joins may.sound.words may.sound.within may.sound.opened
         (λ q lt. each_but (λ i v (u : Unit {0}). i < total_of s → IsWaiting s i v.waits) (stand s) (λ i. tt) r new tt (λ l. subst (IsWaiting s r) (sym ws) (may.sound.waits r l)) q (λ n l. may.sound.waits q l) lt)
         (λ q lt. each_but (λ i v (y : Counted M.Rank). i < total_of s → IsJoining s.joins i v.left y.state.todo) (stand s) (state_at s) r new ((text_machine (program s) s.n).act (state_at s r) (Leave (collective_of call) words))
         (λ l. subst (λ (t : M.Todo). IsJoining s.joins r new.left t) (sym (exit_act s r (collective_of call) place.0 words place.1)) (joining_out s.joins r new.left place.0 place.2.out (place.2.one ∙ sym ls))) q

@@ -18,6 +18,7 @@ use Rattle.pb_chan.specs.Lists.{messages}
 use Rattle.pb_join.specs.declared.call.Call.{Call}
 use Rattle.pb_join.specs.Calls.{collective_of, is_same}
 use Rattle.pb_join.specs.Joined.{Joined, words_of, number, collectives, paired, entries, fits_with, agrees, entered, IsJoined}
+use Rattle.pb_join.proofs.Gathering.{get_pushed}
 use Rattle.pb_machine.specs.declared.act.Input.TheVariants.{Plain}
 use Rattle.pb_machine.specs.declared.rank.Rank.{Rank}
 use Rattle.pb_machine.specs.declared.act.Next.{Next}
@@ -25,13 +26,14 @@ use Rattle.pb_event.specs.declared.stand.Stand.{Stand}
 use Rattle.pb_event.specs.declared.state.State.{State}
 use Rattle.pb_event.specs.States.{program, total_of, stand, state_at, next_step}
 use Rattle.pb_event.specs.Worlds.{moded, is_to, world_of}
-use Rattle.pb_event.specs.Sound.{IsWaiting, IsJoining, IsState}
+use Rattle.pb_event.specs.Sound.{IsWaiting, IsJoining, IsRooted, AreOpened, IsState}
 use Rattle.pb_event.specs.Events.{remade, IsAdvanced, IsMoved, IsEvent, MayStep}
 use Rattle.pb_event.proofs.Lists.{at_set}
 use Rattle.pb_event.proofs.Parts.{same_world}
 use Rattle.pb_event.proofs.Free.{free}
 use Rattle.pb_event.proofs.Advancing.{act_moved}
 use Rattle.pb_event.proofs.Leaving.{IsExit}
+use Rattle.pb_event.proofs.Near.{near}
 use Rattle.pb_event.proofs.Entries.{same_of, paired_get, paired_long, paired_more, paired_next}
 use Rattle.pb_event.proofs.Kept.{state_moved, stand_moved, kept, each_but, at_other, at_it, acts_out}
 
@@ -153,6 +155,37 @@ module _ (x : Joined) (r : ℕ) (call : Call) (w : List ℕ) (joined : IsJoined 
       let g = paired_get (collectives x) (words_of x p) (number x r) entry (ap (slice_get (entries x p)) (sym n) ∙ e) in
       same_of entry.0 (collective_of call) (sym (ap (λ o. fits_with o (collective_of call)) g.0) ∙ fit)
 
+  pub opened_then : (total : ℕ) → AreOpened x total → IsRooted total (collective_of call) → AreOpened (entered x r call w) total
+  opened_then total opened root = record { some = λ k lt. by_some which k lt; rooted = λ k d e. by_root which k d e } where
+    more_there : (k p : ℕ) → k < number x p → k < number (entered x r call w) p
+    more_there k p lt = by_case (cases_eq p r) where
+      by_case : (p ≡ r) ⊎ (p ≡ r → ⊥) → k < number (entered x r call w) p
+      by_case (inl e) =
+          let n : number (entered x r call w) p ≡ suc (number x r) = ap (number (entered x r call w)) e ∙ number_it in
+          let m : number x p ≡ number x r = ap (number x) e in
+          omega (arith, n, m, lt)
+      by_case (inr e) = let n : number (entered x r call w) p ≡ number x p = number_other p e in omega (arith, n, lt)
+
+    there : (k : ℕ) → k < length x.calls → (p : ℕ) × (k < number (entered x r call w) p)
+    there k lt = let o = opened.some k lt in (o.0, more_there k o.0 o.1)
+
+    by_some : IsNext → (k : ℕ) → k < length (entered x r call w).calls → (p : ℕ) × (k < number (entered x r call w) p)
+    by_some (old e d g same) k lt = there k (subst (λ (cs : List Call). k < length cs) e lt)
+    by_some (first e n) k lt = by_place (cases_lt k (length x.calls)) where
+      m : length (entered x r call w).calls ≡ length x.calls + 1
+      m = ap length e ∙ length-append x.calls (call ∷ [])
+
+      by_place : (k < length x.calls) ⊎ (length x.calls ≤ k) → (p : ℕ) × (k < number (entered x r call w) p)
+      by_place (inl h) = there k h
+      by_place (inr h) = let i : number (entered x r call w) r ≡ suc (number x r) = number_it in (r, omega (arith, h, lt, m, n, i))
+
+    by_root : IsNext → (k : ℕ) (d : Call) → slice_get (entered x r call w).calls k ≡ Some d → IsRooted total (collective_of d)
+    by_root (old e c g same) k d f = opened.rooted k d (ap (λ cs. slice_get cs k) (sym e) ∙ f)
+    by_root (first e n) k d f = by_place (get_pushed x.calls call k d (ap (λ cs. slice_get cs k) (sym e) ∙ f)) where
+      by_place : (slice_get x.calls k ≡ Some d) ⊎ ((k ≡ length x.calls) × (call ≡ d)) → IsRooted total (collective_of d)
+      by_place (inl g) = opened.rooted k d g
+      by_place (inr g) = subst (λ (c : Call). IsRooted total (collective_of c)) g.1 root
+
   -- the places of the others are as they were
   pub still_joining : (q left : ℕ) (t : M.Todo) → (q ≡ r → ⊥) → IsJoining x q left t → IsJoining (entered x r call w) q left t
   still_joining q left M.finished n j = number_other q n ∙ j
@@ -215,7 +248,7 @@ module _ (s : State) (r : ℕ) (ranks : Vec Rank) (stands : Vec Stand) (call : C
     sound =
         let o = acts_out s r (Enter (collective_of call) words) may.sound may.there e never in
         kept s r ((text_machine (program s) s.n).act (state_at s r) (Enter (collective_of call) words)) ranks r new stands s.channels (entered s.joins r call words) may.sound may.there may.there m w
-        (joined_then s.joins r call words may.sound.joined h fit) (length-set s.joins.words r (words_of s.joins r ++ words ∷ []) ∙ may.sound.joins) may.sound.words
+        (joined_then s.joins r call words may.sound.joined h fit) (length-set s.joins.words r (words_of s.joins r ++ words ∷ []) ∙ may.sound.joins) may.sound.words may.sound.within (opened_then s.joins r call words may.sound.joined h fit (total_of s) may.sound.opened (near (program s) s.n (state_at s r) (Enters (collective_of call)) e))
         (λ q lt. each_but (λ i v (u : Unit {0}). i < total_of s → IsWaiting s i v.waits) (stand s) (λ i. tt) r new tt (λ l. subst (IsWaiting s r) (sym ws) (may.sound.waits r l)) q (λ n l. may.sound.waits q l) lt)
         (λ q lt. each_but (λ i v (y : Counted M.Rank). i < total_of s → IsJoining (entered s.joins r call words) i v.left y.state.todo) (stand s) (state_at s) r new ((text_machine (program s) s.n).act (state_at s r) (Enter (collective_of call) words))
         (λ l. now_inside s.joins r call words may.sound.joined h fit new.left ((text_machine (program s) s.n).act (state_at s r) (Enter (collective_of call) words)).state.todo (o.1 ∙ sym ls) o.0) q

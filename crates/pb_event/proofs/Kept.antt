@@ -24,7 +24,7 @@ use Rattle.pb_join.specs.Joined.{Joined, number, IsJoined}
 use Rattle.pb_event.specs.declared.state.State.{State}
 use Rattle.pb_event.specs.States.{program, total_of, stand, state_at, next_step, next_at}
 use Rattle.pb_event.specs.Can.{reads, may_leave, can_act, can_next, unless_waiting, can_in, can}
-use Rattle.pb_event.specs.Sound.{IsRank, IsOut, IsWaiting, IsJoining, IsState}
+use Rattle.pb_event.specs.Sound.{IsRank, IsOut, IsWaiting, IsJoining, AreOpened, AreWithin, IsState}
 use Rattle.pb_event.specs.Events.{remade, IsMoved}
 use Rattle.pb_event.proofs.Lists.{not_same}
 use Rattle.pb_event.proofs.Parts.{state_then, stand_then}
@@ -42,11 +42,11 @@ module _ (s : State) (r : ℕ) (z : Counted M.Rank) (ranks : Vec Rank) (k : ℕ)
       let l : k < length s.stands.items = rw sound.stands h in
       stand_then s ranks stands channels joins k new l w q
 
-  pub kept : IsState s → r < total_of s → k < total_of s → IsMoved s r z ranks → stands.items ≡ slice_set s.stands.items k new → IsJoined joins → length joins.words ≡ total_of s → words_in channels ≤ 16777216 →
+  pub kept : IsState s → r < total_of s → k < total_of s → IsMoved s r z ranks → stands.items ≡ slice_set s.stands.items k new → IsJoined joins → length joins.words ≡ total_of s → words_in channels ≤ 16777216 → AreWithin channels (total_of s) → AreOpened joins (total_of s) →
       ((q : ℕ) → q < total_of s → IsWaiting (remade s ranks stands channels joins) q (W.updated (stand s) k new q).waits) →
       ((q : ℕ) → q < total_of s → IsJoining joins q (W.updated (stand s) k new q).left (W.updated (state_at s) r z q).state.todo) →
       IsState (remade s ranks stands channels joins)
-  kept sound h g m w joined long few waits joining = record {
+  kept sound h g m w joined long few within opened waits joining = record {
     tree = sound.tree;
     some = sound.some;
     range = sound.range;
@@ -57,6 +57,8 @@ module _ (s : State) (r : ℕ) (z : Counted M.Rank) (ranks : Vec Rank) (k : ℕ)
     joined = joined;
     each = subst (All (IsRank s.tree s.n)) (sym m.written) (All-set (IsRank s.tree s.n) s.ranks.items r m.rank m.is_rank sound.each);
     words = few;
+    within = within;
+    opened = opened;
     waits = λ q lt. subst (λ (y : Stand). IsWaiting (remade s ranks stands channels joins) q y.waits) (sym (stand_moved sound g w q)) (waits q lt);
     joining = λ q lt. subst (λ (v : Stand). IsJoining joins q v.left (state_at (remade s ranks stands channels joins) q).state.todo) (sym (stand_moved sound g w q))
         (subst (λ (y : Counted M.Rank). IsJoining joins q (W.updated (stand s) k new q).left y.state.todo) (sym (state_moved sound h m q)) (joining q lt));

@@ -42,7 +42,7 @@ IsFair (M.does kind x) = IsFairDoes kind x.todo
 IsFair (M.chooses kernel branches f) = (b : ℕ) → IsOut (f b).todo
 IsFair (M.probes source f) = (l : ℕ) → IsFairAfter (f l)
 
-out_pushed : (k : ℕ) (cs : Codes) (rest : M.Todo) → IsOut rest → IsOut (M.pushed k cs rest)
+pub out_pushed : (k : ℕ) (cs : Codes) (rest : M.Todo) → IsOut rest → IsOut (M.pushed k cs rest)
 out_pushed k nothing rest h = h
 out_pushed k (more c cs) rest h = out_pushed (k + size c) cs rest h
 

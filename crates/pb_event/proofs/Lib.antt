@@ -1,11 +1,13 @@
 pub mod Advancing
 pub mod Alone
 pub mod Before
+pub mod Converse
 pub mod Entries
 pub mod Exits
 pub mod Free
 pub mod Joining
 pub mod Kept
+pub mod Laden
 pub mod Leaving
 pub mod Lists
 pub mod Near
@@ -13,6 +15,7 @@ pub mod Parts
 pub mod Probing
 pub mod Receiving
 pub mod Sending
+pub mod Starting
 pub mod Stepping
 pub mod Taking
 pub mod Touching

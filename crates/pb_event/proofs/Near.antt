@@ -1,4 +1,4 @@
--- A rank that a send or a receive names is a rank of the world.
+-- A rank that a send, a receive or a collective names is a rank of the world.
 use Rattle.std.proofs.Common.{◌≡◌, ◌<◌, ℕ, suc, ℤ, pos, negsuc, ◌+ℤ◌, ◌+◌, Bool, true, false, ◌&&◌, nat_lt, nat_le, int_le, int_lt, if◌then◌else◌, List, [], ◌∷◌, refl, subst, arith}
 use Rattle.std.proofs.lemmas.Bool.{and_parts}
 use Rattle.std.proofs.lemmas.Bool.Decides.{nat_tests}
@@ -17,6 +17,7 @@ use Rattle.pb_local.specs.WellMade.{count_parts}
 use Rattle.pb_local.specs.Collectives.{operation_of}
 use Rattle.pb_local.specs.Machine as M
 use Rattle.pb_local.specs.Family.{most_silent, text_machine}
+use Rattle.pb_event.specs.Sound.{IsRooted}
 use Rattle.pb_event.proofs.Leaving.{under_count}
 
 abbrev pub IsNearKind : ℕ → Kind → Type 0
@@ -24,7 +25,7 @@ IsNearKind most (Chooses kernel branches) = Unit {0}
 IsNearKind most (Runs kernel) = Unit {0}
 IsNearKind most (Sends to label) = to < most
 IsNearKind most (Receives from label) = from < most
-IsNearKind most (Enters j) = Unit {0}
+IsNearKind most (Enters j) = IsRooted most j
 IsNearKind most (Leaves j) = Unit {0}
 
 abbrev IsNear : ℕ → M.Move → Type 0
@@ -82,8 +83,8 @@ module _ (p : Program) (n : ℤ) where
   near_at x k (recv label from) rest = near_peer x from (λ q. M.does (Receives q label) (M.with_todo x rest)) (λ q h. h)
   near_at x k (run kernel) rest = tt
   near_at x k barrier rest = tt
-  near_at x k (broadcast label root) rest = near_peer x root (λ q. M.joins p n x (Broadcast label q) rest) (λ q h. tt)
-  near_at x k (reduce label op root) rest = near_peer x root (λ q. M.joins p n x (Reduce label (operation_of op) q) rest) (λ q h. tt)
+  near_at x k (broadcast label root) rest = near_peer x root (λ q. M.joins p n x (Broadcast label q) rest) (λ q h. h)
+  near_at x k (reduce label op root) rest = near_peer x root (λ q. M.joins p n x (Reduce label (operation_of op) q) rest) (λ q h. h)
   near_at x k (allreduce label op) rest = tt
 
   near_from : (x : M.Rank) (t : M.Todo) → IsNear (total p.roles n) (M.move_from p n x t)

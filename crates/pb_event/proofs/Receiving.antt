@@ -31,7 +31,7 @@ use Rattle.pb_event.proofs.Free.{free}
 use Rattle.pb_event.proofs.Advancing.{act_moved}
 use Rattle.pb_event.proofs.Near.{near}
 use Rattle.pb_event.proofs.Taking.{IsTaken, takes, IsReleased, release_none, release_other, release_it}
-use Rattle.pb_event.proofs.Sending.{receive_next, IsChanged, changed_it, kept_from, kept_to, wrote}
+use Rattle.pb_event.proofs.Sending.{receive_next, IsChanged, changed_it, kept_from, kept_to, within_changed, wrote}
 use Rattle.pb_event.proofs.Kept.{state_moved, stand_moved, kept, each_but, at_other, at_it, can_same, acts_out, joining_out}
 
 -- a sender of the world is let go as it should be
@@ -145,7 +145,7 @@ module _ (s : State) (r : ℕ) (ranks : Vec Rank) (stands : Vec Stand) (channels
     sound : IsState (remade s ranks stands channels s.joins)
     sound =
         let o = acts_out s r (Recv p label words) may.sound may.there e never in
-        kept s r ((text_machine (program s) s.n).act (state_at s r) (Recv p label words)) ranks p new stands channels s.joins may.sound may.there there m w may.sound.joined may.sound.joins few
+        kept s r ((text_machine (program s) s.n).act (state_at s r) (Recv p label words)) ranks p new stands channels s.joins may.sound may.there there m w may.sound.joined may.sound.joins few (within_changed s.channels p r (λ xs. remove xs at) channels (total_of s) c there may.there may.sound.within) may.sound.opened
         (λ q lt. each_but (λ i v (u : Unit {0}). i < total_of s → IsWaiting (remade s ranks stands channels s.joins) i v.waits) (stand s) (λ i. tt) p new tt (λ l. waiting) q (λ n l. others_wait q n (stand s q).waits (may.sound.waits q l)) lt)
         (λ q lt. subst (λ (k : ℕ). IsJoining s.joins q k (W.updated (state_at s) r ((text_machine (program s) s.n).act (state_at s r) (Recv p label words)) q).state.todo) (sym (left_same q))
         (each_but (λ i (u : Unit {0}) (y : Counted M.Rank). i < total_of s → IsJoining s.joins i (stand s i).left y.state.todo) (λ i. tt) (state_at s) r tt ((text_machine (program s) s.n).act (state_at s r) (Recv p label words)) (λ l. joining_out s.joins r (stand s r).left ((text_machine (program s) s.n).act (state_at s r) (Recv p label words)).state.todo o.0 o.1) q (λ n l. may.sound.joining q l) lt)) where

@@ -25,7 +25,7 @@ use Rattle.pb_event.specs.declared.stand.Waits.{Waits}
 use Rattle.pb_event.specs.declared.state.State.{State}
 use Rattle.pb_event.specs.States.{program, total_of, stand, state_at, next_step}
 use Rattle.pb_event.specs.Worlds.{moded, mode_if, is_to, world_of, waits_for}
-use Rattle.pb_event.specs.Sound.{IsLast, IsWaiting, IsJoining, IsState}
+use Rattle.pb_event.specs.Sound.{IsLast, IsWaiting, IsJoining, AreWithin, IsState}
 use Rattle.pb_event.specs.Events.{remade, IsAdvanced, IsMoved, IsEvent, MayStep, IsOtherThan}
 use Rattle.pb_event.proofs.Lists.{not_same}
 use Rattle.pb_event.proofs.Parts.{same_world}
@@ -79,6 +79,14 @@ module _ (old : List Entry) (a b : ℕ) (f : List Message → List Message) (new
       let e : nat_eq b q ≡ false = not_same b q (λ h. n (sym h)) in
       let g : nat_eq a p && nat_eq b q ≡ false = and_right (nat_eq a p) (nat_eq b q) e in
       c p q ∙ rw g refl
+
+-- only between ranks still
+pub within_changed : (old : List Entry) (a b : ℕ) (f : List Message → List Message) (new : List Entry) (total : ℕ) → IsChanged old a b f new → a < total → b < total → AreWithin old total → AreWithin new total
+within_changed old a b f new total c here there within p q some = by_case (cases_eq p a) (cases_eq q b) where
+  by_case : (p ≡ a) ⊎ (p ≡ a → ⊥) → (q ≡ b) ⊎ (q ≡ b → ⊥) → (p < total) × (q < total)
+  by_case (inr e) g = within p q (λ h. some (kept_from old a b f new c p q e ∙ h))
+  by_case (inl e) (inr g) = within p q (λ h. some (kept_to old a b f new c p q g ∙ h))
+  by_case (inl e) (inl g) = (subst (λ (k : ℕ). k < total) (sym e) here, subst (λ (k : ℕ). k < total) (sym g) there)
 
 -- a channel of a world is written
 pub wrote : {A : Type 0} (f : ℕ → ℕ → A) (p q : ℕ) (x : A) (u v : ℕ) (P : A → Type 0) → (u ≡ p → v ≡ q → P x) → ((u ≡ p → v ≡ q → ⊥) → P (f u v)) → P (W.updated f p (W.updated (f p) q x) u v)
@@ -184,7 +192,7 @@ module _ (s : State) (r : ℕ) (ranks : Vec Rank) (stands : Vec Stand) (channels
     sound : IsState (remade s ranks stands channels s.joins)
     sound =
         let o = acts_out s r (Send to label words) may.sound may.there e never in
-        kept s r _ ranks r new stands channels s.joins may.sound may.there may.there m w may.sound.joined may.sound.joins few
+        kept s r _ ranks r new stands channels s.joins may.sound may.there may.there m w may.sound.joined may.sound.joins few (within_changed s.channels r to (λ ms. ms ++ message ∷ []) channels (total_of s) c may.there there may.sound.within) may.sound.opened
         (λ q lt. each_but (λ i v (u : Unit {0}). i < total_of s → IsWaiting (remade s ranks stands channels s.joins) i v.waits) (stand s) (λ i. tt) r new tt (λ l. waiting new.waits ws) q (λ n l. others_wait q n (stand s q).waits (may.sound.waits q l)) lt)
         (λ q lt. each_but (λ i v (y : Counted M.Rank). i < total_of s → IsJoining s.joins i v.left y.state.todo) (stand s) (state_at s) r new _ (λ l. joining_out s.joins r new.left _ o.0 (o.1 ∙ sym ls)) q (λ n l. may.sound.joining q l) lt)
 

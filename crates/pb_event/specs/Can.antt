@@ -1,5 +1,5 @@
 -- Whether a rank has a step, by its own state, the list of messages that it waits for, and the collective that is its next.
-use Rattle.std.specs.Prelude.{ℕ, Bool, true, false, ◌||◌, not, nat_eq, nat_lt, Option, Some, None, slice_get}
+use Rattle.std.specs.Prelude.{ℕ, Bool, true, false, ◌||◌, ◌&&◌, not, nat_eq, nat_lt, Option, Some, None, slice_get}
 use Rattle.pb_text.specs.declared.mode.Mode.{Mode}
 use Rattle.pb_text.specs.declared.mode.Mode.TheVariants.{Eager, Waiting}
 use Rattle.pb_world.specs.Counted.{Counted}
@@ -17,7 +17,7 @@ use Rattle.pb_machine.specs.declared.act.Next.TheVariants as N
 use Rattle.pb_machine.specs.Steps.{is_there, next_of}
 use Rattle.pb_event.specs.declared.stand.Waits.{Waits}
 use Rattle.pb_event.specs.declared.state.State.{State}
-use Rattle.pb_event.specs.States.{program, stand, state_at}
+use Rattle.pb_event.specs.States.{program, stand, state_at, next_at}
 
 -- a rank in state x has a test for the label
 abbrev pub reads : State → Counted M.Rank → Option ℕ → Bool
@@ -72,6 +72,25 @@ can_in s r x = unless_waiting (stand s r).waits (can_next s r x (next_of ((text_
 
 abbrev pub can : State → ℕ → Bool
 can s r = can_in s r (state_at s r)
+
+-- ---- which ranks can't go on in any way
+
+-- its next number, peer or choice means nothing, its first label is in no test that holds, or its collective isn't the others'
+abbrev pub undefined_by : State → ℕ → Next → Bool
+undefined_by s r N.Undefined = true
+undefined_by s r (N.Waits from) = is_there (label_of (messages s.channels from r)) && not (can_read s r (state_at s r) from)
+undefined_by s r (N.Acts (A.Enter what root op)) = not (agrees s.joins r (collective_of (call_of what root op)))
+undefined_by s r (N.Acts (A.Choose kernel branches)) = false
+undefined_by s r (N.Acts (A.Run kernel)) = false
+undefined_by s r (N.Acts (A.Send to label)) = false
+undefined_by s r (N.Acts (A.Recv from label)) = false
+undefined_by s r (N.Acts A.Leave) = false
+undefined_by s r N.Silent = false
+undefined_by s r N.Ended = false
+undefined_by s r N.Lost = false
+
+abbrev pub is_undefined : State → ℕ → Bool
+is_undefined s r = undefined_by s r (next_at s r)
 
 -- ---- which entries decide what others may do
 

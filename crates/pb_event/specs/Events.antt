@@ -3,7 +3,7 @@ use Rattle.std.specs.Prelude.{◌≡◌, ℕ, ◌<◌, slice_set, List, None, na
 use Rattle.std.specs.Global.{Vec}
 use Rattle.pb_world.specs.Counted.{Counted}
 use Rattle.pb_local.specs.Machine as M
-use Rattle.pb_chan.specs.Lists.{Entry}
+use Rattle.pb_chan.specs.Lists.{Entry, words_in}
 use Rattle.pb_join.specs.Joined.{Joined}
 use Rattle.pb_machine.specs.declared.rank.Rank.{Rank}
 use Rattle.pb_machine.specs.declared.act.Input.{Input}
@@ -71,3 +71,4 @@ pub record IsSame (s t : State) : Type 0 where
   pub tree : t.tree ≡ s.tree
   pub n : t.n ≡ s.n
   pub stands : t.stands ≡ s.stands
+  pub words : words_in t.channels ≡ words_in s.channels

@@ -1,5 +1,6 @@
 pub mod Can
 pub mod Events
 pub mod Sound
+pub mod Starts
 pub mod States
 pub mod Worlds

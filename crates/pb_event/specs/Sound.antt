@@ -1,13 +1,13 @@
 -- What holds of each simulation.
 use Rattle.std.specs.Prelude.{◌≡◌, ◌≢◌, ℕ, suc, ◌<◌, ◌≤◌, ◌++◌, ◌∷◌, [], ℤ, pos, ◌≤ℤ◌, Option, Some, None, List, length, All, slice_get}
 use Rattle.pb_affine.specs.Values.{count_of}
-use Rattle.pb_world.specs.Actions.{Collective}
+use Rattle.pb_world.specs.Actions.{Collective, Barrier, Broadcast, Reduce, Allreduce}
 use Rattle.pb_local.specs.WellMade.{IsInRange}
 use Rattle.pb_local.specs.Machine as M
 use Rattle.pb_ctree.specs.declared.tree.CTree.{CTree}
 use Rattle.pb_ctree.specs.Trees.{IsTree}
 use Rattle.pb_chan.specs.declared.message.Message.{Message}
-use Rattle.pb_chan.specs.Lists.{messages, words_in}
+use Rattle.pb_chan.specs.Lists.{Entry, messages, words_in}
 use Rattle.pb_join.specs.declared.call.Call.{Call}
 use Rattle.pb_join.specs.Calls.{collective_of}
 use Rattle.pb_join.specs.Joined.{Joined, number, IsJoined}
@@ -58,6 +58,22 @@ IsJoining joins r left (M.next k first rest) = IsOut rest × (number joins r ≡
 IsJoining joins r left (M.round_of high k body rest) = IsOut rest × (number joins r ≡ left)
 IsJoining joins r left (M.end_of id k body rest) = IsOut rest × (number joins r ≡ left)
 
+-- a root is a rank
+abbrev pub IsRooted : ℕ → Collective → Type 0
+IsRooted total Barrier = Unit {0}
+IsRooted total (Broadcast label root) = root < total
+IsRooted total (Reduce label operation root) = root < total
+IsRooted total (Allreduce label operation) = Unit {0}
+
+-- each collective was entered by some rank
+pub record AreOpened (joins : Joined) (total : ℕ) : Type 0 where
+  pub some : (k : ℕ) → k < length joins.calls → (p : ℕ) × (k < number joins p)
+  pub rooted : (k : ℕ) (call : Call) → slice_get joins.calls k ≡ Some call → IsRooted total (collective_of call)
+
+-- messages are from ranks to ranks
+abbrev pub AreWithin : List Entry → ℕ → Type 0
+AreWithin channels total = (p q : ℕ) → messages channels p q ≢ [] → (p < total) × (q < total)
+
 pub record IsState (s : State) : Type 0 where
   pub tree : IsTree s.tree
   pub some : pos 0 ≤ℤ s.n
@@ -69,5 +85,7 @@ pub record IsState (s : State) : Type 0 where
   pub joined : IsJoined s.joins
   pub each : All (IsRank s.tree s.n) s.ranks.items
   pub words : words_in s.channels ≤ 16777216
+  pub within : AreWithin s.channels (total_of s)
+  pub opened : AreOpened s.joins (total_of s)
   pub waits : (r : ℕ) → r < total_of s → IsWaiting s r (stand s r).waits
   pub joining : (r : ℕ) → r < total_of s → IsJoining s.joins r (stand s r).left (state_at s r).state.todo

@@ -21,6 +21,7 @@ impl State {
     /// A rank enters a collective. After `NoMemory` all is as before.
     pub fn enter(
         &mut self,
+        alloc: Global,
         rank: u32,
         what: Joint,
         root: Option<u32>,
@@ -40,10 +41,9 @@ impl State {
     {
         let kept = self.kept_of(rank);
         let count = words.list().len() as u64;
-        let entered = self
-            .joins
-            .enter(rank, Call::of(what, root, op), words)
-            .is_ok();
+        let call = Call::of(what, root, op);
+        let payload = payload(&self.tree, call.label());
+        let entered = self.joins.enter(alloc, payload, rank, call, words).is_ok();
         if !entered {
             return Err(NoMemory);
         }

@@ -1,6 +1,7 @@
 //! One event of the world of a printed text: all ranks, their channels and collectives, and what one step of a rank does to them.
 #![tactic(auto)]
 
+mod begin;
 mod joint;
 mod messages;
 mod own;

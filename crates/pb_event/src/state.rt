@@ -1,11 +1,12 @@
-ghost use Rattle.std.specs.Prelude.{◌≡◌, ◌<◌, true, length, slice_set};
+ghost use Rattle.std.specs.Prelude.{◌≡◌, ℕ, ◌<◌, ◌↔◌, IsTrue, length, slice_set};
 ghost use Rattle.pb_world.specs.World.{CanStep};
 ghost use Rattle.pb_local.specs.Family.{Sequence, family};
 ghost use Rattle.pb_join.specs.declared.call.Call.{Call};
-ghost use Rattle.pb_machine.specs.declared.act.Next.TheVariants.{Waits};
+ghost use Rattle.pb_machine.specs.declared.act.Act.TheVariants as A;
+ghost use Rattle.pb_machine.specs.declared.act.Next.TheVariants.{Acts, Waits};
 ghost use Rattle.pb_event.specs.States.{program, total_of, stand, next_at, state_at};
 ghost use Rattle.pb_event.specs.Worlds.{world_of};
-ghost use Rattle.pb_event.specs.Can.{can, can_act, can_read, can_leave, has_needed};
+ghost use Rattle.pb_event.specs.Can.{can, can_act, can_read, can_leave, has_needed, undefined_by, is_undefined};
 ghost use Rattle.pb_event.specs.Sound.{IsState};
 
 use crate::stand::Stand;
@@ -114,13 +115,13 @@ impl State {
         }
     }
 
-    /// Whether the rank has a step. It looks at the rank's own state, at one list, and at one collective. Where it has one,
-    /// the world has an event of this rank.
+    /// Whether the rank has a step. It looks at the rank's own state, at one list, and at one collective. Exactly where it has
+    /// one, the world has an event of this rank.
     pub fn can(&self, rank: u32) -> bool
         requires sound { IsState self.now }
         requires there { rank < total_of self.now }
         ensures is { result ≡ can self.now rank }
-        ensures event { result ≡ true → (sequence : Sequence) → CanStep (family (program self.now) self.now.n sequence) (world_of self.now) rank }
+        ensures event { (sequence : Sequence) → IsTrue result ↔ CanStep (family (program self.now) self.now.n sequence) (world_of self.now) rank }
     {
         self.can_go(rank)
     }
@@ -140,6 +141,43 @@ impl State {
             Next::Ended => false,
             Next::Lost => false,
             Next::Undefined => false,
+        }
+    }
+
+    /// Whether a rank can't go on in any way: by itself, by the first label where it waits for one, or by the collective that
+    /// another rank has entered.
+    pub fn is_undefined(&self, rank: u32) -> bool
+        requires sound { IsState self.now }
+        requires there { rank < total_of self.now }
+        ensures is { result ≡ is_undefined self.now rank }
+        ensures some { (kernel branches : ℕ) → next_at self.now rank ≡ Acts (A.Choose kernel branches) → 0 < branches }
+    {
+        self.undefined_by(rank, self.next(rank))
+    }
+
+    /// Whether a rank can't go on with what is next.
+    fn undefined_by(&self, rank: u32, next: Next) -> bool
+        requires sound { IsState self.now }
+        requires there { rank < total_of self.now }
+        requires is { next ≡ next_at self.now rank }
+        ensures { result ≡ undefined_by self.now rank next }
+    {
+        match next {
+            Next::Undefined => true,
+            Next::Waits { from } => {
+                self.channels.head(from, rank).is_some() && !self.can_read(rank, from)
+            }
+            Next::Acts(Act::Enter { what, root, op }) => {
+                !self.joins.agrees(rank, Call::of(what, root, op))
+            }
+            Next::Acts(Act::Choose { .. }) => false,
+            Next::Acts(Act::Run { .. }) => false,
+            Next::Acts(Act::Send { .. }) => false,
+            Next::Acts(Act::Recv { .. }) => false,
+            Next::Acts(Act::Leave) => false,
+            Next::Silent => false,
+            Next::Ended => false,
+            Next::Lost => false,
         }
     }
 }

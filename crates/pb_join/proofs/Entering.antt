@@ -3,6 +3,7 @@ use Rattle.std.proofs.Common.{◌≡◌, ◌<◌, ◌≤◌, ℕ, zero, suc, ◌
 use Rattle.std.specs.List.{sum_by, slice_get, slice_set}
 use Rattle.std.proofs.lemmas.List.Sums.{sum_by-set, sum_by-cons}
 use Rattle.std.proofs.lemmas.Bool.{cases_eq}
+use Rattle.std.proofs.lemmas.Bool.Decides.{nat_tests}
 use Rattle.std.proofs.lemmas.List.{length-map}
 use Rattle.std.proofs.Math.ListN.{set}
 use Rattle.pb_world.specs.Actions.{Collective}
@@ -86,6 +87,31 @@ came_few j (x ∷ xs) =
     let c : sum_by (came_to j) (x ∷ xs) ≡ came_to j x + sum_by (came_to j) xs = sum_by-cons (came_to j) x xs in
     let o : came_to j x ≤ 1 = at_most_one j x in
     omega (arith, h, c, o)
+
+-- where as many have come as there are, each has
+pub each_came : (k : ℕ) (xs : List (List (List ℕ))) → sum_by (came_to k) xs ≡ length xs → (q : ℕ) → q < length xs → k < length (get_or xs q [])
+each_came k [] e q h = absurd (omega (arith, h))
+each_came k (x ∷ xs) e q h = by_place q h (each_came k xs others) where
+  c : sum_by (came_to k) (x ∷ xs) ≡ came_to k x + sum_by (came_to k) xs
+  c = sum_by-cons (came_to k) x xs
+
+  u : sum_by (came_to k) xs ≤ length xs
+  u = came_few k xs
+
+  it : k < length x
+  it = by_case (nat_lt k (length x)) refl where
+    by_case : (b : Bool) → nat_lt k (length x) ≡ b → k < length x
+    by_case true f = grind (arith, nat_tests)
+    by_case false f = let z : came_to k x ≡ 0 = ap (λ b. if b then 1 else 0) f in absurd (omega (arith, c, u, z, e))
+
+  others : sum_by (came_to k) xs ≡ length xs
+  others = let z : came_to k x ≡ 1 = ap (λ b. if b then 1 else 0) (true_of it) in omega (arith, c, z, e) where
+    true_of : k < length x → nat_lt k (length x) ≡ true
+    true_of h = grind (arith, nat_tests)
+
+  by_place : (q : ℕ) → q < suc (length xs) → ((q : ℕ) → q < length xs → k < length (get_or xs q [])) → k < length (get_or (x ∷ xs) q [])
+  by_place zero h f = it
+  by_place (suc q) h f = f q (omega (arith, h))
 
 -- ---- both
 

@@ -1,3 +1,4 @@
 pub mod Combining
 pub mod Entering
 pub mod Pushing
+pub mod Gathering

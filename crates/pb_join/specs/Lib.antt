@@ -2,5 +2,6 @@ pub mod Calls
 pub mod Joined
 pub mod Outcomes
 pub mod Lists
+pub mod Results
 pub mod Rounds
 pub mod Seen

@@ -3,11 +3,13 @@ ghost use Rattle.pb_join.specs.Calls.{collective_of};
 ghost use Rattle.pb_join.specs.Joined.{words_of, number, agrees, has_entered, all_entered, entered, IsJoined};
 ghost use Rattle.pb_join.specs.Outcomes.{words_at, outcome_of};
 ghost use Rattle.pb_join.specs.Lists.{replicated};
+ghost use Rattle.pb_local.specs.Collectives.{operation_of, combine, combined_of};
 
 use crate::call::Call;
 use crate::lists::Lists;
+use crate::results::Results;
 use crate::rounds::Rounds;
-use pb_syntax::Payload;
+use pb_syntax::{Op, Payload};
 use pb_text::{NoMemory, Words};
 use std::alloc::Global;
 use std::marker::Model;
@@ -17,19 +19,23 @@ use std::marker::Model;
 pub struct Joins {
     rounds: Rounds,
     lists: Lists,
+    /// What all have entered together.
+    results: Results,
     total: u32,
 }
 
 impl Model for Joins {
     ghost use Rattle.std.specs.Prelude.{◌≡◌, ◌≤◌, ◌<◌, ℕ, length};
     ghost use Rattle.pb_join.specs.Joined.{Joined};
+    ghost use Rattle.pb_join.specs.Lists.{items_of};
+    ghost use Rattle.pb_join.specs.Results.{AreResults};
     ghost use Rattle.pb_join.specs.Seen.{shown, IsSeen};
 
     ghost Value = { Joined };
 
     ghost view = { λ a. shown a.rounds a.lists };
 
-    ghost invariant = { λ a. IsSeen a.rounds a.lists a.total };
+    ghost invariant = { λ a. IsSeen a.rounds a.lists a.total × AreResults (items_of a.lists) a.results.list.items };
 }
 
 impl Joins {
@@ -42,9 +48,13 @@ impl Joins {
         let rounds = Rounds {
             list: Vec::new(alloc),
         };
+        let results = Results {
+            list: Vec::new(alloc),
+        };
         Ok(Joins {
             rounds,
             lists,
+            results,
             total,
         })
     }
@@ -87,8 +97,16 @@ impl Joins {
         self.rounds.came(k) == self.total as usize
     }
 
-    /// The rank enters this collective with these words. After `NoMemory` all is as before, and the words are given up.
-    pub fn enter(&mut self, rank: u32, call: Call, words: Words) -> Result<(), NoMemory>
+    /// The rank enters this collective, whose label carries this, with these words. After `NoMemory` all is as before, and
+    /// the words are given up. The last entry combines the words of all.
+    pub fn enter(
+        &mut self,
+        alloc: Global,
+        payload: Payload,
+        rank: u32,
+        call: Call,
+        words: Words,
+    ) -> Result<(), NoMemory>
         requires { rank < length self.old.words }
         ensures ok { OnOk result (self.new ≡ entered self.old rank call words) }
         ensures err { OnErr result (self.new ≡ self.old) }
@@ -97,7 +115,17 @@ impl Joins {
         self.rounds.reserve()?;
         self.lists.push(rank, words)?;
         self.rounds.count(k, call);
+        self.gather(alloc, payload, call, k);
         Ok(())
+    }
+
+    /// Combines the words of all, where all have entered the collective with this number now.
+    fn gather(&mut self, alloc: Global, payload: Payload, call: Call, k: usize)
+        ensures { self.new ≡ self.old }
+    {
+        if self.all_entered(k) {
+            self.results.add(alloc, &self.lists, payload, call, k);
+        }
     }
 
     /// The words with which a rank leaves its collective with this number, by its label's payload, where the entries that
@@ -117,14 +145,12 @@ impl Joins {
             Call::Broadcast { root, .. } => self.copied(alloc, root, k),
             Call::Reduce { op, root, .. } => {
                 if rank == root {
-                    Ok(Words::of(self.lists.combined(alloc, payload, op, k)?))
+                    Ok(Words::of(self.combined(alloc, payload, op, k)?))
                 } else {
                     Ok(Words::of(Vec::new(alloc)))
                 }
             }
-            Call::Allreduce { op, .. } => Ok(Words::of(
-                self.lists.combined(alloc, payload, op, k)?,
-            )),
+            Call::Allreduce { op, .. } => Ok(Words::of(self.combined(alloc, payload, op, k)?)),
         }
     }
 
@@ -133,5 +159,21 @@ impl Joins {
         ensures { IfOk result (λ w. w ≡ words_at self.now k rank) }
     {
         Ok(Words::of(self.lists.words(rank as usize, k).to_vec(alloc)?))
+    }
+
+    /// The words of all ranks, combined from rank 0 on.
+    fn combined(
+        &self,
+        alloc: Global,
+        payload: Payload,
+        op: Op,
+        k: usize,
+    ) -> Result<Vec<u32>, NoMemory>
+        ensures { IfOk result (λ v. v.items ≡ combined_of (combine payload (operation_of op)) (length self.now.words) (words_at self.now k)) }
+    {
+        match self.results.found(payload, op, k) {
+            Some(words) => Ok(words.to_vec(alloc)?),
+            None => self.lists.combined(alloc, payload, op, k),
+        }
     }
 }

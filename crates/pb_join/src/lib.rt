@@ -5,6 +5,7 @@ mod call;
 mod combine;
 mod joins;
 mod lists;
+mod results;
 mod rounds;
 #[cfg(test)]
 mod tests;

@@ -10,11 +10,23 @@ fn a_sum_wraps(rt: HostRuntime) -> Result<(), Fail> {
         root: 1,
     };
     assert_eq!(rt; joins.agrees(0, call), true);
-    joins.enter(0, call, Words::of(vec![in rt.alloc(); 4294967295, 7]?))?;
+    joins.enter(
+        rt.alloc(),
+        Payload::Uint32(2),
+        0,
+        call,
+        Words::of(vec![in rt.alloc(); 4294967295, 7]?),
+    )?;
     assert_eq!(rt; joins.agrees(1, Call::Barrier), false);
     assert_eq!(rt; joins.agrees(1, call), true);
     assert_eq!(rt; joins.all_entered(0), false);
-    joins.enter(1, call, Words::of(vec![in rt.alloc(); 3, 8]?))?;
+    joins.enter(
+        rt.alloc(),
+        Payload::Uint32(2),
+        1,
+        call,
+        Words::of(vec![in rt.alloc(); 3, 8]?),
+    )?;
     assert_eq!(rt; joins.all_entered(0), true);
     let words = joins.outcome(rt.alloc(), Payload::Uint32(2), call, 1, 0)?;
     assert_eq!(rt; words.list(), [2, 15].as_slice());

@@ -11,6 +11,7 @@ pub use act::{Act, Input, Next};
 pub use pb_ctree::{CTree, NoMemory, Op};
 pub use pb_text::{Action, Joint, Words};
 pub use rank::Rank;
+pub use seats::total_of;
 
 #[cfg(test)]
 mod tests;

@@ -1,11 +1,13 @@
-ghost use Rattle.std.specs.Prelude.{◌≡◌, ◌≤◌, ◌<◌, pos, ◌+ℤ◌, ◌-ℤ◌, length};
+ghost use Rattle.std.specs.Prelude.{◌≡◌, ◌≤◌, ◌<◌, pos, ◌+ℤ◌, ◌-ℤ◌, ◌≤ℤ◌, length, IfSome, None};
 ghost use Rattle.pb_affine.specs.Values.{value, count_of, IsNear};
 ghost use Rattle.pb_local.specs.Ranks.{seats, seat_at, total};
+ghost use Rattle.pb_local.specs.WellMade.{IsInRange};
+ghost use Rattle.pb_ctree.specs.Trees.{IsTree};
 ghost use Rattle.pb_machine.specs.Seats.{IsModest, IsWide};
 ghost use Rattle.pb_ahead.specs.Numbers.{seat_of};
 
 use pb_ahead::Me;
-use pb_ctree::{Base, Lin, Role};
+use pb_ctree::{Base, CTree, Lin, Role};
 
 /// The end of a role's range.
 fn end(lin: Lin, n: i64) -> i64
@@ -97,5 +99,39 @@ pub fn me_at(roles: &[Role], n: i64, rank: u32) -> Me
         role: 0,
         index: 0,
         total,
+    }
+}
+
+/// How many ranks the roles have; `None` where that is more than `most`.
+#[tactic(auto, using(crate::proofs::Ranges::length_round))]
+fn total_within(roles: &[Role], n: i64, most: u32) -> Option<u32>
+    requires { IsModest n }
+    ensures some { IfSome result (λ count. (count ≡ total roles.now n) × (count ≤ most)) }
+    ensures none { result ≡ None → most < total roles.now n }
+{
+    let mut sum = 0;
+    for role in roles {
+        let more = count(role, n);
+        if more > u64::from(most) - sum {
+            return None;
+        }
+        sum += more;
+    }
+    Some(sum as u32)
+}
+
+/// How many ranks there are for this N; `None` exactly where that is more than `most`. Takes no memory.
+pub fn total_of(tree: &CTree, n: i64, most: u32) -> Option<u32>
+    requires tree { IsTree tree.now }
+    requires some { pos 0 ≤ℤ n }
+    requires range { IsInRange tree.now.local.range (count_of n) }
+    requires few { most ≤ 2000000000 }
+    ensures some { IfSome result (λ count. (count ≡ total tree.now.local.roles.items n) × (count ≤ most)) }
+    ensures none { result ≡ None → most < total tree.now.local.roles.items n }
+{
+    if n > 4294967296 {
+        None
+    } else {
+        total_within(&tree.local.roles, n, most)
     }
 }

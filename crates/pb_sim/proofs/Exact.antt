@@ -1,5 +1,7 @@
 -- The list of ready ranks is exact again, and the counts stay small.
-use Rattle.std.proofs.Common.{◌≡◌, ◌<◌, ◌≤◌, ℕ, zero, suc, ◌+◌, ◌*◌, Bool, true, false, ◌||◌, cond, nat_eq, nat_lt, if◌then◌else◌, ◌⊎◌, inl, inr, List, [], ◌∷◌, length, refl, ap, sym, ◌∙◌, subst, arith, get_or, add-one}
+use Rattle.std.proofs.Common.{◌≡◌, ◌<◌, ◌≤◌, ℕ, zero, suc, ◌+◌, ◌*◌, Bool, true, false, ◌||◌, cond, nat_eq, nat_lt, if◌then◌else◌, ◌⊎◌, inl, inr, List, [], ◌∷◌, map, length, refl, ap, sym, ◌∙◌, subst, arith, get_or, add-one, Result, Ok, Err}
+use Rattle.std.specs.Result.{OnErr}
+use Rattle.std.specs.List.{sum}
 use Rattle.std.proofs.lemmas.Bool.{cases_eq, cases_lt, eq-eqb}
 use Rattle.std.proofs.lemmas.List.{get_or_past}
 use Rattle.std.proofs.lemmas.Bool.Decides.{nat_tests}
@@ -18,6 +20,7 @@ use Rattle.pb_sim.specs.declared.seen.Seen.{Seen}
 use Rattle.pb_event.specs.Can.{can}
 use Rattle.pb_event.specs.Sound.{IsState}
 use Rattle.pb_event.specs.Events.{IsEvent, IsOther, IsOtherThan, IsAsked, IsSame}
+use Rattle.pb_sim.specs.Scheduled.{words_asked}
 use Rattle.pb_sim.specs.Seen.{AreFew, counted, counted_all, IsSeen, IsStepped, IsUnchanged}
 use Rattle.pb_event.proofs.Lists.{not_same}
 
@@ -77,7 +80,7 @@ module _ (c : Counts) (k : ℕ) (h : AreFew c k) where
   few_send to label words l = let m = few_silent c k h in let e : c.sends ≤ k = h.sends in let i : c.words ≤ 1024 * k = h.words in record { sends = omega (arith, e); receives = m.receives; runs = m.runs; chooses = m.chooses; enters = m.enters; leaves = m.leaves; words = omega (arith, i, l) }
 
 -- how many words were asked
-pub asked_few : (old new : State) (r count k : ℕ) → IsAsked old r count new → count ≤ 1024 → total_of new ≡ total_of old → ((q : ℕ) → q < total_of old → (stand old q).asked ≤ 1024 * k) → (q : ℕ) → q < total_of new → (stand new q).asked ≤ 1024 * suc k
+asked_few : (old new : State) (r count k : ℕ) → IsAsked old r count new → count ≤ 1024 → total_of new ≡ total_of old → ((q : ℕ) → q < total_of old → (stand old q).asked ≤ 1024 * k) → (q : ℕ) → q < total_of new → (stand new q).asked ≤ 1024 * suc k
 asked_few old new r count k a few same h q lt = let b : (stand old q).asked ≤ 1024 * k = h q (subst (λ (t : ℕ). q < t) same lt) in by_case (nat_eq q r) (a q) b where
   by_case : (v : Bool) → (stand new q).asked ≡ (if v then (stand old q).asked + count else (stand old q).asked) → (stand old q).asked ≤ 1024 * k → (stand new q).asked ≤ 1024 * suc k
   by_case true e b = omega (arith, e, b, few)
@@ -91,20 +94,31 @@ same_total old new e f = cc
 pub total_kept : (old new : State) (r : ℕ) (acts : List Action) → IsEvent old r acts new → total_of new ≡ total_of old
 total_kept old new r acts e = same_total old new e.tree e.n
 
-pub asked_same : (old new : State) (k : ℕ) → new.stands ≡ old.stands → total_of new ≡ total_of old → ((q : ℕ) → q < total_of old → (stand old q).asked ≤ 1024 * k) → (q : ℕ) → q < total_of new → (stand new q).asked ≤ 1024 * suc k
-asked_same old new k e same h q lt =
-    let b : (stand old q).asked ≤ 1024 * k = h q (subst (λ (t : ℕ). q < t) same lt) in
-    let d : (stand new q).asked ≡ (stand old q).asked = ap (λ v. (get_or v.items q fresh).asked) e in
-    omega (arith, b, d)
+-- so many words were asked for these actions, and not many
+pub record IsAskedFor (old : State) (r : ℕ) (acts : List Action) (new : State) : Type 0 where
+  pub asked : IsAsked old r (sum (map words_asked acts)) new
+  pub few : sum (map words_asked acts) ≤ 1024
+
+pub one_asked : (count : ℕ) → count ≡ sum (count ∷ [])
+one_asked count = omega arith
+
+pub asked_many : (old new : State) (r count : ℕ) (acts : List Action) → IsAsked old r count new → count ≤ 1024 → count ≡ sum (map words_asked acts) → IsAskedFor old r acts new
+asked_many old new r count acts a few e = record { asked = subst (λ (k : ℕ). IsAsked old r k new) e a; few = subst (λ (k : ℕ). k ≤ 1024) e few }
+
+pub asked_none : (old new : State) (r : ℕ) (acts : List Action) → new.stands ≡ old.stands → 0 ≡ sum (map words_asked acts) → IsAskedFor old r acts new
+asked_none old new r acts e none = asked_many old new r 0 acts (λ q. ap (λ v. (get_or v.items q fresh).asked) e ∙ same (nat_eq q r) (stand old q).asked) (omega arith) none where
+  same : (b : Bool) (k : ℕ) → k ≡ (if b then k + 0 else k)
+  same true k = omega arith
+  same false k = refl
 
 module _ (x y : Seen) (t : State) (r : ℕ) (acts : List Action) where
-  stepped : IsEvent x.state r acts t → y.state ≡ t → y.counts ≡ counted_all acts x.counts → y.steps ≡ x.steps + 1 → IsStepped x r acts y
-  stepped e s c n = record { event = subst (IsEvent x.state r acts) (sym s) e; counts = c; steps = n ∙ add-one x.steps }
+  stepped : IsEvent x.state r acts t → y.state ≡ t → y.counts ≡ counted_all acts x.counts → y.steps ≡ x.steps + 1 → IsAskedFor x.state r acts t → IsStepped x r acts y
+  stepped e s c n asked = record { event = subst (IsEvent x.state r acts) (sym s) e; counts = c; steps = n ∙ add-one x.steps; asked = subst (IsAsked x.state r (sum (map words_asked acts))) (sym s) asked.asked }
 
-  pub seen_by : IsSeen x → IsEvent x.state r acts t → y.state ≡ t → y.counts ≡ counted_all acts x.counts → y.steps ≡ x.steps + 1 → y.ready.total ≡ x.ready.total → Lists y.ready (can t) → AreFew (counted_all acts x.counts) (suc x.steps) → ((q : ℕ) → q < total_of t → (stand t q).asked ≤ 1024 * suc x.steps) → IsStepped x r acts y × IsSeen y
+  pub seen_by : IsSeen x → IsEvent x.state r acts t → y.state ≡ t → y.counts ≡ counted_all acts x.counts → y.steps ≡ x.steps + 1 → y.ready.total ≡ x.ready.total → Lists y.ready (can t) → AreFew (counted_all acts x.counts) (suc x.steps) → IsAskedFor x.state r acts t → IsStepped x r acts y × IsSeen y
   seen_by h e s c n total exact few asked =
       let k : y.steps ≡ suc x.steps = n ∙ add-one x.steps in (
-        stepped e s c n,
+        stepped e s c n asked,
         record {
           readied = record {
             state = subst IsState (sym s) e.sound;
@@ -112,31 +126,31 @@ module _ (x y : Seen) (t : State) (r : ℕ) (acts : List Action) where
             exact = subst (λ (u : State). Lists y.ready (can u)) (sym s) exact;
           };
           few = subst (AreFew y.counts) (sym k) (subst (λ (d : Counts). AreFew d (suc x.steps)) (sym c) few);
-          asked = λ q lt. subst (λ (m : ℕ). (stand y.state q).asked ≤ 1024 * m) (sym k) (subst (λ (u : State). q < total_of u → (stand u q).asked ≤ 1024 * suc x.steps) (sym s) (asked q) lt);
+          asked = λ q lt. subst (λ (m : ℕ). (stand y.state q).asked ≤ 1024 * m) (sym k) (subst (λ (u : State). q < total_of u → (stand u q).asked ≤ 1024 * suc x.steps) (sym s) (asked_few x.state t r (sum (map words_asked acts)) x.steps asked.asked asked.few (total_kept x.state t r acts e) h.asked q) lt);
         },
       )
 
-  pub seen_one : IsSeen x → IsEvent x.state r acts t → IsOther x.state r t → y.state ≡ t → y.counts ≡ counted_all acts x.counts → y.steps ≡ x.steps + 1 → y.ready.total ≡ x.ready.total → ((f : ℕ → Bool) → Lists x.ready f → Lists y.ready (put f r (can t r))) → AreFew (counted_all acts x.counts) (suc x.steps) → ((q : ℕ) → q < total_of t → (stand t q).asked ≤ 1024 * suc x.steps) → IsStepped x r acts y × IsSeen y
+  pub seen_one : IsSeen x → IsEvent x.state r acts t → IsOther x.state r t → y.state ≡ t → y.counts ≡ counted_all acts x.counts → y.steps ≡ x.steps + 1 → y.ready.total ≡ x.ready.total → ((f : ℕ → Bool) → Lists x.ready f → Lists y.ready (put f r (can t r))) → AreFew (counted_all acts x.counts) (suc x.steps) → IsAskedFor x.state r acts t → IsStepped x r acts y × IsSeen y
   seen_one h e o s c n total set few asked = seen_by h e s c n total (exact_one x.state t x.ready y.ready r h.readied.exact set o) few asked
 
-  pub seen_two : (p : ℕ) (mid : Listed) → IsSeen x → IsEvent x.state r acts t → IsOtherThan x.state r p t → y.state ≡ t → y.counts ≡ counted_all acts x.counts → y.steps ≡ x.steps + 1 → y.ready.total ≡ x.ready.total → ((f : ℕ → Bool) → Lists x.ready f → Lists mid (put f r (can t r))) → ((f : ℕ → Bool) → Lists mid f → Lists y.ready (put f p (can t p))) → AreFew (counted_all acts x.counts) (suc x.steps) → ((q : ℕ) → q < total_of t → (stand t q).asked ≤ 1024 * suc x.steps) → IsStepped x r acts y × IsSeen y
+  pub seen_two : (p : ℕ) (mid : Listed) → IsSeen x → IsEvent x.state r acts t → IsOtherThan x.state r p t → y.state ≡ t → y.counts ≡ counted_all acts x.counts → y.steps ≡ x.steps + 1 → y.ready.total ≡ x.ready.total → ((f : ℕ → Bool) → Lists x.ready f → Lists mid (put f r (can t r))) → ((f : ℕ → Bool) → Lists mid f → Lists y.ready (put f p (can t p))) → AreFew (counted_all acts x.counts) (suc x.steps) → IsAskedFor x.state r acts t → IsStepped x r acts y × IsSeen y
   seen_two p mid h e o s c n total set again few asked = seen_by h e s c n total (exact_two x.state t x.ready mid y.ready r p h.readied.exact set again o) few asked
 
 -- a refusal
-pub unchanged : (x : Seen) (t : State) → IsSeen x → IsSame x.state t → IsUnchanged x (record x { state = t })
-unchanged x t h same =
+pub unchanged : (x : Seen) (t : State) → IsSame x.state t → IsUnchanged x (record x { state = t })
+unchanged x t same = record { state = record { world = same.world; tree = same.tree; n = same.n; stands = same.stands; words = same.words }; ready = refl; counts = refl; steps = refl }
+
+pub still_seen : (x : Seen) (t : State) → IsSeen x → IsSame x.state t → IsSeen (record x { state = t })
+still_seen x t h same =
     let n : total_of t ≡ total_of x.state = same_total x.state t same.tree same.n in
     record {
-      state = same;
-      ready = refl;
-      counts = refl;
-      steps = refl;
-      seen = record {
-        readied = record { state = same.sound; total = h.readied.total ∙ sym n; exact = same_lists x.ready (can x.state) (can t) (λ k l. sym (same.can k)) h.readied.exact };
-        few = h.few;
-        asked = λ q lt. subst (λ v. (get_or v.items q fresh).asked ≤ 1024 * x.steps) (sym same.stands) (h.asked q (subst (λ (k : ℕ). q < k) n lt));
-      };
+      readied = record { state = same.sound; total = h.readied.total ∙ sym n; exact = same_lists x.ready (can x.state) (can t) (λ k l. sym (same.can k)) h.readied.exact };
+      few = h.few;
+      asked = λ q lt. subst (λ v. (get_or v.items q fresh).asked ≤ 1024 * x.steps) (sym same.stands) (h.asked q (subst (λ (k : ℕ). q < k) n lt));
     }
+
+pub unchanged_by : (x y : Seen) → y ≡ x → IsUnchanged x y
+unchanged_by x y e = subst (λ (z : Seen). IsUnchanged x z) (sym e) (record { state = record { world = refl; tree = refl; n = refl; stands = refl; words = refl }; ready = refl; counts = refl; steps = refl })
 
 -- ---- the words of a label
 
@@ -192,3 +206,7 @@ pub exact_enter : (old new : State) (a b : Listed) (r : ℕ) (first last : Bool)
 exact_enter old new a b r true last e all one others = all refl (can old) e
 exact_enter old new a b r false true e all one others = all refl (can old) e
 exact_enter old new a b r false false e all one others = exact_one old new a b r e (one refl) (others refl refl)
+
+pub err_gives : {T E : Type 0} (r : Result T E) (P : Type 0) → P → OnErr r P
+err_gives (Ok x) P h = tt
+err_gives (Err x) P h = h

@@ -1,2 +1,6 @@
 pub mod Exact
+pub mod Listing
+pub mod Modes
 pub mod Nexts
+pub mod Runs
+pub mod Standings

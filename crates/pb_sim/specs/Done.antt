@@ -5,9 +5,6 @@ use Rattle.pb_world.specs.Actions.{Action, Choose, Run, Send, Recv, Enter, Leave
 use Rattle.pb_join.specs.Calls.{joint_of}
 use Rattle.pb_sim.specs.declared.outcomes.StepDone.{StepDone}
 use Rattle.pb_sim.specs.declared.outcomes.StepDone.TheVariants as D
-use Rattle.pb_sim.specs.declared.seen.Seen.{Seen}
-use Rattle.pb_event.specs.States.{stand}
-use Rattle.pb_sim.specs.Seen.{IsStepped}
 
 -- an action of rank r as it is told
 abbrev pub done_of : ℕ → List Action → StepDone
@@ -31,10 +28,3 @@ AreAnswered post r first (Send to label words ∷ acts) = AreWords post r first 
 AreAnswered post r first (Recv from label words ∷ acts) = Unit {0}
 AreAnswered post r first (Enter joint words ∷ acts) = AreWords post r first words
 AreAnswered post r first (Leave joint words ∷ acts) = Unit {0}
-
--- rank r has made one step more, and this was told of it
-pub record IsMade (post : ℕ → ℕ → ℕ → Type 0) (x : Seen) (r : ℕ) (done : StepDone) (y : Seen) : Type 0 where
-  pub acts : List Action
-  pub done_is : done ≡ done_of r acts
-  pub stepped : IsStepped x r acts y
-  pub answered : AreAnswered post r (stand x.state r).asked acts

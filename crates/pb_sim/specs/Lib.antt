@@ -1,2 +1,7 @@
+pub mod Causes
 pub mod Done
+pub mod Made
+pub mod Runs
+pub mod Scheduled
 pub mod Seen
+pub mod Standing

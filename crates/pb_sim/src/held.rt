@@ -1,6 +1,8 @@
-ghost use Rattle.std.specs.Prelude.{◌≡◌, ◌≤◌, ◌<◌, ◌+◌, ◌^◌, ◌↔◌, [], ◌∷◌, length, true, IsTrue, OnOk, OnErr, IfOk};
+ghost use Rattle.std.specs.Prelude.{◌≡◌, ◌≤◌, ◌<◌, ◌+◌, ◌^◌, ◌↔◌, [], ◌∷◌, length, true, IsTrue, OnOk, OnErr, IfOk, IfErr};
 ghost use Rattle.pb_world.specs.Actions.{Choose, Run, Send, Recv, Enter, Leave};
 ghost use Rattle.pb_local.specs.Collectives.{words_of, weight};
+ghost use Rattle.pb_local.specs.Family.{Sequence, family};
+ghost use Rattle.pb_ctree.specs.Trees.{IsTree};
 ghost use Rattle.pb_join.specs.Calls.{collective_of, call_of};
 ghost use Rattle.pb_join.specs.Joined.{agrees};
 ghost use Rattle.pb_chan.specs.Lists.{messages, position, words_in};
@@ -8,15 +10,23 @@ ghost use Rattle.pb_machine.specs.Steps.{is_there};
 ghost use Rattle.pb_machine.specs.declared.act.Act.TheVariants as A;
 ghost use Rattle.pb_machine.specs.declared.act.Next.TheVariants.{Silent, Acts, Waits};
 ghost use Rattle.pb_event.specs.States.{program, total_of, stand, state_at};
+ghost use Rattle.pb_event.specs.Worlds.{world_of};
 ghost use Rattle.pb_event.specs.Can.{can, can_next, can_read, can_leave};
 ghost use Rattle.pb_event.specs.Events.{MayStep};
-ghost use Rattle.pb_sim.specs.Seen.{IsStepped, IsUnchanged, IsReadied};
+ghost use Rattle.pb_sim.specs.Scheduled.{IsInMode};
+ghost use Rattle.pb_sim.specs.Seen.{IsStepped, IsUnchanged, is_too_much};
+ghost use Rattle.pb_sim.specs.Made.{IsBegun, IsNoStart, HasStep};
+ghost use Rattle.pb_sim.specs.Runs.{IsReadyList};
+ghost use Rattle.pb_sim.specs.Standing.{IsStanding};
 
+use crate::begun::{MOST_RANKS, is_number};
 use crate::counts::Counts;
+use crate::outcomes::SimFault;
 use crate::seen::Seen;
+use crate::standing::Standing;
 use pb_event::{weight, words_of};
 use pb_join::{Call, Joint, Op};
-use pb_machine::{CTree, Next};
+use pb_machine::{CTree, Next, total_of};
 use pb_text::{Mode, NoMemory, Words};
 use std::alloc::Global;
 use std::marker::Model;
@@ -43,9 +53,29 @@ impl Model for Held {
 }
 
 impl Held {
+    /// All ranks at their starts. `OutOfRange` exactly where N isn't in the tree's range, else `TooManyRanks` exactly where
+    /// there would be more than 1,024 ranks.
+    pub fn new(alloc: Global, tree: CTree, n: i64) -> Result<Held, SimFault>
+        requires { IsTree tree }
+        ensures begun { IfOk result (λ x. IsBegun tree n x) }
+        ensures out { IfErr result (IsNoStart tree n) }
+    {
+        if !is_number(tree.local.range, n) {
+            return Err(SimFault::OutOfRange);
+        }
+        match total_of(&tree, n, MOST_RANKS) {
+            None => Err(SimFault::TooManyRanks),
+            Some(total) => {
+                let seen = Seen::new(alloc, tree, n, total)?;
+                Ok(Held { seen })
+            }
+        }
+    }
+
     /// Whether the rank exists and has a step.
     pub fn is_ready(&self, rank: u32) -> bool
-        ensures { IsTrue result ↔ ((rank < total_of self.now.state) × (can self.now.state rank ≡ true)) }
+        ensures step { (sequence : Sequence) → IsTrue result ↔ HasStep self.now sequence rank }
+        ensures can { IsTrue result ↔ ((rank < total_of self.now.state) × (can self.now.state rank ≡ true)) }
     {
         self.seen.is_ready(rank)
     }
@@ -69,11 +99,11 @@ impl Held {
         self.seen.state.kept_of(rank).asked
     }
 
-    /// How many words are in flight.
-    pub fn in_flight(&self) -> u64
-        ensures { result ≡ words_in self.now.state.channels }
+    /// Whether what comes next of a rank is a send after which more words would be in flight than may be.
+    pub fn is_too_much(&self, next: Next) -> bool
+        ensures { result ≡ is_too_much self.now next }
     {
-        self.seen.state.channels.in_flight()
+        self.seen.is_too_much(next)
     }
 
     /// How many words a message with the label has.
@@ -92,10 +122,16 @@ impl Held {
 
     /// The ranks that have a step, ascending.
     pub fn ready_ranks(&self) -> &[u32]
-        ensures list { result.now ≡ self.now.ready.list }
-        ensures exact { IsReadied self.now }
+        ensures { (sequence : Sequence) → IsReadyList (family (program self.now.state) self.now.state.n sequence) (world_of self.now.state) result.now }
     {
         self.seen.ready.list()
+    }
+
+    /// How all ranks stand.
+    pub fn standing(&self) -> Standing
+        ensures { (sequence : Sequence) → IsStanding (family (program self.now.state) self.now.state.n sequence) (world_of self.now.state) result }
+    {
+        self.seen.standing()
     }
 
     /// The tree that is simulated.
@@ -175,6 +211,7 @@ impl Held {
         requires room { words_in self.old.state.channels + length words ≤ 16777216 }
         requires few { self.old.steps < 2 ^ 40 }
         ensures stepped { OnOk result (IsStepped self.old rank (Send to label words ∷ []) self.new) }
+        ensures mode { OnOk result (IsInMode mode rank (Send to label words ∷ []) (world_of self.new.state)) }
         ensures same { OnErr result (IsUnchanged self.old self.new) }
     {
         self.seen.send(alloc, rank, to, label, words, mode)
@@ -183,6 +220,7 @@ impl Held {
     /// A rank enters a collective. After `NoMemory` all is as before.
     pub fn enter(
         &mut self,
+        alloc: Global,
         rank: u32,
         what: Joint,
         root: Option<u32>,
@@ -195,9 +233,10 @@ impl Held {
         requires long { length words ≡ weight (program self.old.state) self.old.state.n (collective_of (call_of what root op)) rank }
         requires few { self.old.steps < 2 ^ 40 }
         ensures stepped { OnOk result (IsStepped self.old rank (Enter (collective_of (call_of what root op)) words ∷ []) self.new) }
+        ensures mode { OnOk result ((world_of self.new.state).mode rank ≡ mode) }
         ensures same { OnErr result (self.new ≡ self.old) }
     {
-        self.seen.enter(rank, what, root, op, words, mode)
+        self.seen.enter(alloc, rank, what, root, op, words, mode)
     }
 
     /// A rank leaves the collective that it is in. After `NoMemory` all is as before.

@@ -23,7 +23,36 @@ pub enum StepFault {
 }
 
 impl From<NoMemory> for StepFault {
+    ghost use Rattle.std.specs.Prelude.{◌≡◌};
+    ghost use Rattle.pb_sim.specs.declared.outcomes.StepFault.TheVariants as S;
+
+    ghost from_gives = { λ _ e. e ≡ S.NoMemory };
+
     fn from(_error: NoMemory) -> StepFault {
         StepFault::NoMemory
+    }
+}
+
+/// Why a tree can't be simulated for an N.
+#[derive(Clone, Copy, Debug, PartialEq, Eq, Error)]
+pub enum SimFault {
+    /// N isn't in the tree's range.
+    #[error("OutOfRange")]
+    OutOfRange,
+    /// There would be more than 1,024 ranks.
+    #[error("TooManyRanks")]
+    TooManyRanks,
+    #[error("NoMemory")]
+    NoMemory,
+}
+
+impl From<NoMemory> for SimFault {
+    ghost use Rattle.std.specs.Prelude.{◌≡◌};
+    ghost use Rattle.pb_sim.specs.declared.outcomes.SimFault.TheVariants as F;
+
+    ghost from_gives = { λ _ e. e ≡ F.NoMemory };
+
+    fn from(_error: NoMemory) -> SimFault {
+        SimFault::NoMemory
     }
 }

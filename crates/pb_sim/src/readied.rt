@@ -4,9 +4,13 @@ ghost use Rattle.pb_ready.specs.Listed.{Lists};
 ghost use Rattle.pb_event.specs.States.{total_of};
 ghost use Rattle.pb_event.specs.Can.{can};
 ghost use Rattle.pb_event.specs.Sound.{IsState};
-ghost use Rattle.pb_sim.specs.Seen.{IsReadied};
+ghost use Rattle.pb_sim.specs.Seen.{IsReadied, is_too_much};
 
 use crate::seen::Seen;
+use pb_event::{Act, Next, words_of};
+
+/// The most words that may be in flight.
+const MOST_WORDS: u64 = 16777216;
 
 impl Seen {
     /// Looks again whether a rank has a step.
@@ -68,6 +72,29 @@ impl Seen {
             self.ready.has(rank)
         } else {
             false
+        }
+    }
+
+    /// Whether what comes next of a rank is a send after which more words would be in flight than may be.
+    pub fn is_too_much(&self, next: Next) -> bool
+        requires { IsState self.now.state }
+        ensures { result ≡ is_too_much self.now next }
+    {
+        match next {
+            Next::Acts(Act::Send { label, .. }) => {
+                let count = words_of(&self.state.tree, self.state.n, label);
+                self.state.channels.in_flight() + u64::from(count) > MOST_WORDS
+            }
+            Next::Acts(Act::Choose { .. }) => false,
+            Next::Acts(Act::Run { .. }) => false,
+            Next::Acts(Act::Recv { .. }) => false,
+            Next::Acts(Act::Enter { .. }) => false,
+            Next::Acts(Act::Leave) => false,
+            Next::Silent => false,
+            Next::Waits { .. } => false,
+            Next::Ended => false,
+            Next::Lost => false,
+            Next::Undefined => false,
         }
     }
 }

@@ -8,8 +8,10 @@ ghost use Rattle.pb_machine.specs.Steps.{is_there};
 ghost use Rattle.pb_machine.specs.declared.act.Act.TheVariants as A;
 ghost use Rattle.pb_machine.specs.declared.act.Next.TheVariants.{Silent, Acts, Waits};
 ghost use Rattle.pb_event.specs.States.{program, state_at};
+ghost use Rattle.pb_event.specs.Worlds.{world_of};
 ghost use Rattle.pb_event.specs.Can.{can_read, can_leave};
 ghost use Rattle.pb_event.specs.Events.{MayStep};
+ghost use Rattle.pb_sim.specs.Scheduled.{IsInMode};
 ghost use Rattle.pb_sim.specs.Seen.{IsSeen, IsStepped, IsUnchanged};
 
 use crate::seen::Seen;
@@ -108,7 +110,9 @@ impl Seen {
         requires room { words_in self.old.state.channels + length words ≤ 16777216 }
         requires few { self.old.steps < 2 ^ 40 }
         ensures stepped { OnOk result (IsStepped self.old rank (Send to label words ∷ []) self.new) }
+        ensures mode { OnOk result (IsInMode mode rank (Send to label words ∷ []) (world_of self.new.state)) }
         ensures seen { OnOk result (IsSeen self.new) }
+        ensures kept { OnErr result (IsSeen self.new) }
         ensures same { OnErr result (IsUnchanged self.old self.new) }
     {
         let count = words.list().len() as u64;
@@ -127,6 +131,7 @@ impl Seen {
     /// A rank enters a collective. After `NoMemory` all is as before.
     pub fn enter(
         &mut self,
+        alloc: Global,
         rank: u32,
         what: Joint,
         root: Option<u32>,
@@ -140,13 +145,17 @@ impl Seen {
         requires long { length words ≡ weight (program self.old.state) self.old.state.n (collective_of (call_of what root op)) rank }
         requires few { self.old.steps < 2 ^ 40 }
         ensures stepped { OnOk result (IsStepped self.old rank (Enter (collective_of (call_of what root op)) words ∷ []) self.new) }
+        ensures mode { OnOk result ((world_of self.new.state).mode rank ≡ mode) }
         ensures seen { OnOk result (IsSeen self.new) }
         ensures same { OnErr result (self.new ≡ self.old) }
     {
         let count = words.list().len() as u64;
         let first = self.state.decides(rank, Call::of(what, root, op));
         let k = self.state.joins.number(rank);
-        let entered = self.state.enter(rank, what, root, op, words, mode).is_ok();
+        let entered = self
+            .state
+            .enter(alloc, rank, what, root, op, words, mode)
+            .is_ok();
         if !entered {
             return Err(NoMemory);
         }

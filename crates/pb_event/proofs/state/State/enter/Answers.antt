@@ -18,10 +18,10 @@ use Rattle.pb_event.proofs.state.State.enter.Goals as goal
 pub returns-clause-event : goal.returns-clause-event
 returns-clause-event c =
     let k : is_ok c.enter.result ≡ true = sym c.is_ok-entered.ensures.value ∙ c.if-not-entered.false in
-    let j = ok_of c.enter.result (c.enter.new.self ≡ entered c.args.self.now.joins c.args.rank c.of.result c.args.words) k c.enter.ensures.ok in
+    let j = ok_of c.enter.result (c.enter.new.self ≡ entered c.args.self.now.joins c.args.rank c.of-call.result c.args.words) k c.enter.ensures.ok in
     subst (λ (t : State). IsEvent c.args.self.now c.args.rank (Enter (collective_of (call_of c.args.what c.args.root c.args.op)) c.args.words ∷ []) t)
     (made c.args.self.now c.keep.new.self c.keep.new.self.stands c.args.self.now.channels (entered c.args.self.now.joins c.args.rank (call_of c.args.what c.args.root c.args.op) c.args.words) (c.keep.ensures.tree ∙ c.advance.ensures.tree) (c.keep.ensures.n ∙ c.advance.ensures.n) refl (c.keep.ensures.channels ∙ c.advance.ensures.channels)
-    (c.keep.ensures.joins ∙ c.advance.ensures.joins ∙ j ∙ ap (λ d. entered c.args.self.now.joins c.args.rank d c.args.words) c.of.ensures))
+    (c.keep.ensures.joins ∙ c.advance.ensures.joins ∙ j ∙ ap (λ d. entered c.args.self.now.joins c.args.rank d c.args.words) c.of-call.ensures))
     (enter_event c.args.self.now c.args.rank c.keep.new.self.ranks c.keep.new.self.stands (call_of c.args.what c.args.root c.args.op) c.args.words c.args.mode _ _ c.requires.may
     (enter_next (next_step c.args.self.now c.args.rank) c.args.what c.args.root c.args.op c.requires.may.next_is) c.requires.fit c.requires.long
     (subst (IsAdvanced c.args.self.now c.args.rank Plain) (sym c.keep.ensures.ranks) (alike c.args.self.now c.args.rank Plain c.advance.new.self.ranks c.args.self.now.stands c.args.self.now.channels c.enter.new.self c.advance.ensures.advanced))
@@ -31,8 +31,8 @@ returns-clause-event c =
 pub returns-clause-others : goal.returns-clause-others
 returns-clause-others c = λ nothing part.
     let k : is_ok c.enter.result ≡ true = sym c.is_ok-entered.ensures.value ∙ c.if-not-entered.false in
-    let j = ok_of c.enter.result (c.enter.new.self ≡ entered c.args.self.now.joins c.args.rank c.of.result c.args.words) k c.enter.ensures.ok in
-    let joins : c.keep.new.self.joins ≡ entered c.args.self.now.joins c.args.rank (call_of c.args.what c.args.root c.args.op) c.args.words = c.keep.ensures.joins ∙ c.advance.ensures.joins ∙ j ∙ ap (λ d. entered c.args.self.now.joins c.args.rank d c.args.words) c.of.ensures in
+    let j = ok_of c.enter.result (c.enter.new.self ≡ entered c.args.self.now.joins c.args.rank c.of-call.result c.args.words) k c.enter.ensures.ok in
+    let joins : c.keep.new.self.joins ≡ entered c.args.self.now.joins c.args.rank (call_of c.args.what c.args.root c.args.op) c.args.words = c.keep.ensures.joins ∙ c.advance.ensures.joins ∙ j ∙ ap (λ d. entered c.args.self.now.joins c.args.rank d c.args.words) c.of-call.ensures in
     let m = act_moved c.args.self.now c.args.rank Plain c.keep.new.self.ranks (Enter (collective_of (call_of c.args.what c.args.root c.args.op)) c.args.words)
     (subst (IsAdvanced c.args.self.now c.args.rank Plain) (sym c.keep.ensures.ranks) (alike c.args.self.now c.args.rank Plain c.advance.new.self.ranks c.args.self.now.stands c.args.self.now.channels c.enter.new.self c.advance.ensures.advanced))
     (enter_next (next_step c.args.self.now c.args.rank) c.args.what c.args.root c.args.op c.requires.may.next_is) refl in

@@ -3,11 +3,13 @@ use Rattle.std.specs.Result.{is_ok}
 use Rattle.pb_world.specs.Actions.{Enter}
 use Rattle.pb_join.specs.Calls.{collective_of, call_of}
 use Rattle.pb_join.specs.Joined.{number, all_entered}
+use Rattle.pb_event.specs.declared.state.State.{State}
+use Rattle.pb_event.specs.States.{stand}
 use Rattle.pb_event.specs.Can.{decides}
 use Rattle.pb_sim.specs.Seen.{counted}
 use Rattle.pb_event.specs.Events.{IsEvent, IsOther, IsAsked}
 use Rattle.pb_event.proofs.Before.{ok_of}
-use Rattle.pb_sim.proofs.Exact.{total_kept, asked_few, seen_by, few_enter, weight_few, exact_enter}
+use Rattle.pb_sim.proofs.Exact.{total_kept, asked_many, one_asked, seen_by, few_enter, weight_few, exact_enter}
 use Rattle.pb_sim.proofs.seen.Seen.enter.Goals as goal
 
 pub refresh_for-requires-clause-sound : goal.refresh_for-requires-clause-sound
@@ -40,7 +42,7 @@ returns-clause-stepped c = (
     seen_by c.args.self.now c.refresh_for.new.self c.enter.new.self c.args.rank (Enter (collective_of (call_of c.args.what c.args.root c.args.op)) c.args.words ∷ []) c.requires.seen e
     c.refresh_for.ensures.state (c.refresh_for.ensures.counts ∙ ap (λ (ws : List ℕ). counted (Enter (collective_of (call_of c.args.what c.args.root c.args.op)) ws) c.args.self.now.counts) c.list.ensures) c.refresh_for.ensures.steps c.refresh_for.ensures.total exact
     (few_enter c.args.self.now.counts c.args.self.now.steps c.requires.seen.few (collective_of (call_of c.args.what c.args.root c.args.op)) c.args.words few)
-    (asked_few c.args.self.now.state c.enter.new.self c.args.rank (length c.args.words) c.args.self.now.steps a few (total_kept c.args.self.now.state c.enter.new.self c.args.rank (Enter (collective_of (call_of c.args.what c.args.root c.args.op)) c.args.words ∷ []) e) c.requires.seen.asked)).0
+    (asked_many c.args.self.now.state c.enter.new.self c.args.rank (length c.args.words) (Enter (collective_of (call_of c.args.what c.args.root c.args.op)) c.args.words ∷ []) a few (one_asked (length c.args.words)))).0
 
 pub returns-clause-seen : goal.returns-clause-seen
 returns-clause-seen c = (
@@ -54,4 +56,10 @@ returns-clause-seen c = (
     seen_by c.args.self.now c.refresh_for.new.self c.enter.new.self c.args.rank (Enter (collective_of (call_of c.args.what c.args.root c.args.op)) c.args.words ∷ []) c.requires.seen e
     c.refresh_for.ensures.state (c.refresh_for.ensures.counts ∙ ap (λ (ws : List ℕ). counted (Enter (collective_of (call_of c.args.what c.args.root c.args.op)) ws) c.args.self.now.counts) c.list.ensures) c.refresh_for.ensures.steps c.refresh_for.ensures.total exact
     (few_enter c.args.self.now.counts c.args.self.now.steps c.requires.seen.few (collective_of (call_of c.args.what c.args.root c.args.op)) c.args.words few)
-    (asked_few c.args.self.now.state c.enter.new.self c.args.rank (length c.args.words) c.args.self.now.steps a few (total_kept c.args.self.now.state c.enter.new.self c.args.rank (Enter (collective_of (call_of c.args.what c.args.root c.args.op)) c.args.words ∷ []) e) c.requires.seen.asked)).1
+    (asked_many c.args.self.now.state c.enter.new.self c.args.rank (length c.args.words) (Enter (collective_of (call_of c.args.what c.args.root c.args.op)) c.args.words ∷ []) a few (one_asked (length c.args.words)))).1
+
+pub returns-clause-mode : goal.returns-clause-mode
+returns-clause-mode c =
+    let k : is_ok c.enter.result ≡ true = sym c.is_ok-entered.ensures.value ∙ c.if-not-entered.false in
+    let m = ok_of c.enter.result ((stand c.enter.new.self c.args.rank).mode ≡ c.args.mode) k c.enter.ensures.mode in
+    ap (λ (u : State). (stand u c.args.rank).mode) c.refresh_for.ensures.state ∙ m

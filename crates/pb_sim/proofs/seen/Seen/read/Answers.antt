@@ -1,5 +1,5 @@
-use Rattle.std.proofs.Common.{◌<◌, ◌∙◌, [], ℕ, sym, subst}
-use Rattle.pb_sim.proofs.Exact.{total_kept, asked_same, seen_one, few_silent}
+use Rattle.std.proofs.Common.{refl, ◌<◌, ◌∙◌, [], ℕ, sym, subst}
+use Rattle.pb_sim.proofs.Exact.{total_kept, asked_none, seen_one, few_silent}
 use Rattle.pb_sim.proofs.seen.Seen.read.Goals as goal
 
 pub refresh-requires-clause-total : goal.refresh-requires-clause-total
@@ -9,7 +9,7 @@ pub refresh-requires-clause-there : goal.refresh-requires-clause-there
 refresh-requires-clause-there c = subst (λ (k : ℕ). c.args.rank < k) (sym (total_kept c.args.self.now.state c.read.new.self c.args.rank [] c.read.ensures.event.0)) c.requires.may.there
 
 pub returns-clause-stepped : goal.returns-clause-stepped
-returns-clause-stepped c = (seen_one c.args.self.now c.refresh.new.self c.read.new.self c.args.rank [] c.requires.seen c.read.ensures.event.0 c.read.ensures.event.1 c.refresh.ensures.state c.refresh.ensures.counts c.refresh.ensures.steps c.refresh.ensures.total c.refresh.ensures.ready (few_silent c.args.self.now.counts c.args.self.now.steps c.requires.seen.few) (asked_same c.args.self.now.state c.read.new.self c.args.self.now.steps c.read.ensures.stands (total_kept c.args.self.now.state c.read.new.self c.args.rank [] c.read.ensures.event.0) c.requires.seen.asked)).0
+returns-clause-stepped c = (seen_one c.args.self.now c.refresh.new.self c.read.new.self c.args.rank [] c.requires.seen c.read.ensures.event.0 c.read.ensures.event.1 c.refresh.ensures.state c.refresh.ensures.counts c.refresh.ensures.steps c.refresh.ensures.total c.refresh.ensures.ready (few_silent c.args.self.now.counts c.args.self.now.steps c.requires.seen.few) (asked_none c.args.self.now.state c.read.new.self c.args.rank [] c.read.ensures.stands refl)).0
 
 pub returns-clause-seen : goal.returns-clause-seen
-returns-clause-seen c = (seen_one c.args.self.now c.refresh.new.self c.read.new.self c.args.rank [] c.requires.seen c.read.ensures.event.0 c.read.ensures.event.1 c.refresh.ensures.state c.refresh.ensures.counts c.refresh.ensures.steps c.refresh.ensures.total c.refresh.ensures.ready (few_silent c.args.self.now.counts c.args.self.now.steps c.requires.seen.few) (asked_same c.args.self.now.state c.read.new.self c.args.self.now.steps c.read.ensures.stands (total_kept c.args.self.now.state c.read.new.self c.args.rank [] c.read.ensures.event.0) c.requires.seen.asked)).1
+returns-clause-seen c = (seen_one c.args.self.now c.refresh.new.self c.read.new.self c.args.rank [] c.requires.seen c.read.ensures.event.0 c.read.ensures.event.1 c.refresh.ensures.state c.refresh.ensures.counts c.refresh.ensures.steps c.refresh.ensures.total c.refresh.ensures.ready (few_silent c.args.self.now.counts c.args.self.now.steps c.requires.seen.few) (asked_none c.args.self.now.state c.read.new.self c.args.rank [] c.read.ensures.stands refl)).1

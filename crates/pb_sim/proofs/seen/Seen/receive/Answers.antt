@@ -1,4 +1,4 @@
-use Rattle.std.proofs.Common.{◌<◌, ◌∙◌, ◌∷◌, [], ℕ, ap, sym, subst, arith}
+use Rattle.std.proofs.Common.{refl, ◌<◌, ◌∙◌, ◌∷◌, [], ℕ, ap, sym, subst, arith}
 use Rattle.pb_world.specs.Actions.{Recv, Receives}
 use Rattle.pb_ready.specs.Kept.{put}
 use Rattle.pb_ready.specs.Listed.{Lists}
@@ -6,7 +6,7 @@ use Rattle.pb_event.specs.declared.state.State.{State}
 use Rattle.pb_event.specs.States.{program, state_at, next_step, total_of}
 use Rattle.pb_event.specs.Can.{can}
 use Rattle.pb_event.specs.Sound.{IsState}
-use Rattle.pb_sim.proofs.Exact.{total_kept, asked_few, seen_two, few_receive}
+use Rattle.pb_sim.proofs.Exact.{total_kept, asked_many, seen_two, few_receive}
 use Rattle.pb_event.proofs.Near.{near}
 use Rattle.pb_event.proofs.Sending.{receive_next}
 use Rattle.pb_sim.proofs.seen.Seen.receive.Goals as goal
@@ -35,7 +35,7 @@ returns-clause-stepped c = (seen_two c.args.self.now c.refresh-2.new.self c.rece
     c.refresh.ensures.ready
     (λ f h. subst (λ (u : State). Lists c.refresh-2.new.self.ready (put f c.args.from (can u c.args.from))) c.refresh.ensures.state (c.refresh-2.ensures.ready f h))
     (few_receive c.args.self.now.counts c.args.self.now.steps c.requires.seen.few c.args.from c.args.label c.receive-words.result)
-    (asked_few c.args.self.now.state c.receive-words.new.self c.args.rank 0 c.args.self.now.steps c.receive-words.ensures.asked (omega arith) (total_kept c.args.self.now.state c.receive-words.new.self c.args.rank (Recv c.args.from c.args.label c.receive-words.result ∷ []) c.receive-words.ensures.event.0) c.requires.seen.asked)).0
+    (asked_many c.args.self.now.state c.receive-words.new.self c.args.rank 0 (Recv c.args.from c.args.label c.receive-words.result ∷ []) c.receive-words.ensures.asked (omega arith) refl)).0
 
 pub returns-clause-seen : goal.returns-clause-seen
 returns-clause-seen c = (seen_two c.args.self.now c.refresh-2.new.self c.receive-words.new.self c.args.rank (Recv c.args.from c.args.label c.receive-words.result ∷ []) c.args.from c.refresh.new.self.ready c.requires.seen c.receive-words.ensures.event.0 c.receive-words.ensures.event.1
@@ -43,4 +43,4 @@ returns-clause-seen c = (seen_two c.args.self.now c.refresh-2.new.self c.receive
     c.refresh.ensures.ready
     (λ f h. subst (λ (u : State). Lists c.refresh-2.new.self.ready (put f c.args.from (can u c.args.from))) c.refresh.ensures.state (c.refresh-2.ensures.ready f h))
     (few_receive c.args.self.now.counts c.args.self.now.steps c.requires.seen.few c.args.from c.args.label c.receive-words.result)
-    (asked_few c.args.self.now.state c.receive-words.new.self c.args.rank 0 c.args.self.now.steps c.receive-words.ensures.asked (omega arith) (total_kept c.args.self.now.state c.receive-words.new.self c.args.rank (Recv c.args.from c.args.label c.receive-words.result ∷ []) c.receive-words.ensures.event.0) c.requires.seen.asked)).1
+    (asked_many c.args.self.now.state c.receive-words.new.self c.args.rank 0 (Recv c.args.from c.args.label c.receive-words.result ∷ []) c.receive-words.ensures.asked (omega arith) refl)).1

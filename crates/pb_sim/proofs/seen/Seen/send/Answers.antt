@@ -4,13 +4,16 @@ use Rattle.pb_world.specs.Actions.{Send, Sends}
 use Rattle.pb_ready.specs.Kept.{put}
 use Rattle.pb_ready.specs.Listed.{Lists}
 use Rattle.pb_event.specs.declared.state.State.{State}
-use Rattle.pb_event.specs.States.{program, state_at, next_step, total_of}
+use Rattle.pb_event.specs.States.{program, state_at, next_step, total_of, stand}
+use Rattle.pb_event.specs.Worlds.{waits_for, world_of}
+use Rattle.pb_sim.specs.Scheduled.{IsInMode}
+use Rattle.pb_sim.proofs.Modes.{sent_in_mode}
 use Rattle.pb_event.specs.Can.{can}
 use Rattle.pb_event.specs.Sound.{IsState}
 use Rattle.pb_sim.specs.Seen.{counted}
 use Rattle.pb_event.specs.Events.{IsEvent, IsOtherThan, IsAsked, IsSame}
 use Rattle.pb_event.proofs.Before.{ok_of, err_of}
-use Rattle.pb_sim.proofs.Exact.{total_kept, asked_few, seen_two, few_send, label_few, unchanged}
+use Rattle.pb_sim.proofs.Exact.{total_kept, asked_many, one_asked, seen_two, few_send, label_few, unchanged, still_seen}
 use Rattle.pb_event.proofs.Near.{near}
 use Rattle.pb_event.proofs.Sending.{send_next}
 use Rattle.pb_sim.proofs.seen.Seen.send.Goals as goal
@@ -18,7 +21,7 @@ use Rattle.pb_sim.proofs.seen.Seen.send.Goals as goal
 pub returns-then-not-sent-clause-same : goal.returns-then-not-sent-clause-same
 returns-then-not-sent-clause-same c =
     let k : is_ok c.send.result ≡ false = sym c.is_ok-sent.ensures.value ∙ c.if-not-sent.true in
-    unchanged c.args.self.now c.send.new.self c.requires.seen (err_of c.send.result (IsSame c.args.self.now.state c.send.new.self) k c.send.ensures.same)
+    unchanged c.args.self.now c.send.new.self (err_of c.send.result (IsSame c.args.self.now.state c.send.new.self) k c.send.ensures.same)
 
 pub refresh-requires-clause-sound : goal.refresh-requires-clause-sound
 refresh-requires-clause-sound c =
@@ -69,7 +72,7 @@ returns-clause-stepped c = (
     c.refresh.ensures.ready
     (λ f h. subst (λ (u : State). Lists c.refresh-2.new.self.ready (put f c.args.to (can u c.args.to))) c.refresh.ensures.state (c.refresh-2.ensures.ready f h))
     (few_send c.args.self.now.counts c.args.self.now.steps c.requires.seen.few c.args.to c.args.label c.args.words few)
-    (asked_few c.args.self.now.state c.send.new.self c.args.rank (length c.args.words) c.args.self.now.steps a few (total_kept c.args.self.now.state c.send.new.self c.args.rank (Send c.args.to c.args.label c.args.words ∷ []) e.0) c.requires.seen.asked)).0
+    (asked_many c.args.self.now.state c.send.new.self c.args.rank (length c.args.words) (Send c.args.to c.args.label c.args.words ∷ []) a few (one_asked (length c.args.words)))).0
 
 pub returns-clause-seen : goal.returns-clause-seen
 returns-clause-seen c = (
@@ -82,4 +85,16 @@ returns-clause-seen c = (
     c.refresh.ensures.ready
     (λ f h. subst (λ (u : State). Lists c.refresh-2.new.self.ready (put f c.args.to (can u c.args.to))) c.refresh.ensures.state (c.refresh-2.ensures.ready f h))
     (few_send c.args.self.now.counts c.args.self.now.steps c.requires.seen.few c.args.to c.args.label c.args.words few)
-    (asked_few c.args.self.now.state c.send.new.self c.args.rank (length c.args.words) c.args.self.now.steps a few (total_kept c.args.self.now.state c.send.new.self c.args.rank (Send c.args.to c.args.label c.args.words ∷ []) e.0) c.requires.seen.asked)).1
+    (asked_many c.args.self.now.state c.send.new.self c.args.rank (length c.args.words) (Send c.args.to c.args.label c.args.words ∷ []) a few (one_asked (length c.args.words)))).1
+
+pub returns-clause-mode : goal.returns-clause-mode
+returns-clause-mode c =
+    let k : is_ok c.send.result ≡ true = sym c.is_ok-sent.ensures.value ∙ c.if-not-sent.false in
+    let e = ok_of c.send.result (IsEvent c.args.self.now.state c.args.rank (Send c.args.to c.args.label c.args.words ∷ []) c.send.new.self × IsOtherThan c.args.self.now.state c.args.rank c.args.to c.send.new.self) k c.send.ensures.event in
+    let w = ok_of c.send.result ((stand c.send.new.self c.args.rank).waits ≡ waits_for c.args.mode c.args.to c.args.label) k c.send.ensures.mode in
+    subst (λ (u : State). IsInMode c.args.mode c.args.rank (Send c.args.to c.args.label c.args.words ∷ []) (world_of u)) (sym (c.refresh-2.ensures.state ∙ c.refresh.ensures.state)) (sent_in_mode c.args.self.now.state c.send.new.self c.args.rank c.args.to c.args.label c.args.words c.args.mode e.0 w)
+
+pub returns-then-not-sent-clause-kept : goal.returns-then-not-sent-clause-kept
+returns-then-not-sent-clause-kept c =
+    let k : is_ok c.send.result ≡ false = sym c.is_ok-sent.ensures.value ∙ c.if-not-sent.true in
+    still_seen c.args.self.now c.send.new.self c.requires.seen (err_of c.send.result (IsSame c.args.self.now.state c.send.new.self) k c.send.ensures.same)

@@ -1,0 +1,10 @@
+use Rattle.std.proofs.Common.{subst}
+use Rattle.pb_local.specs.Family.{family}
+use Rattle.pb_event.specs.States.{program}
+use Rattle.pb_event.specs.Worlds.{world_of}
+use Rattle.pb_sim.specs.declared.seen.Seen.{Seen}
+use Rattle.pb_sim.specs.Standing.{IsStanding}
+use Rattle.pb_sim.proofs.held.Held.standing.Goals as goal
+
+pub returns : goal.returns
+returns c = λ sequence. subst (λ (x : Seen). IsStanding (family (program x.state) x.state.n sequence) (world_of x.state) c.standing.result) c.self.view_is (c.standing.ensures sequence)
