@@ -19,6 +19,7 @@ mod tests;
 mod told;
 mod walk;
 
+pub use agree::agreement;
 pub use flow::check_flow;
 pub use pb_core::Core;
 pub use pb_rules::{At, RuleFault};

@@ -1,0 +1,9 @@
+pub mod Codes
+pub mod Added
+pub mod Ones
+pub mod Items
+pub mod StillEnds
+pub mod Descending
+pub mod Segments
+pub mod Loops
+pub mod Straight

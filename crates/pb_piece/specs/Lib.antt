@@ -1,0 +1,10 @@
+pub mod Adding
+pub mod Ranked
+pub mod Comers
+pub mod Standing
+pub mod Ones
+pub mod Fixed
+pub mod Offsets
+pub mod Segments
+pub mod Looping
+pub mod Pieces

@@ -1,0 +1,40 @@
+-- The statements of an `If` that stands alone, or isn't there.
+use Rattle.std.specs.Prelude.{◌≡◌, ℕ, true, Option, Some, None, List, [], ◌∷◌}
+use Rattle.pb_affine.specs.declared.guard.Guard.{Guard}
+use Rattle.pb_core.specs.declared.tree.CoreEnd.{CoreEnd}
+use Rattle.pb_affine.specs.declared.range.NRange.{NRange}
+use Rattle.pb_area.specs.declared.area.Area.{Area}
+use Rattle.pb_core.specs.Tree.{StmtTree, BlockTree}
+use Rattle.pb_core.specs.Sound.{Rows, is_item, is_stmt, is_block}
+use Rattle.pb_part.specs.declared.each.Over.{Over}
+use Rattle.pb_local.specs.Tree as L
+use Rattle.pb_local.specs.Tree.{Code, Codes}
+use Rattle.pb_shape.specs.Shape.{Scope, Here, Who, One, Item, Items, is_end, alone}
+use Rattle.pb_piece.specs.Adding.{onto}
+use Rattle.pb_piece.specs.Standing.{Stands, IsHere, IsEach, is_end_if, varies}
+
+abbrev pub end_guard : CoreEnd → Guard
+end_guard e = record { role = e.role; low = Some e.at; high = Some e.at; from = None; to = None }
+
+abbrev pub only_when : List Guard → Codes → Code
+only_when gs first = L.when gs first L.nothing
+
+-- the piece is the `If` of these ranks, before whatever follows
+pub record IsOne (sc : Scope) (h : Here) (who : Who) (first : Codes) (piece : List Code) : Type 0 where
+  pub one : (tail : Codes) → One sc h who first tail (onto piece tail)
+
+-- the piece is a message or a compute, before whatever follows
+pub record IsItem (sc : Scope) (h : Here) (s : StmtTree) (piece : List Code) : Type 0 where
+  pub item : (tail : Codes) → Item sc h tail s (onto piece tail)
+
+-- what a statement at an end adds, in a place of this kind
+pub record IsAt (range : NRange) (roles : ℕ) (whole : List Area) (over : Option Over) (fixed : List Area) (e : CoreEnd) (c : Code) (piece : List Code) : Type 0 where
+  pub is : (sc : Scope) (h : Here) → Stands range roles whole sc → IsHere over fixed sc h → is_end_if over e ≡ true → IsOne sc h (is_end e) (alone c) piece
+
+-- what an item adds
+pub record IsItemOf (range : NRange) (roles : ℕ) (whole : List Area) (over : Option Over) (fixed : List Area) (s : StmtTree) (piece : List Code) : Type 0 where
+  pub is : (sc : Scope) (h : Here) (rows : Rows) (ids : List ℕ) → Stands range roles whole sc → IsHere over fixed sc h → is_stmt rows (varies over) ids s ≡ true → is_item s ≡ true → IsItem sc h s piece
+
+-- what items are, in a foreach
+pub record AreItemsOf (range : NRange) (roles : ℕ) (whole : List Area) (over : Over) (fixed : List Area) (b : BlockTree) (codes : Codes) : Type 0 where
+  pub are : (sc : Scope) (h : Here) (rows : Rows) (ids : List ℕ) → Stands range roles whole sc → IsEach over fixed sc h → is_block rows true ids b ≡ true → Items sc h b codes
