@@ -1,9 +1,11 @@
 pub mod Codes
 pub mod Added
 pub mod Ones
+pub mod Weights
 pub mod Items
 pub mod StillEnds
 pub mod Descending
+pub mod Counting
 pub mod Segments
 pub mod Loops
 pub mod Straight

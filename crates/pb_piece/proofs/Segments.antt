@@ -1,5 +1,5 @@
 -- The segments of a foreach.
-use Rattle.std.proofs.Common.{◌≡◌, ◌<◌, ◌≤◌, ◌+◌, ℕ, suc, ℤ, pos, ◌+ℤ◌, ◌-ℤ◌, ◌≤ℤ◌, int_le, int_lt, nat_eq, nat_lt, Bool, true, false, ◌&&◌, ◌||◌, not, if◌then◌else◌, Some, None, List, [], ◌∷◌, ◌++◌, map, drop, get_or, length, refl, sym, ap, ◌∙◌, subst, append-nil, drop_of_length-le, arith}
+use Rattle.std.proofs.Common.{◌≡◌, ◌<◌, ◌≤◌, ◌+◌, ◌*◌, max, ℕ, suc, ℤ, pos, ◌+ℤ◌, ◌-ℤ◌, ◌≤ℤ◌, int_le, int_lt, nat_eq, nat_lt, Bool, true, false, ◌&&◌, ◌||◌, not, if◌then◌else◌, Some, None, List, [], ◌∷◌, ◌++◌, map, drop, get_or, length, refl, sym, ap, ◌∙◌, subst, append-nil, drop_of_length-le, arith}
 use Rattle.std.specs.Ordering.{int_eq}
 use Rattle.std.proofs.lemmas.Int.{ints}
 use Rattle.std.proofs.lemmas.List.{at_drop_more, map-append}
@@ -10,7 +10,7 @@ use Rattle.pb_affine.specs.declared.lin.Base.TheVariants.{Fixed, Param, Var}
 use Rattle.pb_affine.specs.declared.lin.Lin.{Lin}
 use Rattle.pb_affine.specs.declared.guard.Guard.{Guard}
 use Rattle.pb_affine.specs.declared.range.NRange.{NRange}
-use Rattle.pb_affine.specs.Values.{value, shifted, hold, holds}
+use Rattle.pb_affine.specs.Values.{value, shifted, hold, holds, IsSmall}
 use Rattle.pb_area.specs.declared.area.Area.{Area}
 use Rattle.pb_area.specs.Areas.{has, have}
 use Rattle.pb_core.specs.declared.protocol.CoreRole.{CoreRole}
@@ -18,7 +18,8 @@ use Rattle.pb_core.specs.declared.tree.CoreEnd.{CoreEnd}
 use Rattle.pb_core.specs.declared.tree.CoreBlock.{CoreBlock, out-CoreBlock}
 use Rattle.pb_core.specs.declared.tree.CoreStmt.{CoreStmt}
 use Rattle.pb_core.specs.Plain.{plain_block, plain_stmt, block_of}
-use Rattle.pb_core.specs.Sound.{Rows, is_end, is_small, is_bound, is_over_n, is_item, is_stmt, is_block}
+use Rattle.pb_core.specs.Plain.{Protocol}
+use Rattle.pb_core.specs.Sound.{Rows, rows_of, is_end, is_small, is_bound, is_over_n, is_item, is_stmt, is_block}
 use Rattle.pb_core.specs.Tree as T
 use Rattle.pb_core.specs.Tree.{StmtTree, BlockTree}
 use Rattle.pb_core.specs.Verdict.{IsIn}
@@ -27,12 +28,18 @@ use Rattle.pb_flat.proofs.Sources.{over_n_is}
 use Rattle.pb_part.specs.declared.each.Over.{Over}
 use Rattle.pb_part.specs.Ends.{IsMetArea}
 use Rattle.pb_part.specs.Sums.{IsSum}
-use Rattle.pb_part.proofs.Among.{bound_parts}
+use Rattle.pb_part.proofs.Among.{bound_parts, near}
 use Rattle.pb_part.proofs.EndAreas.{sum_is}
 use Rattle.pb_part.proofs.Plains.{plain_list}
 use Rattle.pb_local.specs.declared.stmt.Stmt.{Stmt}
 use Rattle.pb_local.specs.Tree as L
-use Rattle.pb_local.specs.Tree.{Code, Codes, plain, plain_all, codes_of}
+use Rattle.pb_local.specs.Tree.{Code, Codes, Program, size, size_all, plain, plain_all, codes_of}
+use Rattle.pb_local.specs.WellMade as W
+use Rattle.pb_local.specs.WellMade.{IsMade, AreMade, IsGuard, AreGuards, behind, loops_at, loops_in}
+use Rattle.pb_shape.specs.Sizes.{braces, braces_all}
+use Rattle.pb_shape.specs.Tabled.{Goes, GoAll}
+use Rattle.pb_piece.specs.Weights.{IsWeighed, IsSimple, IsTabledAs, AreFlat, each_room, count_in, segment_sum}
+use Rattle.pb_piece.proofs.Weights.{weighed_two, weighed_less, weighed_none, flat_append, peer_made, one_guard, label_below, kernel_below, kind_is}
 use Rattle.pb_shape.specs.Shape.{Scope, Here, One, is_at_offset, put, put_end, put_in, segment_code, segment_codes, in_segment, offsets, offsets_at, OfRole, Segments, peer_of}
 use Rattle.pb_piece.specs.declared.offsets.Off.{Off}
 use Rattle.pb_piece.specs.Adding.{onto, Added}
@@ -41,11 +48,12 @@ use Rattle.pb_piece.specs.Comers.{AreBounds}
 use Rattle.pb_piece.specs.Standing.{Stands}
 use Rattle.pb_piece.specs.Offsets.{off_of}
 use Rattle.pb_piece.specs.Ones.{IsOne, only_when}
-use Rattle.pb_piece.specs.Segments.{bounds_of, IsCodes, IsApart, AreOthers, codes_in, IsSegmentOf, IsSegment, IsRoleSegments, AreSegments}
+use Rattle.pb_piece.specs.Segments.{bounds_of, IsCodes, IsApart, AreOthers, codes_in, IsCodesOf, IsSegmentOf, IsSegment, IsRoleSegments, AreSegments}
 use Rattle.pb_piece.proofs.Added.{onto_append, onto_nothing, added_one, added_none, added_as, added_two}
 use Rattle.pb_piece.proofs.Items.{drop_is}
 use Rattle.pb_piece.proofs.Ones.{not_true, both_true, from_zero, inside_range, outside_range, rank_is}
 use Rattle.pb_piece.proofs.StillEnds.{or_false, fair_items}
+use Rattle.pb_piece.proofs.Counting.{spots, sum_at_most, low_in, low_next, low_most, codes_size, codes_braces, codes_loops}
 
 -- ---- what an item is to a segment
 
@@ -73,13 +81,17 @@ run_codes k c kernel e running old new is a = subst (λ z. Added old new (IsCode
 -- ---- what the ranks of a segment do
 
 pub record CodesSoFar (k : ℕ) (c : ℤ) (items : List CoreStmt) (i : ℕ) (list : List Stmt) : Type 0 where
-  pub is : is_small c ≡ true → onto (map plain list) (segment_codes k c (block_of (map plain_stmt (drop i items)))) ≡ codes_in k c (block_of (map plain_stmt items))
+  pub first : Code
+  pub simple : IsSimple first
+  pub exact : is_small c ≡ true → first ≡ L.own (pos 0 -ℤ c)
+  pub is : onto (map plain list) (segment_codes k c (block_of (map plain_stmt (drop i items)))) ≡ L.more first (segment_codes k c (block_of (map plain_stmt items)))
 
-pub codes_start : (k : ℕ) (c : ℤ) (items : List CoreStmt) (s : Stmt) (none list : List Stmt) → none ≡ [] → list ≡ none ++ s ∷ [] → (is_small c ≡ true → plain s ≡ L.own (pos 0 -ℤ c)) → CodesSoFar k c items 0 list
-codes_start k c items s none list empty is own = record {
-  is = λ small.
-      ap (λ l. onto (map plain l) (segment_codes k c (block_of (map plain_stmt items)))) (is ∙ ap (λ l. l ++ s ∷ []) empty)
-      ∙ ap (λ z. L.more z (segment_codes k c (block_of (map plain_stmt items)))) (own small);
+pub codes_start : (k : ℕ) (c : ℤ) (items : List CoreStmt) (s : Stmt) (none list : List Stmt) → none ≡ [] → list ≡ none ++ s ∷ [] → (is_small c ≡ true → plain s ≡ L.own (pos 0 -ℤ c)) → IsSimple (plain s) → CodesSoFar k c items 0 list
+codes_start k c items s none list empty is own simple = record {
+  first = plain s;
+  simple = simple;
+  exact = own;
+  is = ap (λ l. onto (map plain l) (segment_codes k c (block_of (map plain_stmt items)))) (is ∙ ap (λ l. l ++ s ∷ []) empty);
 }
 
 pub codes_step : (k : ℕ) (c : ℤ) (items : List CoreStmt) (i : ℕ) (x : CoreStmt) (old new : List Stmt) → i < length items → x ≡ get_or items i x →
@@ -87,16 +99,22 @@ pub codes_step : (k : ℕ) (c : ℤ) (items : List CoreStmt) (i : ℕ) (x : Core
 codes_step k c items i x old new lt is a so_far =
     let rest : Codes = segment_codes k c (block_of (map plain_stmt (drop (i + 1) items))) in
     record {
-      is = λ small.
-          ap (λ l. onto l rest) a.is ∙ onto_append (map plain old) a.piece rest ∙ ap (onto (map plain old)) (a.has.is rest)
-          ∙ ap (λ l. onto (map plain old) (segment_codes k c (block_of (map plain_stmt l)))) (sym (drop_is items i x lt is)) ∙ so_far.is small;
+      first = so_far.first;
+      simple = so_far.simple;
+      exact = so_far.exact;
+      is = ap (λ l. onto l rest) a.is ∙ onto_append (map plain old) a.piece rest ∙ ap (onto (map plain old)) (a.has.is rest)
+          ∙ ap (λ l. onto (map plain old) (segment_codes k c (block_of (map plain_stmt l)))) (sym (drop_is items i x lt is)) ∙ so_far.is;
     }
 
 pub codes_done : (k : ℕ) (c : ℤ) (b : CoreBlock) (items : List CoreStmt) (i : ℕ) (list : List Stmt) → items ≡ (out-CoreBlock b).list.items → length items ≤ i →
-    CodesSoFar k c items i list → is_small c ≡ true → plain_all list ≡ codes_in k c (plain_block b).block
-codes_done k c b items i list same le so_far small =
-    sym (onto_nothing (map plain list)) ∙ ap (λ l. onto (map plain list) (segment_codes k c (block_of (map plain_stmt l)))) (sym (drop_of_length-le items le)) ∙ so_far.is small
-    ∙ ap (λ l. codes_in k c (block_of (map plain_stmt l))) same ∙ ap (codes_in k c) (sym (plain_list b))
+    CodesSoFar k c items i list → IsCodesOf k c (plain_block b).block (plain_all list)
+codes_done k c b items i list same le so_far = record {
+  first = so_far.first;
+  simple = so_far.simple;
+  exact = so_far.exact;
+  is = sym (onto_nothing (map plain list)) ∙ ap (λ l. onto (map plain list) (segment_codes k c (block_of (map plain_stmt l)))) (sym (drop_of_length-le items le)) ∙ so_far.is
+      ∙ ap (λ l. L.more so_far.first (segment_codes k c (block_of (map plain_stmt l)))) same ∙ ap (λ z. L.more so_far.first (segment_codes k c z)) (sym (plain_list b));
+}
 
 -- ---- whose it is
 
@@ -122,14 +140,99 @@ met_segment e k c lo hi n role x r b o =
     ∙ ap (λ z. nat_eq k role && (if is_var z then is_passed e.at.off lo hi x else int_le lo hi && int_eq (value e.at n (pos 0)) x)) b
     ∙ ap (λ z. nat_eq k role && is_passed z lo hi x) o
 
+small_sum : (a c : ℤ) → is_small a ≡ true → is_small c ≡ true → IsSmall (a +ℤ c)
+small_sum a c h k =
+    let x = near a h in
+    let y = near c k in
+    record { low = omega (arith, ints, x.low, y.low); high = omega (arith, ints, x.high, y.high) }
+
+small_moved : (l m : Lin) (c : ℤ) → IsSum l c m → is_bound l ≡ true → is_small c ≡ true → IsSmall m.off
+small_moved l m c s bound small =
+    let z = bound_parts l bound in
+    subst (λ y. IsSmall y.off) (sym (sum_is l m c s z.1 small)) (small_sum l.off c z.1 small)
+
+pub guard_is_made : (k : ℕ) (c : ℤ) (over : Over) (low high : Lin) → IsSum over.low c low → IsSum over.high c high → (l : Program) → k < length l.roles → AreBounds over → is_small c ≡ true →
+    IsGuard l (record { role = k; low = Some low; high = Some high; from = None; to = None })
+guard_is_made k c over low high sl sh l within bounds small = record {
+  role = within;
+  small = record { low = small_moved over.low low c sl bounds.0 small; high = small_moved over.high high c sh bounds.1 small };
+  from = tt;
+  to = tt;
+}
+
 pub segment_made : (over : Over) (k : ℕ) (c : ℤ) (b : BlockTree) (g : Guard) (gs : List Guard) (first : List Stmt) (s : Stmt) → gs ≡ g ∷ [] →
     ((n i : ℤ) (role : ℕ) (x : ℤ) → AreBounds over → is_small c ≡ true → holds g n i role x ≡ in_segment (bounds_of over) k c n i role x) →
-    (is_small c ≡ true → plain_all first ≡ codes_in k c b) → plain s ≡ only_when gs (plain_all first) → IsSegmentOf over b k c (plain s)
-segment_made over k c b g gs first s one holding codes made = record {
+    ((l : Program) → k < length l.roles → AreBounds over → is_small c ≡ true → IsGuard l g) →
+    IsCodesOf k c b (plain_all first) → plain s ≡ only_when gs (plain_all first) → IsSegmentOf over b k c (plain s)
+segment_made over k c b g gs first s one holding made codes is = record {
   guards = gs;
-  is = λ small. made ∙ ap (only_when gs) (codes small);
+  codes = plain_all first;
+  of = codes;
+  is = is;
   hold_of = λ n i role x bounds small. ap (λ l. hold l n i role x) one ∙ or_false (holds g n i role x) ∙ holding n i role x bounds small;
+  made = λ l within bounds small. subst (AreGuards l) (sym one) (one_guard l g (made l within bounds small));
 }
+
+-- ---- how large it is, and that it is made
+
+segment_few : (c1 n codes : ℕ) → c1 ≡ 1 → codes ≡ c1 + n → suc (codes + 0) + 0 ≤ 2 + n
+segment_few c1 n codes h e = omega (arith, h, e)
+
+segment_shallow : (c1 n codes : ℕ) → c1 ≡ 0 → n ≡ 0 → codes ≡ max c1 n → max (suc (max codes 0)) 0 ≤ 1
+segment_shallow c1 n codes h k e = omega (arith, h, k, e)
+
+segment_none : (c1 n codes : ℕ) → c1 ≡ 0 → n ≡ 0 → codes ≡ c1 + n → (codes + 0) + 0 ≡ 0
+segment_none c1 n codes h k e = omega (arith, h, k, e)
+
+segment_weighed : (over : Over) (b : BlockTree) (k : ℕ) (c : ℤ) (code : Code) → IsSegmentOf over b k c code → IsWeighed (2 + count_in k c b) 1 (code ∷ [])
+segment_weighed over b k c code s =
+    subst (λ z. IsWeighed (2 + count_in k c b) 1 (z ∷ [])) (sym s.is) (record {
+      few = segment_few (size s.of.first) (count_in k c b) (size_all s.codes) s.of.simple.one (ap size_all s.of.is ∙ ap (λ z. size s.of.first + z) (codes_size k c b));
+      shallow = segment_shallow (braces s.of.first) (braces_all (segment_codes k c b)) (braces_all s.codes) s.of.simple.flat (codes_braces k c b) (ap braces_all s.of.is);
+      none = segment_none (loops_at s.of.first) (loops_in (segment_codes k c b)) (loops_in s.codes) s.of.simple.none (codes_loops k c b) (ap loops_in s.of.is);
+    })
+
+back_ints : (c : ℤ) → is_small c ≡ true → IsSmall (pos 0 -ℤ c)
+back_ints c h = let x = near c h in record { low = omega (arith, ints, x.high); high = omega (arith, ints, x.low) }
+
+module _ (p : Protocol) (l : Program) (tabled : IsTabledAs p l) (k : ℕ) (c : ℤ) where
+  put_made : (t : Bool) (x : Code) (rest : Codes) → ((at : W.Scope) → IsMade l at x) → ((at : W.Scope) → AreMade l at rest) → (at : W.Scope) → AreMade l at (put t x rest)
+  put_made true x rest h r at = (h at, r (behind at (loops_at x)))
+  put_made false x rest h r at = r at
+
+  code_made : (s : StmtTree) (ids : List ℕ) (rest : Codes) → is_item s ≡ true → is_stmt (rows_of p) true ids s ≡ true → Goes p s → ((at : W.Scope) → AreMade l at rest) → (at : W.Scope) → AreMade l at (segment_code k c s rest)
+  code_made (T.message lab f t) ids rest item sound goes r at =
+      let three = and_parts (nat_lt lab (length p.labels)) (is_end (rows_of p) true f && is_end (rows_of p) true t) sound in
+      let two = and_parts (is_end (rows_of p) true f) (is_end (rows_of p) true t) three.1 in
+      let label = label_below p l lab tabled three.0 in
+      put_made (is_at_offset k c f) (L.send lab (peer_of t)) (put (is_at_offset k c t) (L.recv lab (peer_of f)) rest) (λ s. (label, peer_made p l t tabled two.1))
+      (put_made (is_at_offset k c t) (L.recv lab (peer_of f)) rest (λ s. (label, peer_made p l f tabled two.0)) r) at
+  code_made (T.foreach b m items) ids rest item sound goes r at = r at
+  code_made (T.loop id m body) ids rest item sound goes r at = r at
+  code_made (T.again id) ids rest item sound goes r at = r at
+  code_made (T.choice kernel e bs) ids rest item sound goes r at = r at
+  code_made (T.run kernel e) ids rest item sound goes r at =
+      let two = and_parts (nat_lt kernel (length p.kernels)) (is_end (rows_of p) true e) sound in
+      put_made (is_at_offset k c e) (L.run kernel) rest (λ s. (kernel_below p l kernel tabled two.0, kind_is p l kernel tabled goes)) r at
+  code_made T.barrier ids rest item sound goes r at = r at
+  code_made (T.broadcast lab root) ids rest item sound goes r at = r at
+  code_made (T.reduce lab op root) ids rest item sound goes r at = r at
+  code_made (T.allreduce lab op) ids rest item sound goes r at = r at
+
+  codes_made : (b : BlockTree) (ids : List ℕ) → is_block (rows_of p) true ids b ≡ true → GoAll p b → (at : W.Scope) → AreMade l at (segment_codes k c b)
+  codes_made T.nothing ids sound goes at = tt
+  codes_made (T.more m s rest) ids sound goes at =
+      let a = and_parts (is_item s) (is_stmt (rows_of p) true ids s && is_block (rows_of p) true ids rest) sound in
+      let z = and_parts (is_stmt (rows_of p) true ids s) (is_block (rows_of p) true ids rest) a.1 in
+      code_made s ids (segment_codes k c rest) a.0 z.0 goes.0 (codes_made rest ids z.1 goes.1) at
+
+  segment_flat : (over : Over) (b : BlockTree) (code : Code) (ids : List ℕ) → IsSegmentOf over b k c code → k < length l.roles → AreBounds over → is_small c ≡ true → is_block (rows_of p) true ids b ≡ true → GoAll p b →
+      AreFlat l (code ∷ [])
+  segment_flat over b code ids s within bounds small sound goes =
+      subst (λ z. AreFlat l (z ∷ [])) (sym s.is)
+      (λ at. (s.made l within bounds small,
+      subst (AreMade l at) (sym (s.of.is ∙ ap (λ z. L.more z (segment_codes k c b)) (s.of.exact small)))
+      (back_ints c small, codes_made b ids sound goes (behind at 0)), tt), tt)
 
 -- ---- the `If`
 
@@ -143,7 +246,7 @@ module _ (range : NRange) (roles : ℕ) (whole : List Area) (over : Over) (less 
             let is = sym (others.is r.n r.role r.index (from_zero range r.n r.within) bounds small) ∙ r.there in
             let who = (and_parts (in_segment (bounds_of over) k c r.n (pos 0) r.role r.index) (not (have less r.n r.role r.index)) is).0 in
             record {
-              one = λ tail. subst (λ z. One sc h (in_segment (bounds_of over) k c) (codes_in k c b) tail (L.more z tail)) (sym (made.is small))
+              one = λ tail. subst (λ z. One sc h (in_segment (bounds_of over) k c) (codes_in k c b) tail (L.more z tail)) (sym (made.is ∙ ap (only_when made.guards) (made.of.is ∙ ap (λ z. L.more z (segment_codes k c b)) (made.of.exact small))))
                   (One.there (λ n i role x within rank at. made.hold_of n i role x bounds small) (record {
                     n = r.n; i = pos 0; role = r.role; index = r.index;
                     within = outside_range range roles whole sc stands r.n r.within;
@@ -152,6 +255,8 @@ module _ (range : NRange) (roles : ℕ) (whole : List Area) (over : Over) (less 
                     is = who;
                   }));
             };
+        weighed = segment_weighed over b k c (plain s) made;
+        made = λ p l ids tabled within bounds small sound goes. segment_flat p l tabled k c over b (plain s) ids made within bounds small sound goes;
       })
 
   pub segment_gone : (areas : List Area) (t : Bool) (old : List Stmt) → AreOthers over k c less areas → IsThere range whole areas t → t ≡ false → Added old old (IsSegment range roles whole over less b k c)
@@ -165,6 +270,8 @@ module _ (range : NRange) (roles : ℕ) (whole : List Area) (over : Over) (less 
               false≢true (sym (none n role x w (rank_is range roles whole sc stands n role x w ∙ rank)) ∙ others.is n role x (from_zero range n w) bounds small
               ∙ both_true _ _ met (ap not (apart.comes n i role x within rank comes)))));
         };
+        weighed = weighed_none (2 + count_in k c b) 1;
+        made = λ p l ids tabled within bounds small sound goes. tt;
       })
 
 -- ---- a role's segments
@@ -222,14 +329,43 @@ left_over : (list : List CoreRole) (k : ℕ) → k < length list → IsMore (dro
 left_over [] k lt = absurd (none_below k lt)
 left_over (r ∷ rs) k lt = record { first = get_or (r ∷ rs) k r; is = at_drop_more (λ l. l) (r ∷ rs) k r lt }
 
+nothing_left : (n : ℕ) → 0 + n ≤ n
+nothing_left n = omega arith
+
+left_after : (used more rest now all : ℕ) → used + now ≤ all → now ≡ more + rest → (used + more) + rest ≤ all
+left_after used more rest now all h e = omega (arith, h, e)
+
+left_over_is : (used now all : ℕ) → used + now ≤ all → used ≤ all
+left_over_is used now all h = omega (arith, h)
+
+one_one : 1 ≤ 1
+one_one = omega arith
+
+one_more_role : (a s n m : ℕ) → s ≤ 3 * n → m ≡ a + n → 3 * a + s ≤ 3 * m
+one_more_role a s n m h e = omega (arith, h, e)
+
+no_role : (a : ℕ) → a ≡ 0 → 0 ≤ 3 * a
+no_role a h = omega arith
+
 module _ (range : NRange) (roles : ℕ) (whole : List Area) (over : Over) (less : List Area) (b : BlockTree) where
   -- the piece has the segments of the first i offsets
   pub record OffsSoFar (k : ℕ) (offs : List Off) (i : ℕ) (piece : List Code) : Type 0 where
     pub is : (sc : Scope) (h : Here) → Stands range roles whole sc → IsApart less sc h → AreBounds over → are_small (map off_of offs) ≡ true →
         (are_small (map off_of (drop i offs)) ≡ true) × ((tail codes : Codes) → OfRole sc h (bounds_of over) b k tail (map off_of (drop i offs)) codes → OfRole sc h (bounds_of over) b k tail (map off_of offs) (onto piece codes))
+    pub used : ℕ
+    pub weighed : IsWeighed used 1 piece
+    pub left : used + segment_sum k b (map off_of (drop i offs)) ≤ segment_sum k b (map off_of offs)
+    pub made : (p : Protocol) (l : Program) (ids : List ℕ) → IsTabledAs p l → k < length l.roles → AreBounds over → is_block (rows_of p) true ids b ≡ true → GoAll p b → are_small (map off_of offs) ≡ true →
+        AreFlat l piece × (are_small (map off_of (drop i offs)) ≡ true)
 
   pub offs_start : (k : ℕ) (offs : List Off) (old : List Stmt) → Added old old (OffsSoFar k offs 0)
-  offs_start k offs old = added_none (OffsSoFar k offs 0) old (record { is = λ sc h stands apart bounds small. (small, λ tail codes z. z) })
+  offs_start k offs old = added_none (OffsSoFar k offs 0) old (record {
+    is = λ sc h stands apart bounds small. (small, λ tail codes z. z);
+    used = 0;
+    weighed = weighed_none 0 1;
+    left = nothing_left (segment_sum k b (map off_of offs));
+    made = λ p l ids tabled within bounds sound goes small. (tt, small);
+  })
 
   pub offs_step : (k : ℕ) (offs : List Off) (i : ℕ) (d : Off) (role : ℕ) (c : ℤ) (old mid new : List Stmt) → i < length offs → role ≡ k → c ≡ (get_or offs i d).off →
       Added mid new (IsSegment range roles whole over less b role c) → Added old mid (OffsSoFar k offs i) → Added old new (OffsSoFar k offs (i + 1))
@@ -245,6 +381,14 @@ module _ (range : NRange) (roles : ℕ) (whole : List Area) (over : Over) (less 
             let segment = y.is sc h stands apart bounds parts.0 in
             (parts.1, λ tail codes w. subst (OfRole sc h (bounds_of over) b k tail (map off_of offs)) (sym (onto_append p q codes))
             (z.1 tail (onto q codes) (subst (λ l. OfRole sc h (bounds_of over) b k tail (map off_of l) (onto q codes)) (sym next) (OfRole.segment (segment.one codes) w))));
+        used = x.used + (2 + count_in k (get_or offs i d).off b);
+        weighed = weighed_two x.used (2 + count_in k (get_or offs i d).off b) 1 p q x.weighed y.weighed;
+        left = left_after x.used (2 + count_in k (get_or offs i d).off b) (segment_sum k b (map off_of (drop (i + 1) offs))) (segment_sum k b (map off_of (drop i offs))) (segment_sum k b (map off_of offs))
+            x.left (ap (λ l. segment_sum k b (map off_of l)) next);
+        made = λ pr l ids tabled within bounds sound goes small.
+            let z = x.made pr l ids tabled within bounds sound goes small in
+            let parts = and_parts (is_small (get_or offs i d).off) (are_small (map off_of (drop (i + 1) offs))) (ap (λ l. are_small (map off_of l)) (sym next) ∙ z.1) in
+            (flat_append l p q z.0 (y.made pr l ids tabled within bounds parts.0 sound goes), parts.1);
       }) so_far one
 
   pub offs_done : (k : ℕ) (offs : List Off) (i : ℕ) (old new : List Stmt) → length offs ≤ i → map off_of offs ≡ offsets k b → Added old new (OffsSoFar k offs i) → Added old new (IsRoleSegments range roles whole over less b k)
@@ -253,15 +397,24 @@ module _ (range : NRange) (roles : ℕ) (whole : List Area) (over : Over) (less 
         is = λ sc h rows ids stands apart bounds sound tail.
             let z = x.is sc h stands apart bounds (ap are_small all ∙ small_offsets k rows ids b sound) in
             subst (λ l. OfRole sc h (bounds_of over) b k tail l (onto p tail)) all (z.1 tail tail (subst (λ l. OfRole sc h (bounds_of over) b k tail (map off_of l) tail) (sym (drop_of_length-le offs le)) OfRole.none));
+        weighed = subst (λ l. IsWeighed (segment_sum k b l) 1 p) all
+            (weighed_less x.used (segment_sum k b (map off_of offs)) 1 1 p (left_over_is x.used (segment_sum k b (map off_of (drop i offs))) (segment_sum k b (map off_of offs)) x.left) one_one x.weighed);
+        made = λ pr l ids tabled within bounds sound goes. (x.made pr l ids tabled within bounds sound goes (ap are_small all ∙ small_offsets k (rows_of pr) ids b sound)).0;
       }) a
 
   -- the piece has the segments of the first k roles
   pub record RolesSoFar (k : ℕ) (piece : List Code) : Type 0 where
     pub is : (sc : Scope) (h : Here) (rows : Rows) (ids : List ℕ) → Stands range roles whole sc → IsApart less sc h → AreBounds over → is_block rows true ids b ≡ true →
         (tail codes : Codes) → Segments sc h (bounds_of over) b tail k (drop k sc.roles) codes → Segments sc h (bounds_of over) b tail 0 sc.roles (onto piece codes)
+    pub weighed : IsWeighed (3 * low_in k b) 1 piece
+    pub made : (p : Protocol) (l : Program) (ids : List ℕ) → IsTabledAs p l → roles ≡ length l.roles → AreBounds over → is_block (rows_of p) true ids b ≡ true → GoAll p b → AreFlat l piece
 
   pub roles_start : (old : List Stmt) → Added old old (RolesSoFar 0)
-  roles_start old = added_none (RolesSoFar 0) old (record { is = λ sc h rows ids stands apart bounds sound tail codes z. z })
+  roles_start old = added_none (RolesSoFar 0) old (record {
+    is = λ sc h rows ids stands apart bounds sound tail codes z. z;
+    weighed = weighed_none (3 * low_in 0 b) 1;
+    made = λ p l ids tabled same bounds sound goes. tt;
+  })
 
   some_role : (sc : Scope) (h : Here) (tail now codes : Codes) (k : ℕ) (all rest : List CoreRole) → OfRole sc h (bounds_of over) b k codes (offsets k b) now →
       Segments sc h (bounds_of over) b tail (suc k) rest codes → IsMore all rest → Segments sc h (bounds_of over) b tail k all now
@@ -284,6 +437,11 @@ module _ (range : NRange) (roles : ℕ) (whole : List Area) (over : Over) (less 
             subst (Segments sc h (bounds_of over) b tail 0 sc.roles) (sym (onto_append p q codes))
             (x.is sc h rows ids stands apart bounds sound tail (onto q codes)
             (roles_next sc h tail (onto q codes) codes k within (y.is sc h rows ids stands apart bounds sound codes) (subst (λ m. Segments sc h (bounds_of over) b tail m (drop (k + 1) sc.roles) codes) (one_more k) z)));
+        weighed = weighed_less (3 * low_in k b + segment_sum k b (offsets k b)) (3 * low_in (k + 1) b) 1 1 (p ++ q)
+            (one_more_role (low_in k b) (segment_sum k b (offsets k b)) (length (spots k b)) (low_in (k + 1) b) (sum_at_most k b) (low_next k b)) one_one
+            (weighed_two (3 * low_in k b) (segment_sum k b (offsets k b)) 1 p q x.weighed y.weighed);
+        made = λ pr l ids tabled same bounds sound goes.
+            flat_append l p q (x.made pr l ids tabled same bounds sound goes) (y.made pr l ids tabled (subst (λ m. k < m) same lt) bounds sound goes);
       }) so_far a
 
   pub roles_done : (k : ℕ) (old new : List Stmt) → roles ≤ k → Added old new (RolesSoFar k) → Added old new (AreSegments range roles whole over less b)
@@ -292,4 +450,6 @@ module _ (range : NRange) (roles : ℕ) (whole : List Area) (over : Over) (less 
         are = λ sc h rows ids stands apart bounds sound tail.
             x.is sc h rows ids stands apart bounds sound tail tail
             (subst (λ l. Segments sc h (bounds_of over) b tail k l tail) (sym (drop_of_length-le sc.roles (subst (λ m. m ≤ k) stands.roles_is le))) Segments.none);
+        weighed = weighed_less (3 * low_in k b) (each_room 6 b) 1 1 p (low_most k b) one_one x.weighed;
+        made = x.made;
       }) a

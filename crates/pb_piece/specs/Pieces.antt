@@ -1,11 +1,17 @@
 -- A statement that is no loop, no continue and no choice, as it is added.
-use Rattle.std.specs.Prelude.{◌≡◌, ℕ, Bool, true, false, List, [], ◌∷◌}
+use Rattle.std.specs.Prelude.{◌≡◌, ℕ, ◌+◌, ◌*◌, ◌≤◌, max, length, Bool, true, false, List, [], ◌∷◌}
 use Rattle.pb_affine.specs.declared.range.NRange.{NRange}
 use Rattle.pb_area.specs.declared.area.Area.{Area}
-use Rattle.pb_core.specs.Sound.{Rows, is_stmt}
+use Rattle.pb_core.specs.Plain.{Protocol}
+use Rattle.pb_core.specs.Sound.{Rows, rows_of, is_stmt}
 use Rattle.pb_core.specs.Tree.{StmtTree, message, foreach, loop, again, choice, run, barrier, broadcast, reduce, allreduce}
 use Rattle.pb_local.specs.Tree as L
-use Rattle.pb_local.specs.Tree.{Code, Codes}
+use Rattle.pb_local.specs.Tree.{Code, Codes, Program, size_all}
+use Rattle.pb_local.specs.WellMade as W
+use Rattle.pb_local.specs.WellMade.{AreMade, loops_in}
+use Rattle.pb_shape.specs.Sizes.{room, depth, braces_all}
+use Rattle.pb_shape.specs.Tabled.{Goes}
+pub use Rattle.pb_piece.specs.Weights.{IsTabledAs}
 use Rattle.pb_shape.specs.Shape.{Scope, Here, Piece, peer_of}
 use Rattle.pb_piece.specs.Adding.{onto}
 use Rattle.pb_piece.specs.Standing.{Stands, IsOpen}
@@ -25,6 +31,11 @@ is_straight (allreduce l op) = true
 pub record IsPieceOf (range : NRange) (roles : ℕ) (whole : List Area) (s : StmtTree) (piece : List Code) : Type 0 where
   pub is : (sc : Scope) (h : Here) (rows : Rows) (ids : List ℕ) → Stands range roles whole sc → IsOpen h → is_stmt rows false ids s ≡ true → is_straight s ≡ true →
       (tail : Codes) → Piece sc h tail s (onto piece tail)
+  pub made : (p : Protocol) (l : Program) (at : W.Scope) (ids : List ℕ) → IsTabledAs p l → roles ≡ length l.roles → is_stmt (rows_of p) false ids s ≡ true → is_straight s ≡ true → Goes p s →
+      (tail : Codes) → AreMade l at tail → AreMade l at (onto piece tail)
+  pub loops : (tail : Codes) → loops_in (onto piece tail) ≡ loops_in tail
+  pub size : (tail : Codes) → size_all (onto piece tail) ≤ room s + size_all tail
+  pub braces : (tail : Codes) → braces_all (onto piece tail) ≤ max (2 * depth s + 1) (braces_all tail)
 
 -- what a collective is in the text
 abbrev pub is_collective : StmtTree → Bool

@@ -1,16 +1,18 @@
-ghost use Rattle.std.specs.Prelude.{◌≡◌, ℕ, ℤ, pos, ◌-ℤ◌, true, IfOk, OnOk};
+ghost use Rattle.std.specs.Prelude.{◌≡◌, ℕ, ◌<◌, length, ℤ, pos, ◌-ℤ◌, true, IfOk, OnOk};
 ghost use Rattle.pb_affine.specs.Values.{holds};
 ghost use Rattle.pb_affine.specs.declared.lin.Base.TheVariants.{Var};
 ghost use Rattle.pb_core.specs.Plain.{plain_block, plain_stmt};
 ghost use Rattle.pb_core.specs.Sound.{is_small};
 ghost use Rattle.pb_core.specs.Tree as T;
 ghost use Rattle.pb_local.specs.Tree as L;
-ghost use Rattle.pb_local.specs.Tree.{plain, plain_all};
+ghost use Rattle.pb_local.specs.Tree.{plain, plain_all, Program};
+ghost use Rattle.pb_local.specs.WellMade.{IsGuard};
 ghost use Rattle.pb_shape.specs.Shape.{is_at_offset, put, segment_code, in_segment};
 ghost use Rattle.pb_part.specs.Sums.{IsSum};
 ghost use Rattle.pb_piece.specs.Adding.{Added};
 ghost use Rattle.pb_piece.specs.Comers.{AreBounds};
-ghost use Rattle.pb_piece.specs.Segments.{bounds_of, IsCodes, AreOthers, codes_in, IsSegmentOf, IsSegment, IsRoleSegments, AreSegments};
+ghost use Rattle.pb_piece.specs.Weights.{IsSimple};
+ghost use Rattle.pb_piece.specs.Segments.{bounds_of, IsCodes, AreOthers, IsCodesOf, IsSegmentOf, IsSegment, IsRoleSegments, AreSegments};
 
 use crate::ends::{is_moving, peer_of};
 use crate::offsets::{Off, offsets};
@@ -109,7 +111,8 @@ fn put_item(stmt: &CoreStmt, segment: Segment, out: &mut Vec<Stmt>) -> Result<()
 
 /// `Own`, by which the variable becomes the value at which a rank of the segment is its end.
 fn own(segment: Segment) -> Stmt
-    ensures { is_small segment.off ≡ true → plain result ≡ L.own (pos 0 -ℤ segment.off) }
+    ensures exact { is_small segment.off ≡ true → plain result ≡ L.own (pos 0 -ℤ segment.off) }
+    ensures simple { IsSimple (plain result) }
 {
     Stmt::Own {
         off: 0i32.saturating_sub(segment.off),
@@ -118,7 +121,7 @@ fn own(segment: Segment) -> Stmt
 
 /// What the ranks of a segment do.
 fn codes(items: &CoreBlock, alloc: Global, segment: Segment) -> Result<Vec<Stmt>, NoMemory>
-    ensures { IfOk result (λ v. is_small segment.off ≡ true → plain_all v.items ≡ codes_in segment.role segment.off (plain_block items.now).block) }
+    ensures { IfOk result (λ v. IsCodesOf segment.role segment.off (plain_block items.now).block (plain_all v.items)) }
 {
     let mut list = Vec::new(alloc);
     list.push(own(segment))?;
@@ -140,7 +143,8 @@ fn moved(lin: Lin, segment: Segment) -> Lin
 
 /// The guard of the ranks of a segment.
 fn guard_of(segment: Segment, over: Over) -> Guard
-    ensures { (n i : ℤ) (role : ℕ) (x : ℤ) → AreBounds over → is_small segment.off ≡ true → holds result n i role x ≡ in_segment (bounds_of over) segment.role segment.off n i role x }
+    ensures made { (l : Program) → segment.role < length l.roles → AreBounds over → is_small segment.off ≡ true → IsGuard l result }
+    ensures holds { (n i : ℤ) (role : ℕ) (x : ℤ) → AreBounds over → is_small segment.off ≡ true → holds result n i role x ≡ in_segment (bounds_of over) segment.role segment.off n i role x }
 {
     Guard {
         role: segment.role,

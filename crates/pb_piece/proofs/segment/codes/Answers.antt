@@ -3,7 +3,7 @@ use Rattle.pb_piece.proofs.segment.codes.Goals as goal
 
 pub loop-stmt-init : goal.loop-stmt-init
 loop-stmt-init c =
-    codes_start c.args.segment.role c.args.segment.off c.deref-stmt-items.result.now c.own.result c.new-list.result.items c.push.new.self.items c.new-list.ensures.items c.in_ok-push.ensures.items c.own.ensures
+    codes_start c.args.segment.role c.args.segment.off c.deref-stmt-items.result.now c.own.result c.new-list.result.items c.push.new.self.items c.new-list.ensures.items c.in_ok-push.ensures.items c.own.ensures.exact c.own.ensures.simple
 
 pub loop-stmt-preserved : goal.loop-stmt-preserved
 loop-stmt-preserved c =
