@@ -1,0 +1,11 @@
+pub mod GoesBack
+pub mod Takings
+pub mod Telling
+pub mod GoodParts
+pub mod Sources
+pub mod Guarding
+pub mod Sequences
+pub mod Looping
+pub mod Choosing
+pub mod Straight
+pub mod Wholes

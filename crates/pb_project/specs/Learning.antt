@@ -1,0 +1,42 @@
+-- What is found of the branches of a choice, and how the ranks learn of it.
+use Rattle.std.specs.Prelude.{◌≡◌, ◌≤◌, ℕ, true, List, [], None, length}
+use Rattle.std.specs.List.{All}
+use Rattle.pb_affine.specs.declared.lin.Lin.{Lin}
+use Rattle.pb_affine.specs.declared.range.NRange.{NRange}
+use Rattle.pb_area.specs.declared.area.Area.{Area}
+use Rattle.pb_area.specs.Fits.{Fits}
+use Rattle.pb_cases.specs.Breakpoints.{IsCut}
+use Rattle.pb_core.specs.declared.tree.CoreEnd.{CoreEnd}
+use Rattle.pb_core.specs.Cuts.{branches_cuts}
+use Rattle.pb_core.specs.Sound.{Rows, are_branches, is_over_n, is_small}
+use Rattle.pb_core.specs.Tree.{BranchTrees}
+use Rattle.pb_first.specs.Takers.{IsWhole}
+use Rattle.pb_local.specs.declared.stmt.Relay.{Relay}
+use Rattle.pb_local.specs.declared.stmt.Test.{Test}
+use Rattle.pb_local.specs.Tree.{Program}
+use Rattle.pb_local.specs.WellMade.{IsRange, IsTest, IsRelay, Ascend}
+use Rattle.pb_part.specs.declared.held.Held.{Held}
+use Rattle.pb_part.specs.Loops.{ids_of, HeldFit}
+use Rattle.pb_part.specs.Pieces.{AreAmong}
+use Rattle.pb_piece.specs.Standing.{Stands, IsOpen}
+use Rattle.pb_shape.specs.Shape.{Scope, Here, Around, Tests, Relays}
+use Rattle.pb_tell.specs.declared.entries.Branch.{Branch}
+use Rattle.pb_tell.specs.Found.{IsAround, IsFoundIn}
+use Rattle.pb_tell.specs.Sources.{OneSource}
+
+pub record AreFound (whole : List Area) (held : List Held) (bs : BranchTrees) (found : List Branch) : Type 0 where
+  pub is : (sc : Scope) (a : Around) (rows : Rows) (cuts : List Lin) → IsWhole sc.range sc.roles whole → IsAround sc a held → are_branches rows (ids_of held) bs ≡ true → AreAmong (branches_cuts None bs) cuts →
+      All IsCut cuts → All (Fits sc.range cuts) whole → HeldFit sc.range cuts held → IsFoundIn sc a bs found
+
+pub record AreTests (range : NRange) (roles : ℕ) (whole : List Area) (found : List Branch) (tests : List Test) : Type 0 where
+  pub is : (sc : Scope) (h : Here) (a : Around) (bs : BranchTrees) → Stands range roles whole sc → IsOpen h → IsRange range → length found ≤ 64 → IsFoundIn sc a bs found → Tests sc h a bs tests
+  pub each : (l : Program) (sc : Scope) (a : Around) (bs : BranchTrees) (rows : Rows) → Stands range roles whole sc → IsRange range → length found ≤ 64 → IsFoundIn sc a bs found → are_branches rows a.opens bs ≡ true →
+      rows.labels ≡ length l.labels → length l.roles ≡ roles → All (IsTest l (length found)) tests
+  pub ascend : length found ≤ 64 → Ascend tests
+
+pub record AreRelays (range : NRange) (roles : ℕ) (whole : List Area) (at : CoreEnd) (found : List Branch) (tests : List Test) (relays : List Relay) : Type 0 where
+  pub is : (sc : Scope) (h : Here) (a : Around) (bs : BranchTrees) → Stands range roles whole sc → IsOpen h → IsRange range → is_over_n at.at.base ≡ true → is_small at.at.off ≡ true → IsFoundIn sc a bs found →
+      OneSource sc a at bs → Tests sc h a bs tests → Relays sc a at bs relays
+  pub each : (l : Program) (sc : Scope) (a : Around) (bs : BranchTrees) → Stands range roles whole sc → IsRange range → is_over_n at.at.base ≡ true → is_small at.at.off ≡ true → IsFoundIn sc a bs found →
+      OneSource sc a at bs → length l.roles ≡ roles → All (IsRelay l) relays
+  pub told : tests ≡ [] → relays ≡ []

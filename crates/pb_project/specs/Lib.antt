@@ -1,0 +1,5 @@
+pub mod Places
+pub mod Takers
+pub mod Learning
+pub mod Blocks
+pub mod Wholes
