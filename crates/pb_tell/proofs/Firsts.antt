@@ -1,26 +1,21 @@
 -- What the entries of a branch, and of all branches, find.
-use Rattle.std.proofs.Common.{◌≡◌, ◌<◌, ◌≤◌, ◌+◌, ℕ, zero, suc, ℤ, pos, Bool, true, false, ◌&&◌, ◌||◌, Option, None, List, [], ◌∷◌, ◌++◌, map, drop, get_or, length, refl, sym, ap, ◌∙◌, subst, arith, drop_of_length-le}
+use Rattle.std.proofs.Common.{◌≡◌, ◌<◌, ◌≤◌, ◌+◌, ℕ, zero, suc, ℤ, pos, true, ◌&&◌, ◌||◌, List, [], ◌∷◌, ◌++◌, drop, get_or, length, refl, sym, ap, ◌∙◌, subst, arith, drop_of_length-le}
 use Rattle.std.specs.List.{All}
 use Rattle.pb_affine.specs.declared.lin.Lin.{Lin}
-use Rattle.pb_affine.specs.declared.range.NRange.{NRange}
 use Rattle.pb_area.specs.declared.area.Area.{Area}
 use Rattle.pb_area.specs.Areas.{have}
-use Rattle.pb_area.specs.Fits.{Fits}
 use Rattle.pb_cases.specs.Breakpoints.{IsCut}
 use Rattle.pb_core.specs.declared.tree.CoreBlock.{CoreBlock}
-use Rattle.pb_core.specs.Cuts.{block_cuts, branches_cuts}
 use Rattle.pb_core.specs.Flat.{stop, branch_at}
 use Rattle.pb_core.specs.FlatOf.{flat_block, flat_branches}
-use Rattle.pb_core.specs.Outcomes.{Outcome, receives, firsts}
-use Rattle.pb_core.specs.Plain.{plain_block, branches_of}
-use Rattle.pb_core.specs.Sound.{Rows, is_block, are_branches}
-use Rattle.pb_core.specs.Tree.{Mark, BlockTree, BranchTrees, no_branch, branch}
+use Rattle.pb_core.specs.Outcomes.{receives, firsts}
+use Rattle.pb_core.specs.Plain.{plain_block}
+use Rattle.pb_core.specs.Tree.{BlockTree, BranchTrees, no_branch, branch}
 use Rattle.pb_core.specs.Verdict.{IsIn}
 use Rattle.pb_flat.specs.OutcomeSets.{is_outcome}
 use Rattle.pb_flat.specs.Seated.{rank, is_rank}
 use Rattle.pb_part.specs.declared.held.Held.{Held}
-use Rattle.pb_part.specs.Loops.{ids_of, held_of}
-use Rattle.pb_part.specs.Pieces.{AreAmong}
+use Rattle.pb_part.specs.Loops.{ids_of}
 use Rattle.pb_first.specs.declared.firsts.Entry.{Entry}
 use Rattle.pb_first.specs.Firsts.{finds, are_small, Gives, first_in}
 use Rattle.pb_first.specs.Fitting.{EntriesFit}
@@ -112,7 +107,7 @@ pub first_step : (sc : Scope) (a : Around) (cuts : List Lin) (items : List CoreB
     now ≡ list ++ one ∷ [] → IsFirstIn sc a (plain_block b).block cuts one.entries.items → FirstSoFar sc a cuts items i list → FirstSoFar sc a cuts items (i + 1) now
 first_step sc a cuts items i b list now one lt is pushed it h = λ rest more.
     let these : AreFirst sc a cuts (trees_of (drop i items)) (one ∷ rest) =
-        subst (λ z. AreFirst sc a cuts (trees_of z) (one ∷ rest)) (sym (drop_is items i b lt is)) (it, more) in
+    subst (λ z. AreFirst sc a cuts (trees_of z) (one ∷ rest)) (sym (drop_is items i b lt is)) (it, more) in
     subst (λ z. AreFirst sc a cuts (trees_of items) z) (sym (ap (λ z. z ++ rest) pushed ∙ append_append list one rest)) (h (one ∷ rest) these)
 
 pub first_done : (sc : Scope) (a : Around) (cuts : List Lin) (items : List CoreBlock) (i : ℕ) (list : List Branch) → length items ≤ i → FirstSoFar sc a cuts items i list → AreFirst sc a cuts (trees_of items) list

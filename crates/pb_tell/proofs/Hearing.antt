@@ -1,9 +1,9 @@
 -- The ranks that hear first from a source.
-use Rattle.std.proofs.Common.{◌≡◌, ◌<◌, ◌≤◌, ◌+◌, ◌≤ℤ◌, inl, inr, ◌⊎◌, ℕ, zero, suc, ℤ, pos, negsuc, Bool, true, false, not, ◌&&◌, ◌||◌, nat_eq, int_le, List, [], ◌∷◌, ◌++◌, drop, get_or, length, refl, sym, ap, ◌∙◌, subst, arith, drop_of_length-le}
+use Rattle.std.proofs.Common.{◌≡◌, ◌<◌, ◌≤◌, ◌+◌, inl, inr, ◌⊎◌, ℕ, zero, suc, ℤ, pos, negsuc, Bool, true, false, not, ◌&&◌, ◌||◌, nat_eq, int_le, List, [], ◌∷◌, ◌++◌, drop, get_or, length, refl, sym, ap, ◌∙◌, subst, arith, drop_of_length-le}
 use Rattle.std.specs.List.{All, list_any}
 use Rattle.std.specs.Ordering.{int_eq}
 use Rattle.std.proofs.lemmas.List.{drop_more}
-use Rattle.std.proofs.lemmas.List.Elements.{All-nil, All-cons, All-head, All-append}
+use Rattle.std.proofs.lemmas.List.Elements.{All-nil}
 use Rattle.std.proofs.lemmas.Bool.{and_parts, and_from, or_cases, or_left, or_right, true≢false, false≢true, eqb-true, eq-eqb}
 use Rattle.std.proofs.lemmas.Bool.Decides.{nat_tests}
 use Rattle.std.proofs.lemmas.Int.{ints}
@@ -11,26 +11,23 @@ use Rattle.pb_affine.specs.declared.lin.Base.{Base}
 use Rattle.pb_affine.specs.declared.lin.Base.TheVariants.{Fixed, Param, Var}
 use Rattle.pb_affine.specs.declared.lin.Lin.{Lin}
 use Rattle.pb_affine.specs.declared.range.NRange.{NRange}
-use Rattle.pb_affine.specs.Values.{value}
 use Rattle.pb_area.specs.declared.area.Area.{Area}
 use Rattle.pb_area.specs.Areas.{has, have}
 use Rattle.pb_area.specs.Fits.{Fits}
 use Rattle.pb_cases.specs.Breakpoints.{IsCut}
-use Rattle.pb_choice.specs.Clashes.{agrees, same_base, IsAgreement}
+use Rattle.pb_choice.specs.Clashes.{same_base, IsAgreement}
 use Rattle.pb_core.specs.declared.tree.CoreEnd.{CoreEnd}
-use Rattle.pb_core.specs.Sound.{is_small}
 use Rattle.pb_first.specs.declared.firsts.Entry.{Entry}
 use Rattle.pb_first.specs.declared.firsts.Kind.{Kind}
 use Rattle.pb_first.specs.declared.firsts.Kind.TheVariants.{Receive, Other, Again}
 use Rattle.pb_first.specs.declared.firsts.Source.{Source}
 use Rattle.pb_first.specs.Firsts.{is_small_off, is_small_kind, are_small}
 use Rattle.pb_first.specs.Fitting.{EntriesFit}
-use Rattle.pb_flat.specs.Seated.{is_at}
 use Rattle.pb_part.specs.Ends.{IsEndArea}
 use Rattle.pb_tell.specs.Heard.{IsCutOut, IsOther, AreOthers, AddsHeard, IsHeard}
 use Rattle.pb_tell.specs.Sayable.{AreSayable, IsSayable}
 use Rattle.pb_tell.specs.Sources.{same_source, is_from, is_listed, hears, source_at}
-use Rattle.pb_tell.proofs.Plain.{BothFit, both_fit}
+use Rattle.pb_tell.proofs.Plain.{both_fit}
 use Rattle.pb_tell.proofs.Telling.{fit_at}
 
 -- ---- sources that are the same

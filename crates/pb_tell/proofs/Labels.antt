@@ -1,11 +1,10 @@
 -- The labels that a rank receives first are among those of a sound block.
-use Rattle.std.proofs.Common.{◌≡◌, ◌<◌, ◌⊎◌, ℕ, zero, suc, ◌==◌, ℤ, pos, cond, Bool, true, false, not, ◌&&◌, inl, inr, List, [], ◌∷◌, ◌++◌, refl, sym, ◌∙◌, subst}
+use Rattle.std.proofs.Common.{◌≡◌, ◌<◌, ◌⊎◌, ℕ, zero, suc, ◌==◌, ℤ, pos, cond, Bool, true, false, not, ◌&&◌, inl, inr, List, [], ◌∷◌, sym, ◌∙◌, subst}
 use Rattle.std.specs.Prelude.{nat_lt}
-use Rattle.std.specs.List.{list_any}
 use Rattle.std.proofs.lemmas.Bool.{and_parts, or_cases, false≢true, eqb-true, ltb-true}
 use Rattle.pb_affine.specs.Values.{value, range}
 use Rattle.pb_core.specs.declared.protocol.CoreRole.{CoreRole}
-use Rattle.pb_core.specs.Sound.{Rows, is_item, is_end, is_bound, has_branch, is_stmt, is_block, are_branches}
+use Rattle.pb_core.specs.Sound.{Rows, is_end, is_bound, has_branch, is_stmt, is_block, are_branches}
 use Rattle.pb_core.specs.Tree as T
 use Rattle.pb_core.specs.Tree.{Mark, StmtTree, foreach, loop, run, barrier, broadcast, reduce, allreduce, BlockTree, nothing, more, BranchTrees}
 use Rattle.pb_core.specs.Flat.{Block, stop, nth, takes_part, takes_part_among, branch_at}

@@ -1,19 +1,18 @@
 -- Areas that guards can say beside any others.
-use Rattle.std.proofs.Common.{◌≡◌, ◌≢◌, ◌≤◌, ◌<◌, ◌<ℤ◌, ◌≤ℤ◌, inl, inr, ◌⊎◌, ℕ, ℤ, pos, negsuc, ◌+ℤ◌, ◌-ℤ◌, Bool, true, false, nat_lt, int_lt, Option, Some, None, List, [], ◌∷◌, ◌++◌, length, refl, sym, ap, ◌∙◌, subst, arith}
+use Rattle.std.proofs.Common.{◌≡◌, ◌≤◌, ◌<ℤ◌, ◌≤ℤ◌, inl, inr, ◌⊎◌, ℕ, ℤ, pos, Bool, true, false, nat_lt, Option, Some, None, List, [], ◌∷◌, ◌++◌, refl, arith}
 use Rattle.std.specs.Prelude.{IfSome}
 use Rattle.std.specs.List.{All, Contains}
 use Rattle.std.proofs.lemmas.List.Elements.{All-nil, All-cons, All-append, All-weaker, Contains-append_left, Contains-append_right}
 use Rattle.std.proofs.lemmas.Bool.{ltb-true}
 use Rattle.std.proofs.lemmas.Bool.Decides.{nat_tests}
 use Rattle.std.proofs.lemmas.Int.{ints}
-use Rattle.pb_affine.specs.declared.lin.Base.{Base}
-use Rattle.pb_affine.specs.declared.lin.Base.TheVariants.{Fixed, Param, Var}
+use Rattle.pb_affine.specs.declared.lin.Base.TheVariants.{Fixed, Param}
 use Rattle.pb_affine.specs.declared.lin.Lin.{Lin}
 use Rattle.pb_affine.specs.declared.range.NRange.{NRange}
-use Rattle.pb_affine.specs.Values.{is_up_to, IsSmall}
+use Rattle.pb_affine.specs.Values.{is_up_to}
 use Rattle.pb_area.specs.declared.area.Area.{Area}
 use Rattle.pb_area.specs.Fits.{Fits, IsCutOf, IsEdgeOf, IsEdgeOfIf}
-use Rattle.pb_cases.specs.Breakpoints.{IsCut, IsBreakpoint, IsMeeting, IsInRange}
+use Rattle.pb_cases.specs.Breakpoints.{IsCut, IsBreakpoint, IsMeeting}
 use Rattle.pb_tell.specs.Sayable.{AreSayable, IsPlainLin, IsSayable}
 
 -- ---- more cuts

@@ -1,11 +1,9 @@
 -- Relays, and the one rank from which each rank hears first.
-use Rattle.std.proofs.Common.{◌≡◌, ◌<◌, ◌≤◌, ◌+◌, ◌≤ℤ◌, inl, inr, ◌⊎◌, ℕ, zero, suc, ◌==◌, ℤ, pos, negsuc, Bool, true, false, not, ◌&&◌, ◌||◌, nat_eq, int_le, if◌then◌else◌, List, [], ◌∷◌, ◌++◌, drop, get_or, length, refl, sym, ap, ◌∙◌, subst, arith, drop_of_length-le}
+use Rattle.std.proofs.Common.{◌≡◌, ◌<◌, ◌≤◌, ◌+◌, ◌≤ℤ◌, inl, inr, ◌⊎◌, ℕ, zero, suc, ◌==◌, ℤ, pos, negsuc, Bool, true, false, ◌&&◌, ◌||◌, nat_eq, int_le, if◌then◌else◌, List, [], ◌∷◌, ◌++◌, drop, get_or, length, refl, sym, ap, ◌∙◌, subst, arith}
 use Rattle.std.specs.List.{All, list_any}
 use Rattle.std.specs.Ordering.{int_eq}
 use Rattle.std.proofs.lemmas.List.Elements.{All-nil, All-push, All-head, All-tail}
-use Rattle.std.proofs.lemmas.List.{drop_more}
 use Rattle.std.proofs.lemmas.Bool.{and_parts, and_from, or_cases, or_left, or_right, true≢false, false≢true, eqb-true, lt-ltb}
-use Rattle.std.proofs.lemmas.Bool.Decides.{nat_tests}
 use Rattle.std.proofs.lemmas.Int.{ints}
 use Rattle.pb_affine.specs.declared.guard.Guard.{Guard}
 use Rattle.pb_affine.specs.declared.lin.Lin.{Lin}
@@ -13,17 +11,15 @@ use Rattle.pb_affine.specs.declared.range.NRange.{NRange}
 use Rattle.pb_affine.specs.Values.{value, hold, IsSmall}
 use Rattle.pb_area.specs.declared.area.Area.{Area}
 use Rattle.pb_area.specs.Areas.{has, have}
-use Rattle.pb_cases.specs.Breakpoints.{IsCut}
 use Rattle.pb_choice.specs.Clashes.{agrees}
 use Rattle.pb_choice.proofs.Origins.{none_left, none_right}
-use Rattle.pb_choice.proofs.Members.{given}
 use Rattle.pb_choice.proofs.Seatings.{seated_first}
 use Rattle.pb_core.specs.declared.protocol.CoreRole.{CoreRole}
 use Rattle.pb_core.specs.declared.tree.CoreEnd.{CoreEnd}
 use Rattle.pb_core.specs.Flat.{Block, Branches, no_branch, branch, stop, branch_at, takes_part, takes_part_among}
 use Rattle.pb_core.specs.FlatOf.{flat_block, flat_branches}
-use Rattle.pb_core.specs.Outcomes.{Outcome, nothing_first, receives, other_first, again_first, firsts, firsts_among, only_from, source_of, comes_from_one}
-use Rattle.pb_core.specs.Ranks.{Seat, seats, total, number_in}
+use Rattle.pb_core.specs.Outcomes.{Outcome, nothing_first, receives, other_first, again_first, firsts, firsts_among, only_from, source_of}
+use Rattle.pb_core.specs.Ranks.{seats, total}
 use Rattle.pb_core.specs.Rules.{strays, each_origin, each_origin_among}
 use Rattle.pb_core.specs.Sound.{is_small}
 use Rattle.pb_core.specs.Tree as T
@@ -368,8 +364,10 @@ module _ (sc : Scope) (a : Around) (at : CoreEnd) (bs : BranchTrees) (found : Li
     where
       near : (low : ℕ) (n : ℤ) → pos low ≤ℤ n → pos 0 ≤ℤ n
       near low n h = omega (arith, ints, h)
+
       same_value : (x y : ℤ) → int_eq x y ≡ true → x ≡ y
       same_value x y h = grind (arith, ints)
+
       by : (s : Source) → hears s (all_entries found) n role x ≡ true → is_listed s sources ≡ true → (b : Bool) → agrees s (source_at at) n x ≡ b → rank sc.roles n at.role (value at.at n x) ≡ teller sc a bs n role x
       by s heard there true e =
           let parts = and_parts (nat_eq s.role at.role) (int_eq (value s.at n x) (value at.at n x)) e in

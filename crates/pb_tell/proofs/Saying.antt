@@ -1,5 +1,5 @@
 -- Areas said by guards.
-use Rattle.std.proofs.Common.{◌≡◌, ◌≢◌, ◌<◌, ◌≤◌, ◌+◌, ◌<ℤ◌, ◌≤ℤ◌, inl, inr, ◌⊎◌, ℕ, zero, suc, ℤ, pos, negsuc, ◌+ℤ◌, ◌-ℤ◌, Bool, true, false, ◌&&◌, ◌||◌, nat_eq, nat_lt, int_le, int_lt, Option, Some, None, List, [], ◌∷◌, ◌++◌, length, refl, sym, ap, ◌∙◌, subst, arith}
+use Rattle.std.proofs.Common.{◌≡◌, ◌≢◌, ◌<◌, ◌≤◌, ◌+◌, ◌<ℤ◌, ◌≤ℤ◌, inl, inr, ◌⊎◌, ℕ, suc, ℤ, pos, ◌+ℤ◌, Bool, true, false, ◌&&◌, ◌||◌, nat_eq, nat_lt, int_le, int_lt, Option, Some, None, List, [], ◌∷◌, ◌++◌, length, refl, sym, ap, ◌∙◌, subst, arith}
 use Rattle.std.specs.List.{All, Contains}
 use Rattle.std.proofs.lemmas.Bool.{and_parts, or_cases, true≢false, false≢true}
 use Rattle.std.proofs.lemmas.Bool.Decides.{nat_tests}
@@ -9,12 +9,12 @@ use Rattle.pb_affine.specs.declared.lin.Base.TheVariants.{Fixed, Param, Var}
 use Rattle.pb_affine.specs.declared.guard.Guard.{Guard}
 use Rattle.pb_affine.specs.declared.lin.Lin.{Lin}
 use Rattle.pb_affine.specs.declared.range.NRange.{NRange}
-use Rattle.pb_affine.specs.Values.{value, base_value, holds, hold, is_at_least, is_at_most, is_from_on, is_up_to, IsSmallGuard}
+use Rattle.pb_affine.specs.Values.{base_value, holds, hold, is_at_least, is_at_most, is_from_on, is_up_to, IsSmallGuard}
 use Rattle.pb_area.specs.declared.area.Area.{Area}
-use Rattle.pb_area.specs.Areas.{has, have, at, is_before}
+use Rattle.pb_area.specs.Areas.{has, at, is_before}
 use Rattle.pb_area.specs.Fits.{Fits}
 use Rattle.pb_cases.specs.Bounds.{IsAligned, IsEdge, IsEdgeIf, or_zero, after}
-use Rattle.pb_cases.specs.Breakpoints.{IsCut, IsBreakpoint, IsMeeting, IsInRange, Division}
+use Rattle.pb_cases.specs.Breakpoints.{IsCut, IsMeeting, IsInRange, Division}
 use Rattle.pb_choice.proofs.Leasts.{to_range}
 use Rattle.pb_core.specs.declared.protocol.CoreRole.{CoreRole}
 use Rattle.pb_core.specs.Ranks.{Seat, seats_from}

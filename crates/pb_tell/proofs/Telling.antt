@@ -1,8 +1,8 @@
 -- Who is told a branch by a label, by the entries and by the tests.
-use Rattle.std.proofs.Common.{◌≡◌, ◌<◌, ◌≤◌, ◌+◌, inl, inr, ◌⊎◌, ℕ, zero, suc, ◌==◌, ℤ, pos, Bool, true, false, ◌&&◌, ◌||◌, nat_eq, nat_lt, if◌then◌else◌, Option, Some, None, List, [], ◌∷◌, ◌++◌, drop, get_or, length, refl, sym, ap, ◌∙◌, subst, arith, drop_of_length-le}
-use Rattle.std.specs.List.{All, list_any}
+use Rattle.std.proofs.Common.{◌≡◌, ◌<◌, ◌≤◌, ◌+◌, inl, inr, ℕ, zero, suc, ◌==◌, ℤ, pos, Bool, true, false, ◌&&◌, ◌||◌, nat_eq, nat_lt, if◌then◌else◌, List, [], ◌∷◌, ◌++◌, drop, get_or, length, refl, sym, ap, ◌∙◌, subst, arith, drop_of_length-le}
+use Rattle.std.specs.List.{All}
 use Rattle.std.proofs.lemmas.List.{drop_more}
-use Rattle.std.proofs.lemmas.List.Elements.{All-push, All-nil, All-weaker, All-tail, All-head, All-cons}
+use Rattle.std.proofs.lemmas.List.Elements.{All-push, All-nil, All-weaker, All-tail, All-head}
 use Rattle.std.proofs.lemmas.Bool.{and_parts, and_from, or_cases, or_left, or_right, true≢false, false≢true, eqb-true, eq-eqb, lt-ltb}
 use Rattle.std.proofs.lemmas.Bool.Decides.{nat_tests}
 use Rattle.pb_affine.specs.declared.guard.Guard.{Guard}
@@ -18,7 +18,7 @@ use Rattle.pb_choice.proofs.Members.{given}
 use Rattle.pb_core.specs.declared.protocol.CoreRole.{CoreRole}
 use Rattle.pb_core.specs.Flat.{branch_at}
 use Rattle.pb_core.specs.FlatOf.{flat_branches}
-use Rattle.pb_core.specs.Outcomes.{Outcome, receives, labels_of, is_among, firsts}
+use Rattle.pb_core.specs.Outcomes.{Outcome, receives, firsts}
 use Rattle.pb_core.specs.Sound.{Rows, are_branches}
 use Rattle.pb_core.specs.Tree.{BranchTrees}
 use Rattle.pb_core.specs.Verdict.{IsIn}
@@ -28,19 +28,19 @@ use Rattle.pb_first.specs.declared.firsts.Kind.TheVariants.{Receive, Other, Agai
 use Rattle.pb_first.specs.declared.firsts.Source.{Source}
 use Rattle.pb_first.specs.Firsts.{finds, outcome_of}
 use Rattle.pb_first.specs.Fitting.{EntriesFit}
-use Rattle.pb_flat.specs.OutcomeSets.{outcome_eq, is_outcome}
+use Rattle.pb_flat.specs.OutcomeSets.{outcome_eq}
 use Rattle.pb_flat.specs.Seated.{rank, is_rank}
 use Rattle.pb_flat.proofs.OutcomeTests.{label_is}
 use Rattle.pb_local.specs.declared.stmt.Test.{Test}
 use Rattle.pb_local.specs.Tree.{Program}
-use Rattle.pb_local.specs.WellMade.{IsRange, IsGuard, IsTest, AreGuards, Ascend, ComesAfter}
-use Rattle.pb_piece.specs.Ranked.{Ranked, IsThere}
+use Rattle.pb_local.specs.WellMade.{IsRange, IsGuard, IsTest, Ascend, ComesAfter}
+use Rattle.pb_piece.specs.Ranked.{Ranked}
 use Rattle.pb_piece.specs.Standing.{Stands}
 use Rattle.pb_shape.specs.Shape.{Scope, Around, guards_of, is_told}
 use Rattle.pb_tell.specs.declared.entries.Branch.{Branch}
 use Rattle.pb_tell.specs.Found.{entries_at, IsFoundIn, has_label, tells, AreKnown}
 use Rattle.pb_tell.specs.Sayable.{AreSayable}
-use Rattle.pb_tell.specs.Tested.{is_under, IsTested, IsBefore, AscendTo}
+use Rattle.pb_tell.specs.Tested.{IsTested, IsBefore, AscendTo}
 use Rattle.pb_tell.proofs.Labels.{label_known}
 use Rattle.pb_tell.proofs.Saying.{hold_append}
 
@@ -153,6 +153,7 @@ guards_append j l (s ∷ ts) t =
     assoc : (xs ys zs : List Guard) → xs ++ (ys ++ zs) ≡ (xs ++ ys) ++ zs
     assoc [] ys zs = refl
     assoc (x ∷ xs) ys zs = ap (λ z. x ∷ z) (assoc xs ys zs)
+
     front : (b : Bool) (xs ys zs : List Guard) → (if b then xs ++ (ys ++ zs) else ys ++ zs) ≡ (if b then xs ++ ys else ys) ++ zs
     front true xs ys zs = assoc xs ys zs
     front false xs ys zs = refl
@@ -180,8 +181,8 @@ holds_pushed j l k m gs old new es n i role x e h =
     ∙ ap (λ z. hold z n i role x) (guards_append j l old t)
     ∙ hold_append (guards_of j l old) (if nat_eq j k && nat_eq l m then gs else []) n i role x
     ∙ ap (λ z. hold (guards_of j l old) n i role x || z)
-      (hold_if (nat_eq j k && nat_eq l m) gs n i role x ∙ ap (λ z. (nat_eq j k && nat_eq l m) && z) h ∙ and_assoc (nat_eq j k) (nat_eq l m) (tells m es n role x)
-      ∙ ap (λ z. nat_eq j k && z) (same_label l m (λ q. tells q es n role x)))
+    (hold_if (nat_eq j k && nat_eq l m) gs n i role x ∙ ap (λ z. (nat_eq j k && nat_eq l m) && z) h ∙ and_assoc (nat_eq j k) (nat_eq l m) (tells m es n role x)
+    ∙ ap (λ z. nat_eq j k && z) (same_label l m (λ q. tells q es n role x)))
 
 nothing_bools : (o a : Bool) (l m : ℕ) (f : ℕ → Bool) → f m ≡ false → o ≡ o || (a && (nat_eq l m && f l))
 nothing_bools o a l m f h =

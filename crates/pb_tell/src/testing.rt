@@ -80,12 +80,7 @@ fn is_of(kind: Kind, wanted: u32) -> bool
 }
 
 /// Adds the area of an entry with this label.
-fn add_area(
-    alloc: Global,
-    areas: &mut Vec<Area>,
-    entry: Entry,
-    label: u32,
-) -> Result<(), NoMemory>
+fn add_area(alloc: Global, areas: &mut Vec<Area>, entry: Entry, label: u32) -> Result<(), NoMemory>
     ensures is { OnOk result ((n : ℤ) (role : ℕ) (x : ℤ) → have areas.new.items n role x ≡ have areas.old.items n role x || (is_label label entry.kind && has entry.area n role x)) }
     ensures fits { OnOk result ((range : NRange) (cuts : List Lin) → All (Fits range cuts) areas.old.items → Fits range cuts entry.area → All (Fits range cuts) areas.new.items) }
 {

@@ -1,6 +1,4 @@
 use Rattle.std.proofs.Common.{sym, subst}
-use Rattle.std.specs.List.{All}
-use Rattle.pb_area.specs.Fits.{Fits}
 use Rattle.pb_core.specs.Plain.{plain_block}
 use Rattle.pb_first.specs.Fitting.{EntriesFit}
 use Rattle.pb_first.specs.Firsts.{are_small}

@@ -1,4 +1,4 @@
-use Rattle.std.proofs.Common.{sym, subst, ap, ◌++◌}
+use Rattle.std.proofs.Common.{sym, subst, ◌++◌}
 use Rattle.pb_part.specs.Loops.{ids_of}
 use Rattle.pb_first.proofs.Steps.{trees_of, branch_sound, others_sound, branch_among, others_among}
 use Rattle.pb_tell.proofs.Firsts.{AreFirst, first_step, first_done, are_found}

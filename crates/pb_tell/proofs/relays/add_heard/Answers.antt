@@ -1,6 +1,4 @@
-use Rattle.std.proofs.Common.{sym, ap, ◌∙◌, ◌≡◌, true, false, subst, ◌||◌, ℕ, ℤ, List}
-use Rattle.std.specs.List.{All}
-use Rattle.pb_area.specs.Areas.{have}
+use Rattle.std.proofs.Common.{sym, ◌∙◌, subst}
 use Rattle.pb_tell.specs.Heard.{AreOthers}
 use Rattle.pb_tell.proofs.Hearing.{adds_heard, adds_none}
 use Rattle.pb_tell.proofs.relays.add_heard.Goals as goal

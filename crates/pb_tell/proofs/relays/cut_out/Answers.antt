@@ -1,4 +1,4 @@
-use Rattle.pb_tell.proofs.Hearing.{cut_out, not_cut}
+use Rattle.pb_tell.proofs.Hearing.{cut_out}
 use Rattle.pb_tell.proofs.relays.cut_out.Goals as goal
 
 pub returns-in_ok-rest : goal.returns-in_ok-rest

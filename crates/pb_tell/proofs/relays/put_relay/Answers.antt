@@ -1,4 +1,4 @@
-use Rattle.std.proofs.Common.{◌≡◌, sym, subst, ap, ◌∙◌}
+use Rattle.std.proofs.Common.{sym, subst, ap, ◌∙◌}
 use Rattle.pb_piece.specs.Ranked.{IsThere}
 use Rattle.pb_tell.specs.Relayed.{IsRelayed}
 use Rattle.pb_tell.proofs.Telling.{Says}

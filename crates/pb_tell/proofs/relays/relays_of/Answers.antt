@@ -1,10 +1,8 @@
-use Rattle.std.proofs.Common.{◌≡◌, true, [], ℕ, List, length, ◌∷◌, refl, sym, subst, ap, ◌∙◌}
-use Rattle.std.specs.List.{All, list_any}
-use Rattle.std.proofs.lemmas.List.Elements.{All-nil}
+use Rattle.std.proofs.Common.{◌≡◌, true, [], List, length, ◌∷◌, refl, sym, subst, ◌∙◌}
+use Rattle.std.specs.List.{list_any}
 use Rattle.std.proofs.lemmas.Bool.{eqb-true}
 use Rattle.pb_first.specs.declared.firsts.Source.{Source}
 use Rattle.pb_local.specs.declared.stmt.Test.{Test}
-use Rattle.pb_local.specs.WellMade.{IsRelay}
 use Rattle.pb_tell.specs.Relayed.{AreRelayed}
 use Rattle.pb_tell.specs.Sources.{is_from, is_listed}
 use Rattle.pb_tell.proofs.Relaying.{no_tests, relays_right, relays_each}

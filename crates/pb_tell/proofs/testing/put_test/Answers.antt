@@ -1,5 +1,4 @@
-use Rattle.std.proofs.Common.{◌≡◌, sym, subst, ap, ◌∙◌, ◌+◌, nat_eq, ℕ, ℤ}
-use Rattle.std.specs.List.{All}
+use Rattle.std.proofs.Common.{sym, subst, ap, ◌∙◌, ◌+◌, nat_eq}
 use Rattle.pb_piece.specs.Ranked.{IsThere}
 use Rattle.pb_tell.specs.Tested.{IsTested, AscendTo}
 use Rattle.pb_tell.proofs.Telling.{Says, test_there, test_gone, ascend_with, ascend_on}

@@ -1,5 +1,5 @@
-use Rattle.std.proofs.Common.{◌≡◌, ◌≤◌, true, sym, subst, refl}
-use Rattle.pb_tell.specs.Tested.{is_under, AscendTo}
+use Rattle.std.proofs.Common.{◌≤◌, sym, subst, refl}
+use Rattle.pb_tell.specs.Tested.{AscendTo}
 use Rattle.pb_tell.proofs.Telling.{tested_next, tested_end, ascend_later}
 use Rattle.pb_tell.proofs.testing.put_tests.Goals as goal
 
