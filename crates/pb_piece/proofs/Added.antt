@@ -1,8 +1,8 @@
 -- Statements that are added to others.
-use Rattle.std.proofs.Common.{◌≡◌, List, [], ◌∷◌, ◌++◌, map, refl, sym, ap, ◌∙◌, subst, append-nil, append_assoc}
+use Rattle.std.proofs.Common.{◌≡◌, List, [], ◌∷◌, ◌++◌, map, refl, sym, ap, ◌∙◌, append-nil, append_assoc}
 use Rattle.std.proofs.lemmas.List.{map-append}
 use Rattle.pb_local.specs.declared.stmt.Stmt.{Stmt}
-use Rattle.pb_local.specs.Tree.{Code, Codes, nothing, more, codes_of, plain, plain_all}
+use Rattle.pb_local.specs.Tree.{Code, Codes, nothing, more, codes_of, plain}
 use Rattle.pb_piece.specs.Adding.{onto, Added}
 
 pub onto_append : (a b : List Code) (tail : Codes) → onto (a ++ b) tail ≡ onto a (onto b tail)

@@ -1,5 +1,5 @@
 -- Messages and computes, and the items of a foreach.
-use Rattle.std.proofs.Common.{◌≡◌, ◌<◌, ◌≤◌, ◌+◌, ℕ, Bool, true, false, ◌&&◌, Option, Some, None, List, [], ◌∷◌, ◌++◌, map, drop, get_or, length, refl, sym, ap, ◌∙◌, subst, arith, drop_of_length-le}
+use Rattle.std.proofs.Common.{◌≡◌, ◌<◌, ◌≤◌, ◌+◌, ℕ, Bool, true, false, ◌&&◌, Option, Some, None, List, [], ◌∷◌, ◌++◌, map, drop, get_or, length, sym, ap, ◌∙◌, subst, arith, drop_of_length-le}
 use Rattle.std.proofs.lemmas.Bool.{and_parts, false≢true}
 use Rattle.std.proofs.lemmas.List.{at_drop_more}
 use Rattle.std.specs.Prelude.{nat_lt}
@@ -20,15 +20,15 @@ use Rattle.pb_local.specs.Tree as L
 use Rattle.pb_local.specs.Tree.{Code, Codes, Program, plain, plain_all}
 use Rattle.pb_local.specs.WellMade.{IsMade, AreMade}
 use Rattle.pb_shape.specs.Tabled.{Goes, GoAll}
-use Rattle.pb_piece.specs.Weights.{AreFlat, IsWeighed, AreWeighed, IsSimple, IsTabledAs, item_room, each_room}
+use Rattle.pb_piece.specs.Weights.{AreFlat, AreWeighed, IsSimple, IsTabledAs, item_room, each_room}
 use Rattle.pb_piece.proofs.Weights.{FewSoFar, few_start, few_step, few_done, weighed_codes, weighed_two, weighed_less, weighed_none, made_onto, flat_append, peer_made, guard_made, one_guard, one_weighed, one_flat, weaker_end, label_below, kernel_below, kind_is, send_simple, recv_simple, run_simple}
 use Rattle.pb_shape.specs.Shape as S
 use Rattle.pb_shape.specs.Shape.{Scope, Here, Item, Items, peer_of, alone}
 use Rattle.pb_piece.specs.Adding.{onto, Added}
 use Rattle.pb_piece.specs.Ranked.{IsThere}
 use Rattle.pb_piece.specs.Comers.{AreComers}
-use Rattle.pb_piece.specs.Standing.{Stands, IsHere, IsEach, is_end_if, varies}
-use Rattle.pb_piece.specs.Ones.{end_guard, only_when, IsOne, IsAt, IsItem, IsItemOf, AreItemsOf}
+use Rattle.pb_piece.specs.Standing.{Stands, IsEach, is_end_if, varies}
+use Rattle.pb_piece.specs.Ones.{end_guard, only_when, IsOne, IsAt, IsItemOf, AreItemsOf}
 use Rattle.pb_piece.proofs.Added.{onto_append, onto_nothing, added_one, added_none, added_as, added_two}
 use Rattle.pb_piece.proofs.Ones.{one_there, one_gone}
 
@@ -39,7 +39,8 @@ module _ (range : NRange) (roles : ℕ) (whole : List Area) (over : Option Over)
       plain s ≡ only_when (end_guard e ∷ []) (alone c) → new ≡ old ++ s ∷ [] → Added old new (IsAt range roles whole over fixed e c)
   put_there e c areas t old new s comers there is made pushed =
       added_one (IsAt range roles whole over fixed e c) old new s (only_when (end_guard e ∷ []) (alone c)) pushed made
-      (record { is = λ sc h stands here fair. one_there range roles whole sc stands over fixed areas h e c here fair comers (subst (IsThere range whole areas) is there);
+      (record {
+        is = λ sc h stands here fair. one_there range roles whole sc stands over fixed areas h e c here fair comers (subst (IsThere range whole areas) is there);
         weighed = λ simple. one_weighed (end_guard e ∷ []) c simple;
         made = λ p l tabled sound made_c. one_flat l (end_guard e ∷ []) c (one_guard l (end_guard e) (guard_made l e (peer_made p l e tabled sound))) made_c;
       })
@@ -47,7 +48,8 @@ module _ (range : NRange) (roles : ℕ) (whole : List Area) (over : Option Over)
   pub put_gone : (e : CoreEnd) (c : Code) (areas : List Area) (t : Bool) (old : List Stmt) → AreComers over fixed e areas → IsThere range whole areas t → t ≡ false → Added old old (IsAt range roles whole over fixed e c)
   put_gone e c areas t old comers there is =
       added_none (IsAt range roles whole over fixed e c) old
-      (record { is = λ sc h stands here fair. one_gone range roles whole sc stands over fixed areas h e c here fair comers (subst (IsThere range whole areas) is there);
+      (record {
+        is = λ sc h stands here fair. one_gone range roles whole sc stands over fixed areas h e c here fair comers (subst (IsThere range whole areas) is there);
         weighed = λ simple. weighed_none 2 1;
         made = λ p l tabled sound made_c. tt;
       })

@@ -1,21 +1,17 @@
 -- A foreach: the loop, and the `If` around it and the segments.
-use Rattle.std.proofs.Common.{◌≡◌, ℕ, suc, ◌+◌, ◌≤◌, max, length, ℤ, pos, ◌≤ℤ◌, int_le, nat_eq, Bool, true, false, ◌&&◌, ◌||◌, not, Some, None, List, [], ◌∷◌, ◌++◌, map, inl, inr, ◌⊎◌, refl, sym, ap, ◌∙◌, subst, arith, Vec}
-use Rattle.std.specs.declared.alloc.Global.{Global}
+use Rattle.std.proofs.Common.{◌≡◌, ℕ, suc, ◌+◌, ◌≤◌, max, length, ℤ, pos, int_le, Bool, true, false, ◌&&◌, ◌||◌, not, List, [], ◌∷◌, ◌++◌, map, refl, sym, ap, ◌∙◌, subst, arith}
 use Rattle.std.proofs.lemmas.Int.{ints}
-use Rattle.std.proofs.lemmas.Bool.{and_parts, or_cases, false≢true}
+use Rattle.std.proofs.lemmas.Bool.{and_parts, false≢true}
 use Rattle.pb_affine.specs.declared.guard.Guard.{Guard}
 use Rattle.pb_affine.specs.declared.range.NRange.{NRange}
 use Rattle.pb_affine.specs.Values.{value, hold}
 use Rattle.pb_area.specs.declared.area.Area.{Area}
 use Rattle.pb_area.specs.Areas.{have}
-use Rattle.pb_core.specs.declared.protocol.CoreRole.{CoreRole}
 use Rattle.pb_core.specs.declared.tree.CoreEnd.{CoreEnd}
 use Rattle.pb_core.specs.Plain.{Protocol}
-use Rattle.pb_core.specs.Sound.{Rows, rows_of, is_bound, is_block}
+use Rattle.pb_core.specs.Sound.{Rows, rows_of, is_block}
 use Rattle.pb_core.specs.Tree as T
 use Rattle.pb_core.specs.Tree.{StmtTree, BlockTree}
-use Rattle.pb_core.specs.Verdict.{IsIn}
-use Rattle.pb_flat.specs.Seated.{is_rank}
 use Rattle.pb_flat.specs.Meets.{is_met, meets, meet}
 use Rattle.pb_part.specs.declared.each.Over.{Over}
 use Rattle.pb_part.specs.declared.held.Held.{Held}
@@ -29,21 +25,19 @@ use Rattle.pb_local.specs.Tree.{Code, Codes, Program, size_all, plain, plain_all
 use Rattle.pb_local.specs.WellMade as W
 use Rattle.pb_local.specs.WellMade.{AreMade, IsGuard, AreGuards, behind, loops_in}
 use Rattle.pb_shape.specs.Sizes.{braces_all, room_each}
-use Rattle.pb_shape.specs.Tabled.{GoAll}
 use Rattle.pb_piece.specs.Weights.{sizes, depths, loop_count, AreFlat, IsWeighed, IsTabledAs, each_room}
 use Rattle.pb_piece.proofs.Weights.{weighed_less, weighed_none, sizes_onto, loops_onto, braces_onto, made_onto, small_is, peer_made, guard_made}
-use Rattle.pb_shape.specs.Shape as S
-use Rattle.pb_shape.specs.Shape.{Scope, Here, everyone, Nobody, Somebody, Names, is_fixed, is_fixed_at, fixed_in, fixed_here, in_for, but_fixed, Rounds, ForEach, Segments}
+use Rattle.pb_shape.specs.Shape.{Scope, Here, everyone, Nobody, Somebody, is_fixed, is_fixed_at, fixed_in, fixed_here, in_for, but_fixed, Rounds, ForEach, Segments}
 use Rattle.pb_piece.specs.Adding.{onto, Added}
 use Rattle.pb_piece.specs.Ranked.{Ranked, IsThere}
 use Rattle.pb_piece.specs.Comers.{AreBounds}
 use Rattle.pb_piece.specs.Standing.{Stands, IsOpen, IsEach}
 use Rattle.pb_piece.specs.Ones.{end_guard, AreItemsOf}
-use Rattle.pb_piece.specs.Fixed.{at_some, are_fair_items, AreFairEnds, AreFixed, AreAreas}
+use Rattle.pb_piece.specs.Fixed.{at_some, AreFairEnds, AreFixed, AreAreas}
 use Rattle.pb_piece.specs.Segments.{bounds_of, IsApart, AreSegments}
 use Rattle.pb_piece.specs.Looping.{AreStill, Runs, IsRounds, IsBoth, IsForEach}
 use Rattle.pb_piece.proofs.Added.{onto_nothing, added_one, added_none, added_as}
-use Rattle.pb_piece.proofs.Ones.{not_true, both_true, from_zero, inside_range, outside_range, rank_is, met_at}
+use Rattle.pb_piece.proofs.Ones.{both_true, from_zero, inside_range, outside_range, rank_is, met_at}
 use Rattle.pb_piece.proofs.StillEnds.{fixed_at, guards_hold, fair_items}
 
 -- ---- the ranks at ends without the variable
@@ -111,8 +105,8 @@ runs_is range whole over fixed none met runners b false empty added common there
     let zero = from_zero range n within in
     let here : have fixed n role x ≡ true = still.is rows n role x (fair_items rows ids b sound) zero ∙ at_end in
     let meets_it : have met n role x ≡ true =
-        (added whole [] ids).is rows roles n role x (both_true _ _ bounds.0 (both_true _ _ bounds.1 sound)) rank is_whole
-        ∙ or_second _ _ (fixed_meets (value over.low n (pos 0)) (value over.high n (pos 0)) n role x some b at_end) in
+    (added whole [] ids).is rows roles n role x (both_true _ _ bounds.0 (both_true _ _ bounds.1 sound)) rank is_whole
+    ∙ or_second _ _ (fixed_meets (value over.low n (pos 0)) (value over.high n (pos 0)) n role x some b at_end) in
     false≢true (sym (there n role x within is_whole) ∙ common n role x ∙ both_true _ _ here meets_it)
 
 -- ---- how large it is, and that it is made
@@ -200,12 +194,12 @@ module _ (range : NRange) (roles : ℕ) (whole : List Area) (over : Over) (fixed
   loop_rounds body list s items made is = record {
     is = λ sc h rows ids stands bounds sound still.
         let here : IsEach over fixed sc (in_for h (bounds_of over) b) = record {
-              bounds = bounds;
-              at = λ n i. refl;
-              comes = λ n i role x within rank comes.
-                  still.is rows n role x (fair_items rows ids b sound) (from_zero range n (inside_range range roles whole sc stands n within))
-                  ∙ (and_parts (fixed_in b n role x) (h.comes n i role x) comes).0;
-            } in
+          bounds = bounds;
+          at = λ n i. refl;
+          comes = λ n i role x within rank comes.
+              still.is rows n role x (fair_items rows ids b sound) (from_zero range n (inside_range range roles whole sc stands n within))
+              ∙ (and_parts (fixed_in b n role x) (h.comes n i role x) comes).0;
+        } in
         subst (λ l. Rounds sc h (bounds_of over) b (plain_all l)) (sym is)
         (subst (λ c. Rounds sc h (bounds_of over) b (L.more c L.nothing)) (sym made) (Rounds.rounds (items.are sc (in_for h (bounds_of over) b) rows ids stands here sound)));
     none = λ sc h rows ids stands bounds sound still empty. absurd (not_empty s (sym is ∙ empty));
@@ -225,10 +219,10 @@ module _ (range : NRange) (roles : ℕ) (whole : List Area) (over : Over) (fixed
   no_rounds list t runs is empty =
       let none : Runs range whole over fixed b false = subst (Runs range whole over fixed b) is runs in
       let nobody : (sc : Scope) (h : Here) (rows : Rows) (ids : List ℕ) → Stands range roles whole sc → AreBounds over → is_block rows true ids b ≡ true → AreStill b fixed → Nobody sc (in_for h (bounds_of over) b) everyone =
-          λ sc h rows ids stands bounds sound still n i role x within rank at comes.
-          let w = inside_range range roles whole sc stands n within in
-          absurd (none rows ids sc.roles n role x bounds sound still w rank (rank_is range roles whole sc stands n role x w ∙ rank)
-          (and_parts (fixed_in b n role x) (h.comes n i role x) comes).0 (le_over (value over.low n (pos 0)) i (value over.high n (pos 0)) at)) in
+      λ sc h rows ids stands bounds sound still n i role x within rank at comes.
+      let w = inside_range range roles whole sc stands n within in
+      absurd (none rows ids sc.roles n role x bounds sound still w rank (rank_is range roles whole sc stands n role x w ∙ rank)
+      (and_parts (fixed_in b n role x) (h.comes n i role x) comes).0 (le_over (value over.low n (pos 0)) i (value over.high n (pos 0)) at)) in
       record {
         is = λ sc h rows ids stands bounds sound still.
             subst (λ l. Rounds sc h (bounds_of over) b (plain_all l)) (sym empty) (Rounds.nowhere (nobody sc h rows ids stands bounds sound still));
@@ -249,7 +243,10 @@ module _ (range : NRange) (roles : ℕ) (whole : List Area) (over : Over) (fixed
 
   some_fixed : (sc : Scope) (h : Here) (rows : Rows) (ids : List ℕ) → Stands range roles whole sc → IsOpen h → is_block rows true ids b ≡ true → AreStill b fixed → Ranked range whole fixed → Somebody sc h (fixed_here b)
   some_fixed sc h rows ids stands open_here sound still r = record {
-    n = r.n; i = pos 0; role = r.role; index = r.index;
+    n = r.n;
+    i = pos 0;
+    role = r.role;
+    index = r.index;
     within = outside_range range roles whole sc stands r.n r.within;
     rank = sym (rank_is range roles whole sc stands r.n r.role r.index r.within) ∙ r.rank;
     at = open_here.at r.n (pos 0);

@@ -1,5 +1,5 @@
 -- An `If` of the rank at an end.
-use Rattle.std.proofs.Common.{◌≡◌, ℕ, ℤ, pos, ◌+ℤ◌, ◌-ℤ◌, ◌≤ℤ◌, int_le, nat_eq, Bool, true, false, ◌&&◌, ◌||◌, if◌then◌else◌, Option, Some, None, List, [], ◌∷◌, ◌++◌, map, refl, sym, ap, subst, ◌∙◌, arith}
+use Rattle.std.proofs.Common.{◌≡◌, ℕ, ℤ, pos, ◌+ℤ◌, ◌-ℤ◌, ◌≤ℤ◌, int_le, nat_eq, Bool, true, false, ◌&&◌, ◌||◌, Option, Some, None, List, [], ◌∷◌, refl, sym, ap, subst, ◌∙◌, arith}
 use Rattle.std.specs.Ordering.{int_eq}
 use Rattle.std.proofs.lemmas.Int.{ints}
 use Rattle.std.proofs.lemmas.Bool.{and_parts, false≢true}
@@ -18,10 +18,8 @@ use Rattle.pb_flat.specs.Seated.{is_rank, is_at}
 use Rattle.pb_flat.specs.Meets.{is_met}
 use Rattle.pb_flat.proofs.Sources.{over_n_is}
 use Rattle.pb_part.specs.declared.each.Over.{Over}
-use Rattle.pb_local.specs.declared.stmt.Stmt.{Stmt}
-use Rattle.pb_local.specs.Tree.{Code, plain}
-use Rattle.pb_shape.specs.Shape.{Scope, Here, Names, Somebody, Nobody, One, is_end, alone}
-use Rattle.pb_piece.specs.Adding.{onto, Added}
+use Rattle.pb_local.specs.Tree.{Code}
+use Rattle.pb_shape.specs.Shape.{Scope, Here, Somebody, Nobody, One, is_end, alone}
 use Rattle.pb_piece.specs.Ranked.{Ranked, IsThere}
 use Rattle.pb_piece.specs.Comers.{AreComers}
 use Rattle.pb_piece.specs.Standing.{Stands, IsHere, is_end_if}
@@ -96,7 +94,10 @@ module _ (range : NRange) (roles : ℕ) (whole : List Area) (sc : Scope) (stands
   somewhere None fixed areas h e here fair comers r =
       let k = and_parts (is_over_n e.at.base) (is_small e.at.off) fair in
       record {
-        n = r.n; i = pos 0; role = r.role; index = r.index;
+        n = r.n;
+        i = pos 0;
+        role = r.role;
+        index = r.index;
         within = outside_range r.n r.within;
         rank = sym (rank_is r.n r.role r.index r.within) ∙ r.rank;
         at = here.at r.n (pos 0);
@@ -107,7 +108,10 @@ module _ (range : NRange) (roles : ℕ) (whole : List Area) (sc : Scope) (stands
       let met = (and_parts (have fixed r.n r.role r.index) (is_met e (value over.low r.n (pos 0)) (value over.high r.n (pos 0)) r.n r.role r.index) there).1 in
       let by : IsMetBy e (value over.low r.n (pos 0)) (value over.high r.n (pos 0)) r.n r.role r.index = met_by e.role e.at.base e.at.off e.place (value over.low r.n (pos 0)) (value over.high r.n (pos 0)) r.n r.role r.index met in
       record {
-        n = r.n; i = by.i; role = r.role; index = r.index;
+        n = r.n;
+        i = by.i;
+        role = r.role;
+        index = r.index;
         within = outside_range r.n r.within;
         rank = sym (rank_is r.n r.role r.index r.within) ∙ r.rank;
         at = here.at r.n by.i ∙ by.within;
@@ -138,4 +142,3 @@ module _ (range : NRange) (roles : ℕ) (whole : List Area) (sc : Scope) (stands
   pub one_gone : (over : Option Over) (fixed areas : List Area) (h : Here) (e : CoreEnd) (c : Code) → IsHere over fixed sc h → is_end_if over e ≡ true → AreComers over fixed e areas → IsThere range whole areas false →
       IsOne sc h (is_end e) (alone c) []
   one_gone over fixed areas h e c here fair comers none = record { one = λ tail. One.gone (nowhere over fixed areas h e here fair comers none) }
-

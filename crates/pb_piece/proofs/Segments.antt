@@ -1,32 +1,29 @@
 -- The segments of a foreach.
-use Rattle.std.proofs.Common.{◌≡◌, ◌<◌, ◌≤◌, ◌+◌, ◌*◌, max, ℕ, suc, ℤ, pos, ◌+ℤ◌, ◌-ℤ◌, ◌≤ℤ◌, int_le, int_lt, nat_eq, nat_lt, Bool, true, false, ◌&&◌, ◌||◌, not, if◌then◌else◌, Some, None, List, [], ◌∷◌, ◌++◌, map, drop, get_or, length, refl, sym, ap, ◌∙◌, subst, append-nil, drop_of_length-le, arith}
+use Rattle.std.proofs.Common.{◌≡◌, ◌<◌, ◌≤◌, ◌+◌, ◌*◌, max, ℕ, suc, ℤ, pos, ◌+ℤ◌, ◌-ℤ◌, int_le, int_lt, nat_eq, nat_lt, Bool, true, false, ◌&&◌, not, if◌then◌else◌, Some, None, List, [], ◌∷◌, ◌++◌, map, drop, get_or, length, refl, sym, ap, ◌∙◌, subst, drop_of_length-le, arith}
 use Rattle.std.specs.Ordering.{int_eq}
 use Rattle.std.proofs.lemmas.Int.{ints}
-use Rattle.std.proofs.lemmas.List.{at_drop_more, map-append}
+use Rattle.std.proofs.lemmas.List.{at_drop_more}
 use Rattle.std.proofs.lemmas.Bool.{and_parts, false≢true}
 use Rattle.std.proofs.lemmas.Bool.Decides.{nat_tests}
-use Rattle.pb_affine.specs.declared.lin.Base.{Base}
-use Rattle.pb_affine.specs.declared.lin.Base.TheVariants.{Fixed, Param, Var}
+use Rattle.pb_affine.specs.declared.lin.Base.TheVariants.{Var}
 use Rattle.pb_affine.specs.declared.lin.Lin.{Lin}
 use Rattle.pb_affine.specs.declared.guard.Guard.{Guard}
 use Rattle.pb_affine.specs.declared.range.NRange.{NRange}
 use Rattle.pb_affine.specs.Values.{value, shifted, hold, holds, IsSmall}
 use Rattle.pb_area.specs.declared.area.Area.{Area}
-use Rattle.pb_area.specs.Areas.{has, have}
+use Rattle.pb_area.specs.Areas.{have}
 use Rattle.pb_core.specs.declared.protocol.CoreRole.{CoreRole}
 use Rattle.pb_core.specs.declared.tree.CoreEnd.{CoreEnd}
 use Rattle.pb_core.specs.declared.tree.CoreBlock.{CoreBlock, out-CoreBlock}
 use Rattle.pb_core.specs.declared.tree.CoreStmt.{CoreStmt}
 use Rattle.pb_core.specs.Plain.{plain_block, plain_stmt, block_of}
 use Rattle.pb_core.specs.Plain.{Protocol}
-use Rattle.pb_core.specs.Sound.{Rows, rows_of, is_end, is_small, is_bound, is_over_n, is_item, is_stmt, is_block}
+use Rattle.pb_core.specs.Sound.{Rows, rows_of, is_end, is_small, is_bound, is_item, is_stmt, is_block}
 use Rattle.pb_core.specs.Tree as T
 use Rattle.pb_core.specs.Tree.{StmtTree, BlockTree}
-use Rattle.pb_core.specs.Verdict.{IsIn}
 use Rattle.pb_flat.specs.Meets.{is_var, is_passed, is_met}
 use Rattle.pb_flat.proofs.Sources.{over_n_is}
 use Rattle.pb_part.specs.declared.each.Over.{Over}
-use Rattle.pb_part.specs.Ends.{IsMetArea}
 use Rattle.pb_part.specs.Sums.{IsSum}
 use Rattle.pb_part.proofs.Among.{bound_parts, near}
 use Rattle.pb_part.proofs.EndAreas.{sum_is}
@@ -47,12 +44,12 @@ use Rattle.pb_piece.specs.Ranked.{Ranked, IsThere}
 use Rattle.pb_piece.specs.Comers.{AreBounds}
 use Rattle.pb_piece.specs.Standing.{Stands}
 use Rattle.pb_piece.specs.Offsets.{off_of}
-use Rattle.pb_piece.specs.Ones.{IsOne, only_when}
+use Rattle.pb_piece.specs.Ones.{only_when}
 use Rattle.pb_piece.specs.Segments.{bounds_of, IsCodes, IsApart, AreOthers, codes_in, IsCodesOf, IsSegmentOf, IsSegment, IsRoleSegments, AreSegments}
 use Rattle.pb_piece.proofs.Added.{onto_append, onto_nothing, added_one, added_none, added_as, added_two}
 use Rattle.pb_piece.proofs.Items.{drop_is}
 use Rattle.pb_piece.proofs.Ones.{not_true, both_true, from_zero, inside_range, outside_range, rank_is}
-use Rattle.pb_piece.proofs.StillEnds.{or_false, fair_items}
+use Rattle.pb_piece.proofs.StillEnds.{or_false}
 use Rattle.pb_piece.proofs.Counting.{spots, sum_at_most, low_in, low_next, low_most, codes_size, codes_braces, codes_loops}
 
 -- ---- what an item is to a segment
@@ -229,10 +226,15 @@ module _ (p : Protocol) (l : Program) (tabled : IsTabledAs p l) (k : ℕ) (c : �
   segment_flat : (over : Over) (b : BlockTree) (code : Code) (ids : List ℕ) → IsSegmentOf over b k c code → k < length l.roles → AreBounds over → is_small c ≡ true → is_block (rows_of p) true ids b ≡ true → GoAll p b →
       AreFlat l (code ∷ [])
   segment_flat over b code ids s within bounds small sound goes =
-      subst (λ z. AreFlat l (z ∷ [])) (sym s.is)
-      (λ at. (s.made l within bounds small,
-      subst (AreMade l at) (sym (s.of.is ∙ ap (λ z. L.more z (segment_codes k c b)) (s.of.exact small)))
-      (back_ints c small, codes_made b ids sound goes (behind at 0)), tt), tt)
+      subst (λ z. AreFlat l (z ∷ [])) (sym s.is) (
+        λ at. (
+          s.made l within bounds small,
+          subst (AreMade l at) (sym (s.of.is ∙ ap (λ z. L.more z (segment_codes k c b)) (s.of.exact small)))
+              (back_ints c small, codes_made b ids sound goes (behind at 0)),
+          tt,
+        ),
+        tt,
+      )
 
 -- ---- the `If`
 
@@ -248,7 +250,10 @@ module _ (range : NRange) (roles : ℕ) (whole : List Area) (over : Over) (less 
             record {
               one = λ tail. subst (λ z. One sc h (in_segment (bounds_of over) k c) (codes_in k c b) tail (L.more z tail)) (sym (made.is ∙ ap (only_when made.guards) (made.of.is ∙ ap (λ z. L.more z (segment_codes k c b)) (made.of.exact small))))
                   (One.there (λ n i role x within rank at. made.hold_of n i role x bounds small) (record {
-                    n = r.n; i = pos 0; role = r.role; index = r.index;
+                    n = r.n;
+                    i = pos 0;
+                    role = r.role;
+                    index = r.index;
                     within = outside_range range roles whole sc stands r.n r.within;
                     rank = sym (rank_is range roles whole sc stands r.n r.role r.index r.within) ∙ r.rank;
                     at = apart.at r.n (pos 0);
@@ -378,9 +383,11 @@ module _ (range : NRange) (roles : ℕ) (whole : List Area) (over : Over) (less 
         is = λ sc h stands apart bounds small.
             let z = x.is sc h stands apart bounds small in
             let parts = and_parts (is_small (get_or offs i d).off) (are_small (map off_of (drop (i + 1) offs))) (ap (λ l. are_small (map off_of l)) (sym next) ∙ z.0) in
-            let segment = y.is sc h stands apart bounds parts.0 in
-            (parts.1, λ tail codes w. subst (OfRole sc h (bounds_of over) b k tail (map off_of offs)) (sym (onto_append p q codes))
-            (z.1 tail (onto q codes) (subst (λ l. OfRole sc h (bounds_of over) b k tail (map off_of l) (onto q codes)) (sym next) (OfRole.segment (segment.one codes) w))));
+            let segment = y.is sc h stands apart bounds parts.0 in (
+              parts.1,
+              λ tail codes w. subst (OfRole sc h (bounds_of over) b k tail (map off_of offs)) (sym (onto_append p q codes))
+                  (z.1 tail (onto q codes) (subst (λ l. OfRole sc h (bounds_of over) b k tail (map off_of l) (onto q codes)) (sym next) (OfRole.segment (segment.one codes) w))),
+            );
         used = x.used + (2 + count_in k (get_or offs i d).off b);
         weighed = weighed_two x.used (2 + count_in k (get_or offs i d).off b) 1 p q x.weighed y.weighed;
         left = left_after x.used (2 + count_in k (get_or offs i d).off b) (segment_sum k b (map off_of (drop (i + 1) offs))) (segment_sum k b (map off_of (drop i offs))) (segment_sum k b (map off_of offs))

@@ -6,8 +6,6 @@ use Rattle.std.proofs.lemmas.Bool.{and_parts, false≢true}
 use Rattle.pb_text.specs.declared.place.Place.{Place}
 use Rattle.pb_affine.specs.declared.lin.Base.{Base}
 use Rattle.pb_affine.specs.declared.lin.Base.TheVariants.{Fixed, Param, Var}
-use Rattle.pb_affine.specs.declared.lin.Lin.{Lin}
-use Rattle.pb_affine.specs.declared.guard.Guard.{Guard}
 use Rattle.pb_affine.specs.Values.{value, hold, holds}
 use Rattle.pb_area.specs.declared.area.Area.{Area}
 use Rattle.pb_area.specs.Areas.{has, have}

@@ -1,12 +1,12 @@
 -- Statements that are no loop, no continue and no choice.
-use Rattle.std.proofs.Common.{◌≡◌, ℕ, ◌+◌, ◌*◌, ◌≤◌, max, length, get_or, nat_lt, arith, Bool, true, false, ◌&&◌, None, List, [], ◌∷◌, ◌++◌, refl, sym, ap, ◌∙◌, subst}
+use Rattle.std.proofs.Common.{◌≡◌, ℕ, ◌+◌, ◌*◌, ◌≤◌, max, length, get_or, nat_lt, arith, true, false, ◌&&◌, None, List, [], ◌∷◌, ◌++◌, refl, sym, ap, ◌∙◌, subst}
 use Rattle.std.proofs.lemmas.Bool.{and_parts, false≢true}
 use Rattle.pb_affine.specs.declared.range.NRange.{NRange}
 use Rattle.pb_area.specs.declared.area.Area.{Area}
 use Rattle.pb_syntax.specs.declared.core_label.CoreLabel.{CoreLabel}
 use Rattle.pb_syntax.specs.declared.tree.Payload.TheVariants.{Unit as NoWords}
 use Rattle.pb_core.specs.Plain.{Protocol}
-use Rattle.pb_core.specs.Sound.{Rows, rows_of, is_end, is_bound, is_item, is_stmt, is_block}
+use Rattle.pb_core.specs.Sound.{rows_of, is_end, is_bound, is_item, is_stmt, is_block}
 use Rattle.pb_core.specs.Tree as T
 use Rattle.pb_core.specs.Tree.{Mark, StmtTree, BlockTree}
 use Rattle.pb_part.specs.declared.each.Over.{Over}
@@ -21,7 +21,6 @@ use Rattle.pb_piece.specs.Weights.{sizes, depths, loop_count, AreFlat, IsWeighed
 use Rattle.pb_piece.proofs.Weights.{weighed_less, weighed_none, sizes_onto, loops_onto, braces_onto, made_onto, peer_made, weaker_end, label_below}
 use Rattle.pb_shape.specs.Shape.{Scope, Here, Piece}
 use Rattle.pb_piece.specs.Adding.{onto, Added}
-use Rattle.pb_piece.specs.Standing.{Stands, IsOpen}
 use Rattle.pb_piece.specs.Ones.{IsItemOf}
 use Rattle.pb_piece.specs.Segments.{bounds_of}
 use Rattle.pb_piece.specs.Looping.{IsForEach}

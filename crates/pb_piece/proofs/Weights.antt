@@ -1,12 +1,11 @@
 -- How large pieces are, and whether they are made.
-use Rattle.std.proofs.Common.{◌≡◌, ◌<◌, ◌≤◌, ◌+◌, ℕ, suc, ℤ, pos, negsuc, ◌≤ℤ◌, nat_lt, Bool, true, false, ◌&&◌, Some, None, List, [], ◌∷◌, ◌++◌, map, length, get_or, max, refl, sym, ap, ◌∙◌, subst, arith}
-use Rattle.std.specs.List.{All}
+use Rattle.std.proofs.Common.{◌≡◌, ◌<◌, ◌≤◌, ◌+◌, ℕ, suc, ℤ, pos, negsuc, ◌≤ℤ◌, nat_lt, Bool, true, false, ◌&&◌, List, [], ◌∷◌, ◌++◌, length, get_or, max, refl, sym, ap, ◌∙◌, subst, arith}
 use Rattle.std.proofs.lemmas.Int.{ints}
 use Rattle.std.proofs.lemmas.List.Elements.{All-cons, All-nil}
-use Rattle.std.proofs.lemmas.Bool.{and_parts, false≢true}
+use Rattle.std.proofs.lemmas.Bool.{and_parts}
 use Rattle.std.proofs.lemmas.Bool.Decides.{nat_tests}
 use Rattle.pb_affine.specs.declared.guard.Guard.{Guard}
-use Rattle.pb_affine.specs.Values.{IsSmall, IsSmallGuard}
+use Rattle.pb_affine.specs.Values.{IsSmall}
 use Rattle.pb_core.specs.declared.tree.CoreEnd.{CoreEnd}
 use Rattle.pb_core.specs.Plain.{Protocol}
 use Rattle.pb_core.specs.Tree as T
@@ -26,7 +25,6 @@ use Rattle.pb_shape.specs.Sizes.{braces, braces_all}
 use Rattle.pb_shape.specs.Shape.{peer_of, alone}
 use Rattle.pb_piece.specs.Adding.{onto}
 use Rattle.pb_piece.specs.Weights.{sizes, depths, loop_count, AreFlat, IsWeighed, AreWeighed, IsSimple, IsTabledAs, each_room}
-use Rattle.pb_piece.specs.Fixed.{AreFairEnds}
 use Rattle.pb_piece.specs.Ones.{end_guard, only_when}
 
 -- ---- numbers

@@ -1,5 +1,5 @@
 -- The statements of an `If` that stands alone, or isn't there.
-use Rattle.std.specs.Prelude.{◌≡◌, ℕ, true, Option, Some, None, List, [], ◌∷◌}
+use Rattle.std.specs.Prelude.{◌≡◌, ℕ, true, Option, Some, None, List}
 use Rattle.pb_affine.specs.declared.guard.Guard.{Guard}
 use Rattle.pb_core.specs.declared.tree.CoreEnd.{CoreEnd}
 use Rattle.pb_affine.specs.declared.range.NRange.{NRange}

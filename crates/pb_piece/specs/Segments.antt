@@ -1,5 +1,5 @@
 -- The segments of a foreach, as they are added.
-use Rattle.std.specs.Prelude.{◌≡◌, ℕ, ◌+◌, ◌<◌, length, ℤ, pos, ◌≤ℤ◌, ◌-ℤ◌, Bool, true, false, ◌&&◌, not, List, []}
+use Rattle.std.specs.Prelude.{◌≡◌, ℕ, ◌+◌, ◌<◌, length, ℤ, pos, ◌≤ℤ◌, ◌-ℤ◌, true, false, ◌&&◌, not, List}
 use Rattle.pb_affine.specs.declared.range.NRange.{NRange}
 use Rattle.pb_affine.specs.declared.guard.Guard.{Guard}
 use Rattle.pb_affine.specs.Values.{hold}

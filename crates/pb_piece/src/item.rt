@@ -106,9 +106,7 @@ pub fn put_item(
         CoreKind::Message { label, from, to } => {
             put_message(alloc, setting, over, fixed, *label, *from, *to, out)
         }
-        CoreKind::Run { kernel, at } => {
-            put_run(alloc, setting, over, fixed, *kernel, *at, out)
-        }
+        CoreKind::Run { kernel, at } => { put_run(alloc, setting, over, fixed, *kernel, *at, out) }
         CoreKind::Foreach { .. }
         | CoreKind::Loop { .. }
         | CoreKind::Again { .. }

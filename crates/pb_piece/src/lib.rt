@@ -14,6 +14,8 @@ mod reach;
 mod segment;
 mod setting;
 mod somebody;
+#[cfg(test)]
+mod tests;
 
 pub use ends::{guard_at, peer_of};
 pub use pb_text::NoMemory;

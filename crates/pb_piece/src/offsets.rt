@@ -51,12 +51,7 @@ fn own_off(end: CoreEnd) -> Off
 }
 
 /// The list with the offset of an end, if it is of this role and moves.
-fn with_end(
-    alloc: Global,
-    list: Vec<Off>,
-    role: u32,
-    end: CoreEnd,
-) -> Result<Vec<Off>, NoMemory>
+fn with_end(alloc: Global, list: Vec<Off>, role: u32, end: CoreEnd) -> Result<Vec<Off>, NoMemory>
     ensures { IfOk result (λ v. map off_of v.items ≡ put_end role end (map off_of list.items)) }
 {
     if role == end.role && is_moving(end) {

@@ -43,11 +43,7 @@ fn put_alone(
     Ok(())
 }
 
-fn put_joint(
-    stmt: &CoreStmt,
-    setting: &Setting,
-    out: &mut Vec<Stmt>,
-) -> Result<(), NoMemory>
+fn put_joint(stmt: &CoreStmt, setting: &Setting, out: &mut Vec<Stmt>) -> Result<(), NoMemory>
     ensures { OnOk result (is_collective (plain_stmt stmt.now).stmt ≡ true → Added out.old.items out.new.items (IsPieceOf setting.now.range setting.now.roles setting.now.whole.now (plain_stmt stmt.now).stmt)) }
 {
     let _range = setting.range;

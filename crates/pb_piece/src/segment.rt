@@ -78,12 +78,7 @@ fn put_message(
     Ok(())
 }
 
-fn put_run(
-    out: &mut Vec<Stmt>,
-    segment: Segment,
-    kernel: u32,
-    at: CoreEnd,
-) -> Result<(), NoMemory>
+fn put_run(out: &mut Vec<Stmt>, segment: Segment, kernel: u32, at: CoreEnd) -> Result<(), NoMemory>
     ensures { OnOk result (Added out.old.items out.new.items (IsCodes (segment_code segment.role segment.off (T.run kernel at)))) }
 {
     let run = Stmt::Run { kernel };
@@ -172,12 +167,7 @@ fn end_of(segment: Segment) -> CoreEnd
 }
 
 /// The areas of the ranks of a segment that aren't among others.
-fn others(
-    alloc: Global,
-    segment: Segment,
-    over: Over,
-    less: &[Area],
-) -> Result<Vec<Area>, NoMemory>
+fn others(alloc: Global, segment: Segment, over: Over, less: &[Area]) -> Result<Vec<Area>, NoMemory>
     ensures { IfOk result (λ v. AreOthers over segment.role segment.off less.now v.items) }
 {
     let all = one(alloc, met_area(end_of(segment), over))?;

@@ -1,4 +1,4 @@
-use Rattle.std.proofs.Common.{sym, subst}
+use Rattle.std.proofs.Common.{subst}
 use Rattle.pb_piece.specs.Fixed.{Knows}
 use Rattle.pb_piece.proofs.StillEnds.{end_pushed, end_known}
 use Rattle.pb_piece.proofs.fixed.add_end.Goals as goal

@@ -1,7 +1,6 @@
-use Rattle.std.proofs.Common.{sym, ap, ◌∙◌, ◌&&◌, subst}
+use Rattle.std.proofs.Common.{ap, ◌∙◌, ◌&&◌}
 use Rattle.pb_area.specs.Areas.{have}
 use Rattle.pb_core.specs.Plain.{plain_block}
-use Rattle.pb_piece.specs.Ranked.{IsThere}
 use Rattle.pb_piece.proofs.Loops.{runs_is}
 use Rattle.pb_piece.proofs.foreach.is_run.Goals as goal
 

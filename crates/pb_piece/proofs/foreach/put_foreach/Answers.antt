@@ -1,4 +1,4 @@
-use Rattle.std.proofs.Common.{refl, sym, ◌∙◌, subst}
+use Rattle.std.proofs.Common.{refl, subst}
 use Rattle.pb_core.specs.Plain.{plain_block}
 use Rattle.pb_piece.specs.Adding.{Added}
 use Rattle.pb_piece.specs.Ranked.{IsThere}

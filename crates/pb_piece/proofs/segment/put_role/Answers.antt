@@ -1,4 +1,4 @@
-use Rattle.std.proofs.Common.{sym, ap, ◌∙◌, map}
+use Rattle.std.proofs.Common.{ap, ◌∙◌, map}
 use Rattle.pb_core.specs.Plain.{plain_block}
 use Rattle.pb_piece.specs.Offsets.{off_of}
 use Rattle.pb_piece.proofs.Segments.{offs_start, offs_step, offs_done}
