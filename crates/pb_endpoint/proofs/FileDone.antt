@@ -16,7 +16,7 @@ none_first : (k : ℕ) (ps : List Place) (later : Option (ℕ × Place)) → fir
 none_first k [] later h = (refl, h)
 none_first k (p ∷ ps) later h = cc
 
-no_breach : (p : Protocol) (n : ℤ) → IsIn p.range n → KeepsAll p → (bs : List Breach) → breaches p n ≡ bs → breaches p n ≡ []
+pub no_breach : (p : Protocol) (n : ℤ) → IsIn p.range n → KeepsAll p → (bs : List Breach) → breaches p n ≡ bs → breaches p n ≡ []
 no_breach p n within keeps [] e = e
 no_breach p n within keeps (b ∷ bs) e = absurd (keeps (record { n = n; breach = b }) (record { within = within; there = subst (λ l. Contains l b) (sym e) (zero, omega arith, refl) }))
 

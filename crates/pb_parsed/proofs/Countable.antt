@@ -135,7 +135,7 @@ mutual
 
 -- ---- files
 
-weighed : (f : PlainFile) → length f.roles ≤ 64 → file_weight f ≤ 1048576 → IsCountable f
+weighed : (f : PlainFile) → length f.roles ≤ 64 → file_weight f ≤ 67108864 → IsCountable f
 weighed f few light = record {
   statements = omega (arith, light, stmts_few f.body.list);
   blocks = omega (arith, light, blocks_few f.body.list);

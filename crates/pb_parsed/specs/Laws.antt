@@ -15,7 +15,7 @@ IsTreeOf bytes file = OfTokens bytes (λ tokens. IsFile tokens file × AreWithin
 
 -- what is counted in a file of at most 1,048,576 bytes has a number of 32 bits
 abbrev pub ParsedIsCountable : Type 0
-ParsedIsCountable = (bytes : List ℕ) (file : PlainFile) → length bytes ≤ 1048576 → IsTreeOf bytes file → IsCountable file
+ParsedIsCountable = (bytes : List ℕ) (file : PlainFile) → length bytes ≤ 67108864 → IsTreeOf bytes file → IsCountable file
 
 -- a file that keeps the rules 1 to 5 means a core with small numbers, known rows, and variables and continues in their scopes
 abbrev pub ParsedIsSound : Type 0

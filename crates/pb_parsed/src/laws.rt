@@ -1,6 +1,6 @@
 ghost use Rattle.pb_parsed.specs.Laws.{ParsedIsCountable, ParsedIsSound};
 
-/// What is counted in a file of at most 1,048,576 bytes has a number of 32 bits: each statement, block, role and name has a
+/// What is counted in a file of at most 67,108,864 bytes has a number of 32 bits: each statement, block, role and name has a
 /// token of its own, or three at most have one.
 pub fn parsed_is_countable()
     ensures { ParsedIsCountable }
