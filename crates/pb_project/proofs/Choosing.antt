@@ -55,16 +55,12 @@ record IsEndOf (l : Program) (e : CoreEnd) : Type 0 where
   role : e.role < length l.roles
   fixed : e.at.base ≡ Var → ⊥
   small : IsSmall e.at.off
-  over_n : is_over_n e.at.base ≡ true
   low : is_small e.at.off ≡ true
 
 no_var : (b : Base) → false || is_over_n b ≡ true → b ≡ Var → ⊥
 no_var Fixed h e = cc
 no_var Param h e = cc
 no_var Var h e = false≢true h
-
-plain_over : (b : Bool) → false || b ≡ true → b ≡ true
-plain_over b h = h
 
 small_of : (x : ℤ) → is_small x ≡ true → IsSmall x
 small_of x h = record { low = grind (arith, ints, h); high = grind (arith, ints, h) }
@@ -73,7 +69,7 @@ end_of : (p : Protocol) (l : Program) (e : CoreEnd) → length l.roles ≡ lengt
 end_of p l e same h =
     let first = and_parts (nat_lt e.role (length p.roles)) _ h in
     let second = and_parts (false || is_over_n e.at.base) (is_small e.at.off) first.1 in
-    record { role = subst (λ n. e.role < n) (sym same) (ltb-true e.role (length p.roles) first.0); fixed = no_var e.at.base second.0; small = small_of e.at.off second.1; over_n = plain_over _ second.0; low = second.1 }
+    record { role = subst (λ n. e.role < n) (sym same) (ltb-true e.role (length p.roles) first.0); fixed = no_var e.at.base second.0; small = small_of e.at.off second.1; low = second.1 }
 
 -- ---- what stands before the choice
 
@@ -144,7 +140,7 @@ module _ (k : Known) (before after : ℕ) (m : Mark) (kernel : ℕ) (at : CoreEn
 
     pub relays_are : (h : Here) → IsOpen h → Relays (scope_of p) a at bs made.relays
     relays_are h free =
-        made.relays_are.is (scope_of p) h a bs place.stands free place.range_is end_is.over_n end_is.low found_is (one_source p cuts a m kernel at bs fair) (tests_are h free)
+        made.relays_are.is (scope_of p) h a bs place.stands free place.range_is end_is.low found_is (one_source p cuts a m kernel at bs fair) (tests_are h free)
 
     told_if : (ts : List Test) → (ts ≡ [] → made.relays ≡ []) → IsToldIf (end_guard at) made.relays (peer_of at) ts
     told_if [] f = (f refl, refl, refl)
@@ -161,7 +157,7 @@ module _ (k : Known) (before after : ℕ) (m : Mark) (kernel : ℕ) (at : CoreEn
           chooser = record { one = (refl, e.fixed); from = refl; to = refl };
           known = subst (λ ks. kernel < length ks) (sym place.tabled.kernels) (ltb-true kernel (length p.kernels) c.kernel);
           chooses = ap (λ ks. kind_in ks kernel) place.tabled.kernels ∙ fair.goes.0;
-          each_relay = made.relays_are.each l (scope_of p) a bs place.stands place.range_is e.over_n e.low found_is (one_source p cuts a m kernel at bs fair) same;
+          each_relay = made.relays_are.each l (scope_of p) a bs place.stands place.range_is e.low found_is (one_source p cuts a m kernel at bs fair) same;
           source = record { role = e.role; off = e.small };
           each_test = subst (λ n. All (IsTest l n) made.tests) (found_is.count_is ∙ many)
               (made.tests_are.each l (scope_of p) a bs (rows_of p) place.stands place.range_is few found_is c.branches.sound (ap length (sym place.tabled.labels)) same);

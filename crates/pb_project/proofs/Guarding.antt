@@ -30,7 +30,7 @@ use Rattle.pb_project.specs.Takers.{AreTakers}
 -- guards that hold of the ranks in these areas
 pub record AreGuardsOf (range : NRange) (roles : ℕ) (areas : List Area) (gs : List Guard) : Type 0 where
   pub is : (list : List CoreRole) (n i : ℤ) (role : ℕ) (x : ℤ) → length list ≡ roles → IsRange range → AreSayable range areas → IsIn range n → is_rank list n role x ≡ true → hold gs n i role x ≡ have areas n role x
-  pub each : (l : Program) → length l.roles ≡ roles → IsRange range → AreSayable range areas → All (IsGuard l) gs
+  pub each : (l : Program) → length l.roles ≡ roles → All (IsGuard l) gs
 
 -- guards that hold of somebody are some
 held_some : (gs : List Guard) (n i : ℤ) (role : ℕ) (x : ℤ) → hold gs n i role x ≡ true → 1 ≤ length gs
@@ -94,7 +94,7 @@ module _ (k : Known) (p : Protocol) (l : Program) (cuts : List Lin) (a : Around)
     guards_made gs of t =
         let within = of_range t.n t.within in
         let r : is_rank p.roles t.n t.role t.index ≡ true = sym (whole_has t.n t.role t.index within) ∙ t.rank in
-        record { some = held_some gs t.n (pos 0) t.role t.index (guards_hold gs of t.n (pos 0) t.role t.index within r ∙ t.there); each = of.each l (sym roles_are) place.range_is sayable }
+        record { some = held_some gs t.n (pos 0) t.role t.index (guards_hold gs of t.n (pos 0) t.role t.index within r ∙ t.there); each = of.each l (sym roles_are) }
 
     -- inside the statement, of which nobody takes part
     absent : (t c : Bool) → t ≡ false → t && c ≡ true → true ≡ false

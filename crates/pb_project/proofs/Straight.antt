@@ -51,7 +51,7 @@ pub straight_is : (k : Known) (before : ℕ) (m : Mark) (s : StmtTree) (piece : 
 straight_is k before m s piece straight h = record {
   shape = λ p l cuts a here place fair free rest tail others. S.piece (h.is (scope_of p) here (rows_of p) a.opens place.stands free fair.fair.sound straight tail) others;
   made = λ p l cuts a place fair tail others. h.made p l (behind before k.numbers) a.opens place.tabled (roles_are k p l cuts a place) fair.fair.sound straight fair.goes tail others;
-  loops = λ tail. same_loops _ _ _ (h.loops straight tail);
-  size = h.size straight;
-  braces = h.braces straight;
+  loops = λ tail. same_loops _ _ _ (h.loops tail);
+  size = h.size;
+  braces = h.braces;
 }

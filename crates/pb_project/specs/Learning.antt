@@ -8,7 +8,7 @@ use Rattle.pb_area.specs.Fits.{Fits}
 use Rattle.pb_cases.specs.Breakpoints.{IsCut}
 use Rattle.pb_core.specs.declared.tree.CoreEnd.{CoreEnd}
 use Rattle.pb_core.specs.Cuts.{branches_cuts}
-use Rattle.pb_core.specs.Sound.{Rows, are_branches, is_over_n, is_small}
+use Rattle.pb_core.specs.Sound.{Rows, are_branches, is_small}
 use Rattle.pb_core.specs.Tree.{BranchTrees}
 use Rattle.pb_first.specs.Takers.{IsWhole}
 use Rattle.pb_local.specs.declared.stmt.Relay.{Relay}
@@ -35,8 +35,8 @@ pub record AreTests (range : NRange) (roles : ℕ) (whole : List Area) (found : 
   pub ascend : length found ≤ 64 → Ascend tests
 
 pub record AreRelays (range : NRange) (roles : ℕ) (whole : List Area) (at : CoreEnd) (found : List Branch) (tests : List Test) (relays : List Relay) : Type 0 where
-  pub is : (sc : Scope) (h : Here) (a : Around) (bs : BranchTrees) → Stands range roles whole sc → IsOpen h → IsRange range → is_over_n at.at.base ≡ true → is_small at.at.off ≡ true → IsFoundIn sc a bs found →
+  pub is : (sc : Scope) (h : Here) (a : Around) (bs : BranchTrees) → Stands range roles whole sc → IsOpen h → IsRange range → is_small at.at.off ≡ true → IsFoundIn sc a bs found →
       OneSource sc a at bs → Tests sc h a bs tests → Relays sc a at bs relays
-  pub each : (l : Program) (sc : Scope) (a : Around) (bs : BranchTrees) → Stands range roles whole sc → IsRange range → is_over_n at.at.base ≡ true → is_small at.at.off ≡ true → IsFoundIn sc a bs found →
+  pub each : (l : Program) (sc : Scope) (a : Around) (bs : BranchTrees) → Stands range roles whole sc → IsRange range → is_small at.at.off ≡ true → IsFoundIn sc a bs found →
       OneSource sc a at bs → length l.roles ≡ roles → All (IsRelay l) relays
   pub told : tests ≡ [] → relays ≡ []

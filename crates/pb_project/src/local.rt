@@ -66,7 +66,7 @@ fn body_of(alloc: Global, core: &Core) -> Result<Vec<Stmt>, NoMemory>
 }
 
 /// The program with these statements, and the core's tables.
-fn local_of(alloc: Global, core: &Core, body: Vec<Stmt>) -> Result<Local, NoMemory>
+pub(crate) fn local_of(alloc: Global, core: &Core, body: Vec<Stmt>) -> Result<Local, NoMemory>
     ensures { IfOk result (λ l. IsLocalOf (plain core.now) (plain_all body.items) (program_of l)) }
 {
     let roles = roles_of(alloc, &core.roles)?;

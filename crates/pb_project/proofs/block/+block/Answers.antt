@@ -57,7 +57,7 @@ put_loop-returns-in_ok-push t c = λ m taken.
     (c.when.ensures ∙ ap (λ l. only_when c.in_ok-guards.guards (plain_all l)) c.in_ok-first.ensures)
     (loop_there k c.args.count.now c.loop_of.new.count m body.mark c.args.id body.block c.args.takers.items c.in_ok-guards.guards (plain c.in_ok-inner.inner)
     (subst (IsThere k.range k.whole c.args.takers.items) c.if-there.true (rw c.deref.ensures.value at c.in_ok-there.ensures))
-    (record { is = rw c.deref-then-there.ensures.value at c.in_ok-guards.ensures.hold; each = rw c.deref-then-there.ensures.value at c.in_ok-guards.ensures.each }) c.in_ok-inner.ensures taken)
+    (record { is = rw c.deref-then-there.ensures.value at c.in_ok-guards.ensures.hold; each = c.in_ok-guards.ensures.each }) c.in_ok-inner.ensures taken)
 
 pub put_loop-returns-else-there : goal.put_loop-returns-else-there
 put_loop-returns-else-there t c = λ m taken.
@@ -96,7 +96,7 @@ pub put_stmt-returns-in-Message : goal.put_stmt-returns-in-Message
 put_stmt-returns-in-Message t c =
     let k = known c.args.setting.now.range c.args.setting.now.roles c.args.setting.now.whole.now c.args.around.now.held.now c.args.around.now.numbers.now in
     let s = plain_stmt c.args.stmt.now in
-    on_ok_weaker c.put_piece.result (λ d goes. added_as (IsPieceOf k.range k.roles k.whole s.stmt) (IsStmtOf k c.args.count.now c.args.count.now s.mark s.stmt) c.args.out.now.items c.put_piece.new._out.items
+    on_ok_weaker c.put_piece.result (λ d goes. added_as (IsPieceOf k.range k.roles k.whole s.stmt) (IsStmtOf k c.args.count.now c.args.count.now s.mark s.stmt) c.args.out.now.items c.put_piece.new.out.items
     (λ piece. straight_is k c.args.count.now s.mark s.stmt piece (straight_by c.args.stmt.now c.in-Message.is goes)) d) c.put_piece.ensures
 
 pub choice_of-returns : goal.choice_of-returns
