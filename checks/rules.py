@@ -1,8 +1,8 @@
 #!/usr/bin/env python3
-"""Runs `check` and `gen` on files that break one of the twelve rules, or keep them all: `rules.py [PROGRAM]`, by default
-the `pabble` beside this folder. A row has the range of N, the roles, the body, the rule, and what is told of N and a
+"""Runs `check`, `gen` and `project` on files that break one of the twelve rules, or keep them all: `rules.py [PROGRAM]`,
+by default the `pabble` beside this folder. A row has the range of N, the roles, the body, the rule, and what is told of N and a
 rank. An `@` marks the place that the status line must name, and is no part of the file. A row without a rule keeps them
-all: it is accepted, and its text is printed, or it is of a form that isn't built yet.
+all: it is accepted, and its text and its layout are printed.
 """
 import subprocess
 import sys
@@ -13,8 +13,8 @@ from pathlib import Path
 FOLDER = Path(__file__).resolve().parent
 ANY, RING, PAIR = "2..max", "role W[0..N-1]", "A() from W[0] to W[N-1];"
 TWO = "role M, role W[0..N-1]"
-NOT_BUILT, ACCEPTED = (13, "pabble: not built at 1:1\n"), (0, "accepted\n")
-COMMANDS = ["check", "gen"]
+# how the output of each command begins where the file is accepted
+COMMANDS = {"check": "accepted\n", "gen": "/* pabble 1 */\n", "project": "local P\n"}
 PROCESSES, SECONDS = 4, 60
 # 59 fixed cuts and 59 that move, which meet at more than 4,096 numbers
 CROWD = "\n".join(f"A() from W[{k * 1000}] to W[N+{k * 2}];" for k in range(1, 60))
@@ -201,7 +201,7 @@ def place_of(text):
 
 
 def file_and_line(row):
-    """The row's file, and the exit status and the line that both commands must give, or None where no rule is broken."""
+    """The row's file, and the exit status and the line that each command must give, or None where no rule is broken."""
     span, roles, body, rule, told = row
     name = "@P" if told == "P" else "P"
     text = f"const N = {span};\nglobal protocol {name}({roles.replace('@', '') if told == 'P' else roles}) {{\n  {body}\n}}\n"
@@ -224,10 +224,8 @@ def difference(program, path, row):
         got = (done.returncode, done.stdout)
         if wanted is not None:
             is_right = got == wanted
-        elif command == "check":
-            is_right = got == ACCEPTED
         else:
-            is_right = got == NOT_BUILT or (got[0] == 0 and got[1].startswith("/* pabble 1 */\n"))
+            is_right = got[0] == 0 and got[1].startswith(COMMANDS[command])
         if not is_right:
             return f"{command} {row}: wanted {wanted or 'no rule'}, got {got}"
     return None

@@ -22,7 +22,6 @@ PLACES = {"constant": ("N", 0), "constant of a lin": ("N", 1), "protocol": ("Eve
           "role of an end": ("W", 1), "label": ("A", 0), "label of a collective": ("L", 0), "kernel": ("K", 0),
           "kernel of a choice": ("C", 0), "loop": ("X", 0), "loop of a continue": ("X", 1), "variable": ("i", 0),
           "variable of a lin": ("i", 1), "variable of a foreach": ("i", 2)}
-NOT_BUILT = (13, b"pabble: not built at 1:1\n")
 BROKEN = re.compile(rb"pabble: rule (?:[1-9]|1[0-2]) at [0-9]+:[0-9]+(, N = [0-9]+(, [A-Za-z0-9_]+\[-?[0-9]+\])?)?\n")
 SHOWN, PROCESSES, SECONDS = 10, 4, 60
 
@@ -55,7 +54,7 @@ def difference(program, path, name, data):
     code, out = done.returncode, done.stdout
     refusal = (5 if " limit " in wanted else 1, f"{wanted}\n".encode())
     # The reference knows no rules: `rules.py` runs files that break one.
-    parsed = code == 0 or (code, out) == NOT_BUILT or (code == 1 and BROKEN.fullmatch(out))
+    parsed = code == 0 or (code == 1 and BROKEN.fullmatch(out))
     right = parsed if wanted == "ok" else (code, out) == refusal
     return None if right else f"{name}: wanted {wanted}, got {code} {out[:80]!r}"
 

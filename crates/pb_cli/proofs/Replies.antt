@@ -1,16 +1,30 @@
--- An answer that belongs to the words and the files, and was written, is a reply.
-use Rattle.std.proofs.Common.{ℕ, List, Option, Result, Ok, Err}
+-- A status and a text that belong together, and were said, are a reply.
+use Rattle.std.proofs.Common.{ℕ, List, Option, Some, None, Result, Ok, Err, refl}
 use Rattle.pb_io.specs.Files.{File}
-use Rattle.pb_cli.specs.Lines.{line_of, status_of}
-use Rattle.pb_cli.specs.Reply.{Answers, IsReply, Says, SaysReply, bytes_of}
-use Rattle.pb_cli.specs.Words.{Request}
+use Rattle.pb_words.specs.Request.{Request, check, gen, project, sim, replay, run}
+use Rattle.pb_lines.specs.Lines.{line_of, status_of}
+use Rattle.pb_lines.specs.declared.refusal.Refusal.{Refusal}
+use Rattle.pb_lines.specs.declared.refusal.Refusal.TheVariants as refusal
+use Rattle.pb_lines.specs.declared.status.Status.{Status}
+use Rattle.pb_lines.specs.declared.status.Status.TheVariants.{Done, NoMemory}
+use Rattle.pb_cli.specs.Reply.{Answers, IsReply, Says, SaysOf, SaysReply, bytes_of}
 use Rattle.pb_cli.specs.declared.answer.Answer.{Answer}
-use Rattle.pb_cli.specs.declared.refusal.Refusal.{Refusal}
-use Rattle.pb_cli.specs.declared.status.Status.{Status}
-use Rattle.pb_cli.specs.declared.status.Status.TheVariants.{Done}
 
-pub said : (answer : Result Answer Refusal) (form : Option Request) (holds : Option (List File)) (result : Status)
-    (old new : Option (List ℕ)) → Answers answer (IsReply form holds)
-    → Answers answer (λ status text. Says status text result old new) → SaysReply form holds result old new
-said (Ok answer) form holds result old new reply says = (Done, bytes_of answer, reply, says)
-said (Err refusal) form holds result old new reply says = (status_of refusal, line_of refusal, reply, says)
+pub said : (Belong : Status → List ℕ → Type 0) (answer : Result Answer Refusal) (result : Status) (old new : Option (List ℕ))
+    → Answers answer Belong → Answers answer (λ status text. Says status text result old new) → SaysOf Belong result old new
+said Belong (Ok answer) result old new reply says = (Done, bytes_of answer, reply, says)
+said Belong (Err refusal) result old new reply says = (status_of refusal, line_of refusal, reply, says)
+
+-- want of memory belongs to all words
+wanting : (form : Option Request) (holds : Option (List File)) → IsReply form holds NoMemory (line_of refusal.NoMemory)
+wanting None holds = refl
+wanting (Some (check name)) holds = refl
+wanting (Some (gen name)) holds = refl
+wanting (Some (project name)) holds = refl
+wanting (Some (sim name options)) holds = refl
+wanting (Some (replay name schedule n)) holds = refl
+wanting (Some (run name options)) holds = refl
+
+pub no_memory : (form : Option Request) (holds : Option (List File)) (result : Status) (old new : Option (List ℕ))
+    → Says NoMemory (line_of refusal.NoMemory) result old new → SaysReply form holds result old new
+no_memory form holds result old new says = (NoMemory, line_of refusal.NoMemory, wanting form holds, says)

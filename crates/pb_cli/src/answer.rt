@@ -1,9 +1,20 @@
+/// What is written of an accepted protocol file.
+#[derive(Clone, Copy, Debug, PartialEq, Eq)]
+pub enum Wanted {
+    /// The line `accepted`.
+    Verdict,
+    /// The C text of the protocol, with default bodies.
+    Text,
+    /// The layout of its endpoint program.
+    Layout,
+}
+
 /// What is written where all is done.
 #[derive(Drop)]
 pub enum Answer {
     /// The line `accepted`.
     Accepted,
-    /// The C text of a protocol.
+    /// A text that was made.
     Text(Vec<u8>),
 }
 

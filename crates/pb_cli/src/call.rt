@@ -1,30 +1,41 @@
-ghost use Rattle.std.specs.Prelude.{◌≡◌, map, IsErrOf};
+ghost use Rattle.std.specs.Prelude.{◌≡◌, Some, map};
 ghost use Rattle.std.specs.String.{string_bytes};
 ghost use Rattle.pb_io.specs.Faults.{Rose};
-ghost use Rattle.pb_cli.specs.Reply.{Answers, Says, SaysReply, IsSureOfForm};
-ghost use Rattle.pb_cli.specs.Words.{request};
+ghost use Rattle.pb_io.specs.Files.{IsSureOf};
+ghost use Rattle.pb_words.specs.Request.{request, request_of};
+ghost use Rattle.pb_cli.specs.Reply.{IsFileReply, IsSureOfForm, Makes, SaysOf, SaysReply};
 
-use crate::answer::Answer;
-use crate::refusal::Refusal;
-use crate::reply::reply;
-use crate::status::Status;
-use pb_io::{Folder, OutFault, Sink, write_all};
+use crate::answer::Wanted;
+use crate::file::file_answer;
+use crate::saying::{refuse, say};
+use pb_io::{Folder, Sink};
+use pb_lines::{Refusal, Status};
+use pb_words::{Command, NoMemory, command_in};
 use std::alloc::Global;
 
 /// Does what the words after the program's name say, and writes the answer or one status line.
 ///
-/// `check FILE` writes the line `accepted` where the protocol in FILE is accepted: it keeps all twelve rules for every N of
-/// its range, and has at most 4,096 breakpoints. `gen FILE` writes the C text of such a protocol.
+/// A protocol file is accepted where it has at most 1,048,576 bytes, is a text of the grammar within its limits, keeps all
+/// twelve rules for every N of its range, and has at most 4,096 breakpoints. On such a file
 ///
+/// - `check FILE` writes the line `accepted`;
+/// - `project FILE` writes the layout of an endpoint program that has the shape of the protocol's projection;
+/// - `gen FILE` writes a C text. It spells, with default bodies, a tree whose endpoint program has that shape. At each N of
+///   the range with at most 2,000,000,000 ranks, whatever kernels answer and whichever sends wait, all ranks of that program
+///   together do, up to swaps of actions of different ranks, a prefix of the protocol's sequential run, and they stop only at
+///   its end, with no message left.
+///
+/// `Done` comes only then. On a file that isn't accepted these three write one line and answer `Refused` or `Limit`: `Limit`
+/// where the file has more bytes, its first fault is that it passes a limit, or it keeps the rules 1 to 5 and has more
+/// breakpoints; `Refused` where its first fault is one of syntax, with its place, or else it breaks one of the twelve rules:
+/// the least, at its first place, with the least N that breaks it there and the least rank where the rule speaks of them.
+///
+/// `Usage` comes where the words are in no form, and for `sim`, `replay` and `run`, which this program doesn't have yet.
 /// `ReadFault` comes only where the folder's count of faults rose in this call, and never where a steady folder holds the
-/// file; `WriteFault` only where the sink's did, and then some first bytes of what belongs there were written. Where memory
-/// doesn't run out, `Usage` comes exactly where the words are in no form; `Limit` where the file has more than 1,048,576
-/// bytes, its first fault is that it passes a limit, or it keeps the rules 1 to 5 and has more than 4,096 breakpoints;
-/// `Refused` where its first fault is one of syntax, or else it breaks one of the twelve rules; and `Done` where it is
-/// accepted. `NotBuilt` comes in place of `Done` for `gen` alone, where an accepted file has a form that isn't built yet.
+/// file; `WriteFault` only where the sink's did, and then some first bytes of what belongs there were written. Want of memory,
+/// `NoMemory`, may come in place of each of the others.
 ///
 /// `answers` gives word number `count` of a rank, from 0, by a seed, the rank and that number.
-#[tactic(auto, using(crate::proofs::Replies::said))]
 pub fn pabble<F: Folder, O: Sink, A: Fn(u64, u32, u64) -> u32>(
     alloc: Global,
     words: &[String],
@@ -40,24 +51,50 @@ pub fn pabble<F: Folder, O: Sink, A: Fn(u64, u32, u64) -> u32>(
     ensures write_fault { result ≡ Status.WriteFault → Rose (O.faults out.old) (O.faults out.new) }
 {
     let _answers = answers;
-    let answer = reply(alloc, words, folder);
-    say(out, answer)
+    match command_in(alloc, words) {
+        Ok(Some(command)) => perform(alloc, command, folder, out),
+        Ok(None) => refuse(out, Refusal::Usage),
+        Err(NoMemory) => refuse(out, Refusal::NoMemory),
+    }
 }
 
-/// Writes an answer, or the status line of a refusal, and tells the status.
-fn say<O: Sink>(out: &mut O, answer: Result<Answer, Refusal>) -> Status
-    ensures said { Answers answer (λ status text. Says status text result (O.taken out.old) (O.taken out.new)) }
-    ensures read_fault { result ≡ Status.ReadFault → IsErrOf answer Refusal.ReadFault }
+/// Does a command. Those that the program doesn't have yet are in no form.
+fn perform<F: Folder, O: Sink>(
+    alloc: Global,
+    command: Command,
+    folder: &mut F,
+    out: &mut O,
+) -> Status
+    ensures reply { SaysReply (Some (request_of command.entry)) (F.holds folder.old) result (O.taken out.old) (O.taken out.new) }
+    ensures read_fault { result ≡ Status.ReadFault → Rose (F.faults folder.old) (F.faults folder.new) }
+    ensures sure { result ≡ Status.ReadFault
+        → IsSureOfForm (Some (request_of command.entry)) (F.steady folder.old) (F.holds folder.old) → ⊥ }
     ensures write_fault { result ≡ Status.WriteFault → Rose (O.faults out.old) (O.faults out.new) }
 {
-    match answer {
-        Ok(answer) => match write_all(out, answer.bytes()) {
-            Ok(()) => Status::Done,
-            Err(OutFault::WriteFault) => Status::WriteFault,
-        },
-        Err(refusal) => match refusal.write_line(out) {
-            Ok(()) => refusal.status(),
-            Err(OutFault::WriteFault) => Status::WriteFault,
-        },
+    match command {
+        Command::Check(file) => tell(alloc, file, Wanted::Verdict, folder, out),
+        Command::Gen(file) => tell(alloc, file, Wanted::Text, folder, out),
+        Command::Project(file) => tell(alloc, file, Wanted::Layout, folder, out),
+        Command::Sim(_, _) => refuse(out, Refusal::Usage),
+        Command::Replay(_, _, _) => refuse(out, Refusal::Usage),
+        Command::Run(_, _) => refuse(out, Refusal::Usage),
     }
+}
+
+/// Writes what is wanted of the protocol in a file, or one status line.
+#[tactic(auto, using(crate::proofs::Replies::said))]
+fn tell<F: Folder, O: Sink>(
+    alloc: Global,
+    file: &str,
+    wanted: Wanted,
+    folder: &mut F,
+    out: &mut O,
+) -> Status
+    ensures reply { SaysOf (IsFileReply (Makes wanted) file.now (F.holds folder.old)) result (O.taken out.old) (O.taken out.new) }
+    ensures read_fault { result ≡ Status.ReadFault → Rose (F.faults folder.old) (F.faults folder.new) }
+    ensures sure { result ≡ Status.ReadFault → IsSureOf (F.steady folder.old) (F.holds folder.old) file.now → ⊥ }
+    ensures write_fault { result ≡ Status.WriteFault → Rose (O.faults out.old) (O.faults out.new) }
+{
+    let answer = file_answer(alloc, folder, file, wanted);
+    say(out, answer)
 }

@@ -5,17 +5,12 @@
 #![tactic(auto)]
 
 mod answer;
-mod broken;
 mod call;
-mod first;
-mod parts;
-mod refusal;
-mod reply;
-mod status;
+mod file;
+mod refusing;
+mod saying;
 #[cfg(test)]
 mod tests;
-mod verdict;
-mod words;
 
 use call::pabble;
 use pb_io::{HostFolder, HostSink};

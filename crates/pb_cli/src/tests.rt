@@ -1,9 +1,9 @@
 ghost use Rattle.std.specs.Prelude.{◌≡◌};
 
 use crate::call::pabble;
-use crate::status::Status;
 use crate::word;
 use pb_io::{MemFile, MemFolder, MemSink, SureFolder, SureSink};
+use pb_lines::Status;
 use std::alloc::{AllocError, Global};
 use std::test::Fail;
 
@@ -144,37 +144,15 @@ fn gen_of_one_value_of_n(rt: HostRuntime) -> Result<(), Fail> {
     Ok(())
 }
 
-#[test]
-fn other_forms_are_not_built(rt: HostRuntime) -> Result<(), Fail> {
-    for (roles, body) in [
-        ("role W[0..N-1], role V", ""),
-        ("role W[1..N]", ""),
-        ("role W[0..N-1]", "A(int32) from W[0] to W[1];"),
-        ("role W[0..N-1]", "A() from W[i:0..N-2] to W[i+1];"),
-        ("role W[0..N-1]", "barrier;"),
-        (
-            "role W[0..N-1]",
-            "rec X { A() from W[0] to W[1]; continue X; }",
-        ),
-    ] {
-        let text = file_of(rt.alloc(), "2..max", roles, body)?;
-        let (status, line) = generated(rt.alloc(), text.as_bytes())?;
-        assert_eq!(rt; status, Status::NotBuilt, "{text}");
-        assert_eq!(rt;
-            line.as_slice(),
-            b"pabble: not built at 1:1\n".as_slice(),
-            "{text}"
-        );
-    }
-    Ok(())
-}
-
 /// A file of three lines: the constant, the protocol with these roles, and this body.
 fn file_of(alloc: Global, range: &str, roles: &str, body: &str) -> Result<String, AllocError> {
     format!(in alloc; "const N = {range};\nglobal protocol P({roles}) {{\n{body}\n}}\n")
 }
 
-/// Whether both commands refuse a file with this range, these roles and this body with this line.
+/// The commands on a protocol file.
+const COMMANDS: [&str; 3] = ["check", "gen", "project"];
+
+/// Whether each command refuses a file with this range, these roles and this body with this line.
 fn is_refused(
     alloc: Global,
     range: &str,
@@ -184,10 +162,12 @@ fn is_refused(
 ) -> Result<bool, Fail> {
     let text = file_of(alloc, range, roles, body)?;
     let line = format!(in alloc; "pabble: {what}\n")?;
-    let (status, written) = generated(alloc, text.as_bytes())?;
-    let is_so = status == Status::Refused && written.as_slice() == line.as_bytes();
-    let (status, written) = checked(alloc, text.as_bytes())?;
-    Ok(is_so && status == Status::Refused && written.as_slice() == line.as_bytes())
+    let mut is_so = true;
+    for command in COMMANDS {
+        let (status, written) = answered(alloc, command, text.as_bytes())?;
+        is_so = is_so && status == Status::Refused && written.as_slice() == line.as_bytes();
+    }
+    Ok(is_so)
 }
 
 #[test]
@@ -358,7 +338,7 @@ fn loops_and_choices_that_break_a_rule(rt: HostRuntime) -> Result<(), Fail> {
 }
 
 #[test]
-fn check_accepts_other_forms(rt: HostRuntime) -> Result<(), Fail> {
+fn each_command_on_accepted_forms(rt: HostRuntime) -> Result<(), Fail> {
     for (range, roles, body) in [
         ("2..max", "role W[0..N-1]", "A() from W[0] to W[N-1];"),
         ("1..max", "role M, role W[1..N]", "A(int32) from M to W[N];"),
@@ -383,6 +363,117 @@ fn check_accepts_other_forms(rt: HostRuntime) -> Result<(), Fail> {
         let (status, line) = checked(rt.alloc(), text.as_bytes())?;
         assert_eq!(rt; status, Status::Done, "{text}");
         assert_eq!(rt; line.as_slice(), b"accepted\n".as_slice(), "{text}");
+        for (command, begin, end) in [
+            (
+                "gen",
+                "/* pabble 1 */\n/* protocol P */\n",
+                "  MPI_Finalize();\n  return 0;\n}\n",
+            ),
+            ("project", "local P\nN ", "\ndone\n"),
+        ] {
+            let (status, written) = answered(rt.alloc(), command, text.as_bytes())?;
+            assert_eq!(rt; status, Status::Done, "{command} {text}");
+            assert!(rt; written.starts_with(begin.as_bytes()), "{command} {text}");
+            assert!(rt; written.ends_with(end.as_bytes()), "{command} {text}");
+        }
+    }
+    Ok(())
+}
+
+/// Protocols that are accepted, with the layouts of their endpoint programs.
+const LAYOUTS: [(&str, &str, &str, &str); 4] = [
+    (
+        "2..max",
+        "role W[0..N-1]",
+        "A() from W[0] to W[N-1];",
+        "local P
+N 2 to max
+when W[0]
+  send A to W[N-1]
+end
+when W[N-1]
+  recv A from W[0]
+end
+done
+",
+    ),
+    (
+        "3..3",
+        "role M",
+        "",
+        "local P
+N 3 to 3
+done
+",
+    ),
+    (
+        "2..9",
+        "role W[0..N-1]",
+        "A() from W[i:0..N-2] to W[i+1]; barrier;",
+        "local P
+N 2 to 9
+when W[1..N-1]
+  own I-1
+  recv A from W[i]
+end
+when W[0..N-2]
+  own I
+  send A to W[i+1]
+end
+barrier
+done
+",
+    ),
+    (
+        "4..max",
+        "role W[0..N-1]",
+        "rec X { choice K at W[0] { Go() from W[0] to W[1]; continue X; } or { Stop() from W[0] to W[1]; } } A() from W[2] to W[3];",
+        "local P
+N 4 to max
+when W[0..1]
+  loop 0
+    when W[0..1]
+      choice K at W[0]
+      told Go 0 when W[1]
+      told Stop 1 when W[1]
+      branch 0
+        when W[0]
+          send Go to W[1]
+        end
+        when W[1]
+          recv Go from W[0]
+        end
+        again 0
+      branch 1
+        when W[0]
+          send Stop to W[1]
+        end
+        when W[1]
+          recv Stop from W[0]
+        end
+      end
+    end
+  end
+end
+when W[2]
+  send A to W[3]
+end
+when W[3]
+  recv A from W[2]
+end
+done
+",
+    ),
+];
+
+#[test]
+fn project_writes_the_layout(rt: HostRuntime) -> Result<(), Fail> {
+    for (range, roles, body, layout) in LAYOUTS {
+        let text = file_of(rt.alloc(), range, roles, body)?;
+        let (status, written) = answered(rt.alloc(), "project", text.as_bytes())?;
+        assert_eq!(rt; status, Status::Done, "{text}");
+        let written = std::str::from_utf8(&written)?;
+        assert_eq!(rt; written, layout, "{text}");
     }
     Ok(())
 }
@@ -395,7 +486,7 @@ fn too_many_breakpoints(rt: HostRuntime) -> Result<(), Fail> {
         body.push_str(&line)?;
     }
     let text = file_of(rt.alloc(), "1..max", "role W[0..N+100000]", &body)?;
-    for command in ["gen", "check"] {
+    for command in COMMANDS {
         let (status, line) = answered(rt.alloc(), command, text.as_bytes())?;
         assert_eq!(rt; status, Status::Limit, "{command}");
         assert_eq!(rt;
@@ -432,7 +523,7 @@ fn faults_and_limits_at_their_places(rt: HostRuntime) -> Result<(), Fail> {
     ] {
         let text = with_body(rt.alloc(), body)?;
         let line = format!(in rt.alloc(); "pabble: {what}\n")?;
-        for command in ["gen", "check"] {
+        for command in COMMANDS {
             let (status, written) = answered(rt.alloc(), command, text.as_bytes())?;
             assert_eq!(rt; status, expected, "{command} {text}");
             assert_eq!(rt; written.as_slice(), line.as_bytes(), "{command} {text}");
@@ -443,17 +534,22 @@ fn faults_and_limits_at_their_places(rt: HostRuntime) -> Result<(), Fail> {
 
 #[test]
 fn words_in_no_form(rt: HostRuntime) -> Result<(), Fail> {
-    let forms: [&[&str]; 10] = [
+    let forms: [&[&str]; 15] = [
         &[],
         &["gen"],
         &["gen", "-p"],
-        &["gen", "-"],
         &["gen", "p", "q"],
+        &["gen", "p", "--n", "3"],
         &["check"],
         &["check", "-p"],
         &["check", "p", "q"],
-        &["project", "p"],
+        &["project"],
+        &["project", "--schedule", "p"],
+        &["--", "project", "p"],
         &["-", "p"],
+        &["sim", "p", "--n", "3"],
+        &["replay", "p", "q", "--n", "3"],
+        &["run", "p", "--n=3"],
     ];
     for form in forms {
         let words = strings(rt.alloc(), form)?;
@@ -462,6 +558,29 @@ fn words_in_no_form(rt: HostRuntime) -> Result<(), Fail> {
         let status = pabble(rt.alloc(), &words, &mut folder, &mut out, word);
         assert_eq!(rt; status, Status::Usage);
         assert_eq!(rt; out.taken(), b"pabble: usage\n".as_slice());
+    }
+    Ok(())
+}
+
+#[test]
+fn words_behind_two_dashes_are_files(rt: HostRuntime) -> Result<(), Fail> {
+    let rows: [(&[&str], Status, &str); 4] = [
+        (&["check", "--", "p"], Status::Done, "accepted\n"),
+        (&["check", "p", "--"], Status::Done, "accepted\n"),
+        (
+            &["check", "--", "-q"],
+            Status::ReadFault,
+            "pabble: read fault\n",
+        ),
+        (&["check", "-"], Status::ReadFault, "pabble: read fault\n"),
+    ];
+    for (form, expected, line) in rows {
+        let words = strings(rt.alloc(), form)?;
+        let mut folder = MemFolder::new(files(rt.alloc(), FIRST.as_bytes())?, Vec::new(rt.alloc()));
+        let mut out = MemSink::new(rt.alloc(), 64, 64, Vec::new(rt.alloc()))?;
+        let status = pabble(rt.alloc(), &words, &mut folder, &mut out, word);
+        assert_eq!(rt; status, expected);
+        assert_eq!(rt; out.taken(), line.as_bytes());
     }
     Ok(())
 }
@@ -564,7 +683,9 @@ fn sure_ones_have_no_fault(rt: HostRuntime) -> Result<(), Fail> {
     for (command, file, expected, count) in [
         ("gen", "p", Status::Done, FIRST_TEXT.len()),
         ("check", "p", Status::Done, 9),
+        ("project", "p", Status::Done, 92),
         ("check", "q", Status::Refused, 22),
+        ("project", "q", Status::Refused, 22),
     ] {
         let words = strings(rt.alloc(), &[command, file])?;
         let mut out = SureSink::new();

@@ -21,7 +21,7 @@ mod tests;
 
 pub use fault::ScheduleFault;
 pub use laws::one_outcome;
-pub use log::log_line;
+pub use log::{log_line, push_line};
 pub use pb_ctree::CTree;
 pub use pb_text::{Action, Joint, Mode, NoMemory, Words};
 pub use picks::{Draw, Picks, pick, pick_mode};

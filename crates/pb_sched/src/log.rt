@@ -137,6 +137,15 @@ fn push_action(out: &mut Vec<u8>, local: &Local, action: &Action) -> Result<(), 
     }
 }
 
+/// Appends the line of an action in a log, as `log_line` gives it. Where memory runs out some first bytes of it are there.
+pub fn push_line(out: &mut Vec<u8>, tree: &CTree, action: &Action) -> Result<(), NoMemory>
+    ensures { OnOk result (out.new.items ≡ out.old.items ++ log_line (program_of tree.now.local) action.now) }
+{
+    push_action(out, &tree.local, action)?;
+    out.push(b'\n')?;
+    Ok(())
+}
+
 /// The line of an action in a log, with its line feed: the rank, what it does, and the other rank, the label's or
 /// kernel's name and the words where it has them, each after one space. Words of an `int32` label are printed signed.
 /// A number that the tables lack has an empty name.
@@ -144,7 +153,6 @@ pub fn log_line(alloc: Global, tree: &CTree, action: &Action) -> Result<Vec<u8>,
     ensures { IfOk result (λ line. line.items ≡ log_line (program_of tree.now.local) action.now) }
 {
     let mut out = Vec::new(alloc);
-    push_action(&mut out, &tree.local, action)?;
-    out.push(b'\n')?;
+    push_line(&mut out, tree, action)?;
     Ok(out)
 }

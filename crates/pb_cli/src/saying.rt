@@ -1,0 +1,37 @@
+//! Writing what a command answers.
+
+ghost use Rattle.std.specs.Prelude.{◌≡◌, IsErrOf};
+ghost use Rattle.pb_io.specs.Faults.{Rose};
+ghost use Rattle.pb_lines.specs.Lines.{line_of, status_of};
+ghost use Rattle.pb_cli.specs.Reply.{Answers, Says};
+
+use crate::answer::Answer;
+use pb_io::{OutFault, Sink, write_all};
+use pb_lines::{Refusal, Status};
+
+/// Writes an answer, or the status line of a refusal, and tells the status.
+pub fn say<O: Sink>(out: &mut O, answer: Result<Answer, Refusal>) -> Status
+    ensures said { Answers answer (λ status text. Says status text result (O.taken out.old) (O.taken out.new)) }
+    ensures read_fault { result ≡ Status.ReadFault → IsErrOf answer Refusal.ReadFault }
+    ensures write_fault { result ≡ Status.WriteFault → Rose (O.faults out.old) (O.faults out.new) }
+{
+    match answer {
+        Ok(answer) => match write_all(out, answer.bytes()) {
+            Ok(()) => Status::Done,
+            Err(OutFault::WriteFault) => Status::WriteFault,
+        },
+        Err(refusal) => refuse(out, refusal),
+    }
+}
+
+/// Writes the status line of a refusal, and tells the status.
+pub fn refuse<O: Sink>(out: &mut O, refusal: Refusal) -> Status
+    ensures said { Says (status_of refusal) (line_of refusal) result (O.taken out.old) (O.taken out.new) }
+    ensures read_fault { result ≡ Status.ReadFault → refusal ≡ Refusal.ReadFault }
+    ensures write_fault { result ≡ Status.WriteFault → Rose (O.faults out.old) (O.faults out.new) }
+{
+    match refusal.write_line(out) {
+        Ok(()) => refusal.status(),
+        Err(OutFault::WriteFault) => Status::WriteFault,
+    }
+}

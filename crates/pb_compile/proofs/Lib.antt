@@ -1,0 +1,4 @@
+mod Told
+mod Accepted
+mod Done
+mod Printed

@@ -1,0 +1,13 @@
+//! How a call of the program ends: a status, and the line that tells it where not all was done.
+#![tactic(auto)]
+
+mod broken;
+mod parts;
+mod refusal;
+mod status;
+mod told;
+
+pub use parts::write_parts;
+pub use pb_text::{Name, Place, Quantity};
+pub use refusal::Refusal;
+pub use status::Status;

@@ -1,0 +1,4 @@
+pub mod Endings
+pub mod Plans
+pub mod Plays
+pub mod Records

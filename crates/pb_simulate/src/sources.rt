@@ -1,0 +1,43 @@
+//! Texts and schedules.
+
+ghost use Rattle.std.specs.Prelude.{◌≤◌, length, IfOk, IfErr, IsErrOf};
+ghost use Rattle.pb_sched.specs.Outcomes.{IsSchedule};
+ghost use Rattle.pb_simulate.specs.Sources.{IsTextOf, IsNoText, IsNoSchedule};
+
+use pb_cread::{TextFault, read_c};
+use pb_ctree::CTree;
+use pb_lines::{Quantity, Refusal};
+use pb_sched::{Schedule, ScheduleFault, read_schedule};
+use std::alloc::Global;
+
+/// The tree of a C text. Where memory doesn't run out, `Text` comes with the first line that no text goes on with, and `Limit`
+/// with the first line behind which more than 256 braces are open or that begins statement 50,001.
+pub fn read_text(alloc: Global, bytes: &[u8]) -> Result<CTree, Refusal>
+    ensures tree { IfOk result (IsTextOf bytes.now) }
+    ensures denied { IfErr result (IsNoText bytes.now) }
+    ensures real { IsErrOf result Refusal.ReadFault → ⊥ }
+{
+    match read_c(alloc, bytes) {
+        Ok(text) => Ok(text.tree),
+        Err(TextFault::Unexpected(place)) => Err(Refusal::Text(place)),
+        Err(TextFault::TooDeep(place)) => Err(Refusal::Limit(Quantity::TextNesting, place)),
+        Err(TextFault::TooMany(place)) => Err(Refusal::Limit(Quantity::TextStatements, place)),
+        Err(TextFault::NoMemory) => Err(Refusal::NoMemory),
+    }
+}
+
+/// The schedule of its text. Where memory doesn't run out, `Schedule` comes with the first malformed line, and `Events` where
+/// the lines up to that of event 1,000,001 are well formed.
+pub fn read_turns(alloc: Global, bytes: &[u8]) -> Result<Schedule, Refusal>
+    ensures schedule { IfOk result (λ s. IsSchedule bytes.now s.seed s.turns.items) }
+    ensures few { IfOk result (λ s. length s.turns.items ≤ 1000000) }
+    ensures denied { IfErr result (IsNoSchedule bytes.now) }
+    ensures real { IsErrOf result Refusal.ReadFault → ⊥ }
+{
+    match read_schedule(alloc, bytes) {
+        Ok(schedule) => Ok(schedule),
+        Err(ScheduleFault::BadLine(line)) => Err(Refusal::Schedule(line)),
+        Err(ScheduleFault::TooMany(_)) => Err(Refusal::Events),
+        Err(ScheduleFault::NoMemory) => Err(Refusal::NoMemory),
+    }
+}

@@ -1,0 +1,5 @@
+pub mod Numbers
+pub mod Readings
+pub mod Request
+pub mod Said
+pub mod Shown

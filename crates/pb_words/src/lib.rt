@@ -1,0 +1,20 @@
+//! The words after the program's name, and what they ask for.
+//!
+//! `specs/` has `Said` (options with their values, and other words), `Numbers` (numbers as words) and `Request` (the forms).
+#![tactic(auto)]
+
+mod command;
+mod front;
+mod given;
+mod key;
+mod number;
+mod options;
+mod reading;
+mod said;
+mod shape;
+#[cfg(test)]
+mod tests;
+
+pub use command::{Command, command_in};
+pub use options::{Modes, Options, Shown};
+pub use pb_text::{Mode, NoMemory};
