@@ -17,7 +17,7 @@ module _ (bytes : List ℕ) (p : Protocol) (tree : CTree) (is : IsAcceptedAs byt
   does : FileIsProper → TextRanks → DoesProtocol p tree
   does proper ranks n within few =
       ranks p (program_of tree.local) n (sound_of bytes p is) (proper_of bytes p is proper) projected.shape projected.made.made within few
-          (no_breach p n within (keeps_of bytes p is) (breaches p n) refl)
+      (no_breach p n within (keeps_of bytes p is) (breaches p n) refl)
 
   -- the bounds of the text, by those of the file
   small : FileIsSmall → size_all (program_of tree.local).body ≤ room_all p.body.block → braces_all (program_of tree.local).body ≤ (2 * depth_all p.body.block + 1) → IsSmall tree
