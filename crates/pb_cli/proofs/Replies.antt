@@ -1,5 +1,5 @@
 -- A status and a text that belong together, and were said, are a reply.
-use Rattle.std.proofs.Common.{ℕ, List, Option, Some, None, Result, Ok, Err, refl}
+use Rattle.std.proofs.Common.{ℕ, List, Option, Some, None, Result, Ok, Err, refl, inl}
 use Rattle.pb_io.specs.Files.{File}
 use Rattle.pb_words.specs.Request.{Request, check, gen, project, sim, replay, run}
 use Rattle.pb_lines.specs.Lines.{line_of, status_of}
@@ -7,7 +7,7 @@ use Rattle.pb_lines.specs.declared.refusal.Refusal.{Refusal}
 use Rattle.pb_lines.specs.declared.refusal.Refusal.TheVariants as refusal
 use Rattle.pb_lines.specs.declared.status.Status.{Status}
 use Rattle.pb_lines.specs.declared.status.Status.TheVariants.{Done, NoMemory}
-use Rattle.pb_cli.specs.Reply.{Answers, IsReply, Says, SaysOf, SaysReply, bytes_of}
+use Rattle.pb_cli.specs.Reply.{Answers, Says, SaysOf, SaysReply, bytes_of}
 use Rattle.pb_cli.specs.declared.answer.Answer.{Answer}
 
 pub said : (Belong : Status → List ℕ → Type 0) (answer : Result Answer Refusal) (result : Status) (old new : Option (List ℕ))
@@ -16,15 +16,12 @@ said Belong (Ok answer) result old new reply says = (Done, bytes_of answer, repl
 said Belong (Err refusal) result old new reply says = (status_of refusal, line_of refusal, reply, says)
 
 -- want of memory belongs to all words
-wanting : (form : Option Request) (holds : Option (List File)) → IsReply form holds NoMemory (line_of refusal.NoMemory)
-wanting None holds = refl
-wanting (Some (check name)) holds = refl
-wanting (Some (gen name)) holds = refl
-wanting (Some (project name)) holds = refl
-wanting (Some (sim name options)) holds = refl
-wanting (Some (replay name schedule n)) holds = refl
-wanting (Some (run name options)) holds = refl
-
-pub no_memory : (form : Option Request) (holds : Option (List File)) (result : Status) (old new : Option (List ℕ))
-    → Says NoMemory (line_of refusal.NoMemory) result old new → SaysReply form holds result old new
-no_memory form holds result old new says = (NoMemory, line_of refusal.NoMemory, wanting form holds, says)
+pub no_memory : (post : ℕ → ℕ → ℕ → ℕ → Type 0) (form : Option Request) (holds : Option (List File)) (result : Status) (old new : Option (List ℕ))
+    → Says NoMemory (line_of refusal.NoMemory) result old new → SaysReply post form holds result old new
+no_memory post None holds result old new says = (NoMemory, line_of refusal.NoMemory, refl, says)
+no_memory post (Some (check name)) holds result old new says = (NoMemory, line_of refusal.NoMemory, refl, says)
+no_memory post (Some (gen name)) holds result old new says = (NoMemory, line_of refusal.NoMemory, refl, says)
+no_memory post (Some (project name)) holds result old new says = (NoMemory, line_of refusal.NoMemory, refl, says)
+no_memory post (Some (sim name options)) holds result old new says = inl (refusal.NoMemory, tt, says)
+no_memory post (Some (replay name schedule n)) holds result old new says = inl (refusal.NoMemory, tt, says)
+no_memory post (Some (run name options)) holds result old new says = (NoMemory, line_of refusal.NoMemory, refl, says)

@@ -7,6 +7,7 @@ use Rattle.pb_lex.specs.declared.error.LexError.TheVariants as E
 use Rattle.pb_io.specs.Files.{File, content_of, IsSureOf}
 use Rattle.pb_io.specs.Sinks.{AppendsFront}
 use Rattle.pb_words.specs.Request.{Request, check, gen, project, sim, replay, run}
+use Rattle.pb_simulate.specs.Commands.{SaysSim, SaysReplay}
 use Rattle.pb_lines.specs.Lines.{accepted_line, line_of, status_of}
 use Rattle.pb_lines.specs.declared.refusal.Refusal.{Refusal}
 use Rattle.pb_lines.specs.declared.refusal.Refusal.TheVariants as refusal
@@ -88,16 +89,6 @@ IsUsage S.Usage text = text ≡ line_of refusal.Usage
 IsUsage S.NoMemory text = text ≡ line_of refusal.NoMemory
 IsUsage other text = ⊥
 
--- A status and a text that belong to the words and the files. The program has no `sim`, `replay` and `run` yet
-abbrev pub IsReply : Option Request → Option (List File) → Status → List ℕ → Type 0
-IsReply None holds status text = IsUsage status text
-IsReply (Some (check name)) holds status text = IsFileReply (Makes W.Verdict) name holds status text
-IsReply (Some (gen name)) holds status text = IsFileReply (Makes W.Text) name holds status text
-IsReply (Some (project name)) holds status text = IsFileReply (Makes W.Layout) name holds status text
-IsReply (Some (sim name options)) holds status text = IsUsage status text
-IsReply (Some (replay name schedule n)) holds status text = IsUsage status text
-IsReply (Some (run name options)) holds status text = IsUsage status text
-
 -- a status was given and its text was written, or a write failed and only some first bytes of it were
 abbrev pub Says : Status → List ℕ → Status → Option (List ℕ) → Option (List ℕ) → Type 0
 Says status text result old new = ((result ≡ status) × Appends old new text) ⊎ ((result ≡ S.WriteFault) × AppendsFront old new text)
@@ -106,9 +97,16 @@ Says status text result old new = ((result ≡ status) × Appends old new text) 
 abbrev pub SaysOf : (Status → List ℕ → Type 0) → Status → Option (List ℕ) → Option (List ℕ) → Type 0
 SaysOf Belong result old new = (status : Status) × (text : List ℕ) × Belong status text × Says status text result old new
 
--- the status and the text that belong to the words and the files, but for a write that failed
-abbrev pub SaysReply : Option Request → Option (List File) → Status → Option (List ℕ) → Option (List ℕ) → Type 0
-SaysReply form holds result old new = SaysOf (IsReply form holds) result old new
+-- What is said where words ask for this, but for a write that failed: a status and a text that belong to the words and the
+-- files. The program has no `run` yet. Simulations take their words from `post`, by seed, rank and number
+abbrev pub SaysReply : (ℕ → ℕ → ℕ → ℕ → Type 0) → Option Request → Option (List File) → Status → Option (List ℕ) → Option (List ℕ) → Type 0
+SaysReply post None holds result old new = SaysOf IsUsage result old new
+SaysReply post (Some (check name)) holds result old new = SaysOf (IsFileReply (Makes W.Verdict) name holds) result old new
+SaysReply post (Some (gen name)) holds result old new = SaysOf (IsFileReply (Makes W.Text) name holds) result old new
+SaysReply post (Some (project name)) holds result old new = SaysOf (IsFileReply (Makes W.Layout) name holds) result old new
+SaysReply post (Some (sim name options)) holds result old new = SaysSim post name options holds result old new
+SaysReply post (Some (replay name schedule n)) holds result old new = SaysReplay post name schedule n holds result old new
+SaysReply post (Some (run name options)) holds result old new = SaysOf IsUsage result old new
 
 -- a steady folder that holds each file that the words name
 abbrev pub IsSureOfForm : Option Request → Bool → Option (List File) → Type 0

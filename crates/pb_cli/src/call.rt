@@ -2,7 +2,7 @@ ghost use Rattle.std.specs.Prelude.{◌≡◌, Some, map};
 ghost use Rattle.std.specs.String.{string_bytes};
 ghost use Rattle.pb_io.specs.Faults.{Rose};
 ghost use Rattle.pb_io.specs.Files.{IsSureOf};
-ghost use Rattle.pb_words.specs.Request.{request, request_of};
+ghost use Rattle.pb_words.specs.Request.{AsksForFew, request, request_of};
 ghost use Rattle.pb_cli.specs.Reply.{IsFileReply, IsSureOfForm, Makes, SaysOf, SaysReply};
 
 use crate::answer::Wanted;
@@ -10,6 +10,7 @@ use crate::file::file_answer;
 use crate::saying::{refuse, say};
 use pb_io::{Folder, Sink};
 use pb_lines::{Refusal, Status};
+use pb_simulate::{replay, sim};
 use pb_words::{Command, NoMemory, command_in};
 use std::alloc::Global;
 
@@ -30,13 +31,20 @@ use std::alloc::Global;
 /// breakpoints; `Refused` where its first fault is one of syntax, with its place, or else it breaks one of the twelve rules:
 /// the least, at its first place, with the least N that breaks it there and the least rank where the rule speaks of them.
 ///
-/// `Usage` comes where the words are in no form, and for `sim`, `replay` and `run`, which this program doesn't have yet.
-/// `ReadFault` comes only where the folder's count of faults rose in this call, and never where a steady folder holds the
-/// file; `WriteFault` only where the sink's did, and then some first bytes of what belongs there were written. Want of memory,
-/// `NoMemory`, may come in place of each of the others.
+/// `sim TEXT` with options and `replay TEXT SCHEDULE --n A` simulate a C text of at most 67,108,864 bytes on all its ranks, by
+/// a seed or by a schedule, and write the log and the line `ended`, or the schedule alone. They answer `Text` where the bytes are
+/// no such text, `Schedule` where a line of the schedule is malformed or names a rank that has no step, `OutOfRange` where N
+/// isn't in the text's range, `Limit` where a limit on texts, ranks, events or words in flight is passed, `Stuck` where nobody
+/// has a step and not all is at its end, and `Turns` where all events were made and some rank has a step. `Done` comes only
+/// where all ranks have ended and no message is left. The log of the events made stands before the line.
+///
+/// `Usage` comes where the words are in no form, and for `run`, which this program doesn't have yet. `ReadFault` comes only where
+/// the folder's count of faults rose in this call, and never where a steady folder holds the files; `WriteFault` only where the
+/// sink's did, and then some first bytes of what belongs there were written. Want of memory, `NoMemory`, may come in place of
+/// each of the others.
 ///
 /// `answers` gives word number `count` of a rank, from 0, by a seed, the rank and that number.
-pub fn pabble<F: Folder, O: Sink, A: Fn(u64, u32, u64) -> u32>(
+pub fn pabble<F: Folder, O: Sink, A: Fn(u64, u32, u64) -> u32 + Drop>(
     alloc: Global,
     words: &[String],
     folder: &mut F,
@@ -44,28 +52,30 @@ pub fn pabble<F: Folder, O: Sink, A: Fn(u64, u32, u64) -> u32>(
     answers: A,
 ) -> Status
     requires { A.IsAlwaysCallable answers }
-    ensures reply { SaysReply (request (map string_bytes words.now)) (F.holds folder.old) result (O.taken out.old) (O.taken out.new) }
+    ensures reply { SaysReply (A.post answers) (request (map string_bytes words.now)) (F.holds folder.old) result (O.taken out.old) (O.taken out.new) }
     ensures read_fault { result ≡ Status.ReadFault → Rose (F.faults folder.old) (F.faults folder.new) }
     ensures sure { result ≡ Status.ReadFault
         → IsSureOfForm (request (map string_bytes words.now)) (F.steady folder.old) (F.holds folder.old) → ⊥ }
     ensures write_fault { result ≡ Status.WriteFault → Rose (O.faults out.old) (O.faults out.new) }
 {
-    let _answers = answers;
     match command_in(alloc, words) {
-        Ok(Some(command)) => perform(alloc, command, folder, out),
+        Ok(Some(command)) => perform(alloc, command, answers, folder, out),
         Ok(None) => refuse(out, Refusal::Usage),
         Err(NoMemory) => refuse(out, Refusal::NoMemory),
     }
 }
 
-/// Does a command. Those that the program doesn't have yet are in no form.
-fn perform<F: Folder, O: Sink>(
+/// Does a command. `run`, which the program doesn't have yet, is in no form.
+fn perform<F: Folder, O: Sink, A: Fn(u64, u32, u64) -> u32 + Drop>(
     alloc: Global,
     command: Command,
+    answers: A,
     folder: &mut F,
     out: &mut O,
 ) -> Status
-    ensures reply { SaysReply (Some (request_of command.entry)) (F.holds folder.old) result (O.taken out.old) (O.taken out.new) }
+    requires callable { A.IsAlwaysCallable answers }
+    requires few { AsksForFew command }
+    ensures reply { SaysReply (A.post answers) (Some (request_of command.entry)) (F.holds folder.old) result (O.taken out.old) (O.taken out.new) }
     ensures read_fault { result ≡ Status.ReadFault → Rose (F.faults folder.old) (F.faults folder.new) }
     ensures sure { result ≡ Status.ReadFault
         → IsSureOfForm (Some (request_of command.entry)) (F.steady folder.old) (F.holds folder.old) → ⊥ }
@@ -75,8 +85,10 @@ fn perform<F: Folder, O: Sink>(
         Command::Check(file) => tell(alloc, file, Wanted::Verdict, folder, out),
         Command::Gen(file) => tell(alloc, file, Wanted::Text, folder, out),
         Command::Project(file) => tell(alloc, file, Wanted::Layout, folder, out),
-        Command::Sim(_, _) => refuse(out, Refusal::Usage),
-        Command::Replay(_, _, _) => refuse(out, Refusal::Usage),
+        Command::Sim(text, options) => sim(alloc, text, options, answers, folder, out),
+        Command::Replay(text, schedule, n) => {
+            replay(alloc, text, schedule, n, answers, folder, out)
+        }
         Command::Run(_, _) => refuse(out, Refusal::Usage),
     }
 }

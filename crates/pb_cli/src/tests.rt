@@ -547,8 +547,8 @@ fn words_in_no_form(rt: HostRuntime) -> Result<(), Fail> {
         &["project", "--schedule", "p"],
         &["--", "project", "p"],
         &["-", "p"],
-        &["sim", "p", "--n", "3"],
-        &["replay", "p", "q", "--n", "3"],
+        &["sim", "p"],
+        &["replay", "p", "q"],
         &["run", "p", "--n=3"],
     ];
     for form in forms {
@@ -558,6 +558,34 @@ fn words_in_no_form(rt: HostRuntime) -> Result<(), Fail> {
         let status = pabble(rt.alloc(), &words, &mut folder, &mut out, word);
         assert_eq!(rt; status, Status::Usage);
         assert_eq!(rt; out.taken(), b"pabble: usage\n".as_slice());
+    }
+    Ok(())
+}
+
+#[test]
+fn simulating_the_text_of_a_file(rt: HostRuntime) -> Result<(), Fail> {
+    let rows = [
+        (
+            FIRST_TEXT,
+            "2",
+            Status::Done,
+            "0 send 1 A\n1 recv 0 A\nended\n",
+        ),
+        (
+            FIRST_TEXT,
+            "1",
+            Status::OutOfRange,
+            "pabble: N = 1 outside 2..max\n",
+        ),
+        (FIRST, "2", Status::Text, "pabble: text at 1:1\n"),
+    ];
+    for (text, n, expected, log) in rows {
+        let words = strings(rt.alloc(), &["sim", "p", "--n", n])?;
+        let mut folder = MemFolder::new(files(rt.alloc(), text.as_bytes())?, Vec::new(rt.alloc()));
+        let mut out = MemSink::new(rt.alloc(), 64, 64, Vec::new(rt.alloc()))?;
+        let status = pabble(rt.alloc(), &words, &mut folder, &mut out, word);
+        assert_eq!(rt; status, expected);
+        assert_eq!(rt; out.taken(), log.as_bytes());
     }
     Ok(())
 }

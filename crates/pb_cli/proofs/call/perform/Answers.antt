@@ -1,0 +1,7 @@
+use Rattle.pb_cli.proofs.call.perform.Goals as goal
+
+pub returns-in-Sim-clause-reply : goal.returns-in-Sim-clause-reply
+returns-in-Sim-clause-reply g c = rw c.in-Sim.is c.sim.ensures.reply
+
+pub returns-in-Replay-clause-reply : goal.returns-in-Replay-clause-reply
+returns-in-Replay-clause-reply g c = rw c.in-Replay.is c.replay.ensures.reply
