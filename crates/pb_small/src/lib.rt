@@ -3,4 +3,4 @@
 
 mod laws;
 
-pub use laws::small_keeps_limits;
+pub use laws::{small_is_read, small_keeps_limits};
