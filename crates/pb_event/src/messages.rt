@@ -85,6 +85,19 @@ impl State {
         Ok(())
     }
 
+    /// What a sender waits for once a message with this label was taken by this rank. The messages that are left are looked
+    /// at only where it waited for one like it.
+    fn waits_behind(&self, waits: Option<Waits>, from: u32, by: u32, label: u32) -> Option<Waits>
+        ensures { result ≡ released waits by label (is_there (position label 0 (messages self.now.channels from by))) }
+    {
+        if is_for(waits, by, label) {
+            let left = self.channels.first(from, by, label).is_some();
+            released(waits, by, label, left)
+        } else {
+            waits
+        }
+    }
+
     /// A rank takes the first message with the label. Its sender goes on where it waited for that.
     pub fn receive(&mut self, rank: u32, from: u32, label: u32) -> Words
         requires may { MayStep self.old rank (Acts (A.Recv from label)) }
@@ -96,11 +109,11 @@ impl State {
         let kept = self.kept_of(from);
         self.advance(rank, Input::Plain);
         let words = self.channels.take(from, rank, at);
-        let left = self.channels.first(from, rank, label).is_some();
+        let waits = self.waits_behind(kept.waits, from, rank, label);
         self.keep(
             from,
             Stand {
-                waits: released(kept.waits, rank, label, left),
+                waits,
                 left: kept.left,
                 mode: kept.mode,
                 asked: kept.asked,

@@ -40,11 +40,11 @@ returns-clause-event c =
     let changed = subst (λ (es : List Entry). IsChanged es c.args.from c.args.rank (λ ms. remove ms c.unwrap-at.result) c.take-words.new.self) c.advance.ensures.channels c.take-words.ensures.left in
     let n : words_in c.take-words.new.self + length c.take-words.result ≡ words_in c.args.self.now.channels = c.take-words.ensures.words ∙ ap words_in c.advance.ensures.channels in
     let few : words_in c.args.self.now.channels ≤ 16777216 = c.requires.may.sound.words in
-    let left : c.is_some-left.result ≡ is_there (position c.args.label 0 (messages c.take-words.new.self c.args.from c.args.rank)) = c.is_some-left.ensures ∙ there_is c.first-2.result ∙ ap is_there c.first-2.ensures in
+    let left = is_there (position c.args.label 0 (messages c.take-words.new.self c.args.from c.args.rank)) in
     subst (λ (t : State). IsEvent c.args.self.now c.args.rank (Recv c.args.from c.args.label c.take-words.result ∷ []) t × IsOtherThan c.args.self.now c.args.rank c.args.from t)
     (made c.args.self.now c.keep.new.self c.keep.new.self.stands c.take-words.new.self c.args.self.now.joins (c.keep.ensures.tree ∙ c.advance.ensures.tree) (c.keep.ensures.n ∙ c.advance.ensures.n) refl c.keep.ensures.channels (c.keep.ensures.joins ∙ c.advance.ensures.joins))
-    (receive_event c.args.self.now c.args.rank c.keep.new.self.ranks c.keep.new.self.stands c.take-words.new.self c.args.from c.args.label c.unwrap-at.result c.take-words.result c.is_some-left.result _ c.requires.may found got left
+    (receive_event c.args.self.now c.args.rank c.keep.new.self.ranks c.keep.new.self.stands c.take-words.new.self c.args.from c.args.label c.unwrap-at.result c.take-words.result left _ c.requires.may found got refl
     (subst (IsAdvanced c.args.self.now c.args.rank Plain) (sym c.keep.ensures.ranks) c.advance.ensures.advanced)
     (written _ _ _ c.args.from _ c.advance.ensures.stands c.keep.ensures.stands)
-    (c.released.ensures ∙ ap (λ (v : Stand). released v.waits c.args.rank c.args.label c.is_some-left.result) c.kept_of-kept.ensures) (ap (λ (v : Stand). v.left) c.kept_of-kept.ensures) (ap (λ (v : Stand). v.mode) c.kept_of-kept.ensures)
+    (c.waits_behind-waits.ensures ∙ ap (λ (v : Stand). released v.waits c.args.rank c.args.label left) c.kept_of-kept.ensures) (ap (λ (v : Stand). v.left) c.kept_of-kept.ensures) (ap (λ (v : Stand). v.mode) c.kept_of-kept.ensures)
     changed (omega (arith, n, few)))
