@@ -10,7 +10,7 @@ use Rattle.pb_event.specs.States.{program, state_at, next_step}
 use Rattle.pb_event.specs.Worlds.{released}
 use Rattle.pb_event.specs.Events.{IsEvent, IsOtherThan, IsAdvanced}
 use Rattle.pb_event.proofs.Advancing.{made}
-use Rattle.pb_event.proofs.Before.{written, there_is}
+use Rattle.pb_event.proofs.Before.{written}
 use Rattle.pb_event.proofs.Near.{near}
 use Rattle.pb_event.proofs.Taking.{bounds}
 use Rattle.pb_event.proofs.Sending.{receive_next, IsChanged}
