@@ -1,7 +1,9 @@
 #!/usr/bin/env bash
-# Events a second of `sim` on a ring, ping-pong, a halo exchange and collectives, at several numbers of ranks: with the
-# schedule alone, and with the log. Takes the built program's path, else the one that `rt` has built.
+# Events and messages a second of `sim` on a ring, ping-pong, a halo exchange and collectives, at several numbers of ranks:
+# with the schedule alone, and with the log; and the memory that each takes. An entry into a collective counts as a message. Takes
+# the built program's path, else the one that `rt` has built. RUNS may be given; the run with the least processor time counts.
 program=$(readlink -f "${1:-$(dirname "$0")/../crates/pb_cli/out/pb_cli}")
+runs=${RUNS:-3}
 folder=$(mktemp -d) || exit 1
 trap 'rm -rf "$folder"' EXIT
 cd "$folder" || exit 1
@@ -20,23 +22,28 @@ protocol halo '    A(int32[64]) from W[i:0..N-2] to W[i+1];
 protocol joint '    allreduce S(int32) with max;
     barrier;'
 
-# The events of a second of one run, whose last line tells how many were made.
-rate() {
-    local start end events
-    start=$(date +%s%N)
-    "$program" sim "$@" > out
-    end=$(date +%s%N)
-    events=$(sed -n 's/^pabble: turns //p' out)
-    echo $((${events:-0} * 1000000000 / (end - start)))
+# The seconds of processor time and the kilobytes of memory of a run.
+best() {
+    for ((run = 0; run < runs; run++)); do
+        /usr/bin/time -o time -f '%U %S %M' "$program" sim "$@" > out
+        tail -n 1 time
+    done | awk '{ time = $1 + $2; if (NR == 1 || time < least) { least = time; memory = $3 } }
+        END { if (least < 0.001) least = 0.001; print least, memory }'
 }
 
-printf '%-8s %6s %12s %12s\n' text ranks schedule log
+# The events of the last run, of which its last line tells.
+events() { sed -n 's/^pabble: turns //p' out; }
+
+printf '%-6s %6s | %-32s | %-32s\n' '' '' 'a second, and KB: the schedule' 'the log'
+printf '%-6s %6s | %10s %10s %10s | %10s %10s %10s\n' text ranks events messages KB events messages KB
 for text in ring ping halo joint; do
     for ranks in 2 8 100 1000; do
         if [ $text = ping ] && [ $ranks -gt 8 ]; then
             continue
         fi
-        printf '%-8s %6s %12s %12s\n' $text $ranks \
-            "$(rate $text.c --n $ranks --schedule)" "$(rate $text.c --n $ranks)"
+        schedule=$(best $text.c --n $ranks --schedule)
+        log=$(best $text.c --n $ranks)
+        messages=$(grep -c -E '^[0-9]+ (send|enter) ' out)
+        echo "$text $ranks $schedule $log $(events) $messages"
     done
-done
+done | awk '{ printf "%-6s %6s | %10d %10d %10d | %10d %10d %10d\n", $1, $2, $7 / $3, $8 / $3, $4, $7 / $5, $8 / $5, $6 }'

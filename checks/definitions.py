@@ -5,6 +5,7 @@ them, by rule, place, N and rank, must be the one that `check` names, as far as 
 `check` names a greater N, or accepts, none may be listed that comes before. A file that breaks one of the rules 1 to 5
 must have the same line from both, which decide these rules by the same call. The last line is 'N passed, N failed'.
 """
+import os
 import random
 import re
 import subprocess
@@ -14,7 +15,9 @@ from concurrent.futures import ThreadPoolExecutor
 from pathlib import Path
 
 TOP = Path(__file__).resolve().parent.parent
-PABBLE, PLAIN = TOP / "crates/pb_cli/out/pb_cli", TOP / "crates/plain/out/plain"
+# the programs that `rt` has built, or others that the environment names
+PABBLE = Path(os.environ.get("PABBLE", TOP / "crates/pb_cli/out/pb_cli"))
+PLAIN = Path(os.environ.get("PLAIN", TOP / "crates/plain/out/plain"))
 LOOKED_AT = 6
 LINE = re.compile(r"rule (\d+) at (\d+):(\d+)(?:, N = (\d+))?(?:, (\w+)\[(-?\d+)\])?")
 

@@ -1,0 +1,93 @@
+#!/usr/bin/env python3
+"""Refuses each allocation of some commands in turn, alone and with all behind it: `memory.py [PROGRAM]`, by default the
+one that `rt` has built. With a number refused a run must end as without, byte for byte, or with `pabble: no memory`
+behind some first lines of what it writes else; `gen` writes nothing in front of it. Where the words of the command can't
+be had, which the first allocations are for, it is `pabble: usage`. Needs a C compiler and the GNU C library. The last line is
+'N passed, N failed'.
+"""
+import os
+import subprocess
+import sys
+import tempfile
+from collections import Counter
+from concurrent.futures import ThreadPoolExecutor
+from pathlib import Path
+
+from definitions import PABBLE, TOP
+
+EXAMPLES = TOP / "examples"
+NO_MEMORY, USAGE = (6, b"pabble: no memory\n"), (2, b"pabble: usage\n")
+SHOWN, PROCESSES, SECONDS = 5, 4, 60
+
+
+class Run:
+    """A command, and what it answers where no allocation is refused."""
+
+    def __init__(self, program, library, *words):
+        self.words, self.library = [program, *words], library
+        self.whole, self.count = self.answer({})
+
+    def answer(self, refused):
+        said = subprocess.run(self.words, capture_output=True, timeout=SECONDS, env={"LD_PRELOAD": self.library, **refused})
+        return (said.returncode, said.stdout), int(said.stderr or 0)
+
+    def outcome(self, refused):
+        """How a run ends in which allocations are refused; None where it ends as it must not."""
+        (code, out), _ = self.answer(refused)
+        if (code, out) == self.whole:
+            return "the same"
+        if (code, out) == USAGE:
+            return "usage"
+        before = out.removesuffix(NO_MEMORY[1])
+        is_front = before == b"" or (before.endswith(b"\n") and self.words[1] != "gen")
+        if code == NO_MEMORY[0] and out != before and is_front and self.whole[1].startswith(before):
+            return "no memory"
+        return None
+
+    def outcomes(self, pool, others):
+        """The outcomes with each allocation refused, from the first one on, and one number more."""
+        return list(pool.map(self.outcome, ({"NO_MEMORY": str(k), **others} for k in range(1, self.count + 2))))
+
+
+def late(outcomes):
+    """The numbers of allocations where the words were missing, though they had been there before."""
+    first = next(k for k, outcome in enumerate(outcomes) if outcome != "usage")
+    return [k + 1 for k in range(first, len(outcomes)) if outcomes[k] == "usage"]
+
+
+def commands(program, folder):
+    """The words of each command, with its files."""
+    yield "gen", EXAMPLES / "jacobi.pbl"
+    yield "run", EXAMPLES / "ring.pbl", "--n", "3"
+    yield "run", EXAMPLES / "reduction.pbl", "--n", "3", "--mode", "waiting"
+    yield "run", EXAMPLES / "ring.pbl", "--n", "3", "--schedule"
+    for name in ("token", "jacobi"):
+        text, schedule, protocol = folder / f"{name}.c", folder / f"{name}.schedule", EXAMPLES / f"{name}.pbl"
+        text.write_bytes(subprocess.run([program, "gen", protocol], capture_output=True).stdout)
+        schedule.write_bytes(subprocess.run([program, "run", protocol, "--n", "3", "--schedule"], capture_output=True).stdout)
+        yield "replay", text, schedule, "--n", "3"
+
+
+def main(program):
+    passed, wrong = 0, []
+    with tempfile.TemporaryDirectory() as name, ThreadPoolExecutor(PROCESSES) as pool:
+        library = Path(name) / "no-memory.so"
+        subprocess.run(["cc", "-O1", "-shared", "-fPIC", TOP / "checks/no-memory.c", "-o", library], check=True)
+        for words in commands(program, Path(name)):
+            run = Run(program, library, *words)
+            title = " ".join(Path(word).name if os.sep in str(word) else word for word in words)
+            print(f"{title}: {run.count} allocations, and without refusals status {run.whole[0]}, {len(run.whole[1])} bytes")
+            for others in ({}, {"NO_MEMORY_BEHIND": ""}):
+                outcomes = run.outcomes(pool, others)
+                bad = [k + 1 for k, outcome in enumerate(outcomes) if outcome is None] + late(outcomes)
+                if run.count == 0 or outcomes[-1] != "the same":
+                    bad.append(run.count + 1)
+                passed, wrong = passed + len(outcomes) - len(bad), wrong + [f"{title}, number {k}, {others}" for k in bad]
+                told = ", ".join(f"{count} {outcome}" for outcome, count in Counter(filter(None, outcomes)).items())
+                print(f"  {'with all behind it' if others else 'alone'}: {told}")
+    print(*wrong[:SHOWN], f"{passed} passed, {len(wrong)} failed", sep="\n")
+    return 1 if wrong else 0
+
+
+if __name__ == "__main__":
+    sys.exit(main(sys.argv[1] if len(sys.argv) > 1 else PABBLE))
