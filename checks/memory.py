@@ -1,9 +1,8 @@
 #!/usr/bin/env python3
 """Refuses each allocation of some commands in turn, alone and with all behind it: `memory.py [PROGRAM]`, by default the
 one that `rt` has built. With a number refused a run must end as without, byte for byte, or with `pabble: no memory`
-behind some first lines of what it writes else; `gen` writes nothing in front of it. Where the words of the command can't
-be had, which the first allocations are for, it is `pabble: usage`. Needs a C compiler and the GNU C library. The last line is
-'N passed, N failed'.
+behind some first lines of what it writes else; `gen` writes nothing in front of it. Needs a C compiler and the GNU C
+library. The last line is 'N passed, N failed'.
 """
 import os
 import subprocess
@@ -16,7 +15,7 @@ from pathlib import Path
 from definitions import PABBLE, TOP
 
 EXAMPLES = TOP / "examples"
-NO_MEMORY, USAGE = (6, b"pabble: no memory\n"), (2, b"pabble: usage\n")
+NO_MEMORY = (6, b"pabble: no memory\n")
 SHOWN, PROCESSES, SECONDS = 5, 4, 60
 
 
@@ -36,8 +35,6 @@ class Run:
         (code, out), _ = self.answer(refused)
         if (code, out) == self.whole:
             return "the same"
-        if (code, out) == USAGE:
-            return "usage"
         before = out.removesuffix(NO_MEMORY[1])
         is_front = before == b"" or (before.endswith(b"\n") and self.words[1] != "gen")
         if code == NO_MEMORY[0] and out != before and is_front and self.whole[1].startswith(before):
@@ -47,12 +44,6 @@ class Run:
     def outcomes(self, pool, others):
         """The outcomes with each allocation refused, from the first one on, and one number more."""
         return list(pool.map(self.outcome, ({"NO_MEMORY": str(k), **others} for k in range(1, self.count + 2))))
-
-
-def late(outcomes):
-    """The numbers of allocations where the words were missing, though they had been there before."""
-    first = next(k for k, outcome in enumerate(outcomes) if outcome != "usage")
-    return [k + 1 for k in range(first, len(outcomes)) if outcomes[k] == "usage"]
 
 
 def commands(program, folder):
@@ -79,7 +70,7 @@ def main(program):
             print(f"{title}: {run.count} allocations, and without refusals status {run.whole[0]}, {len(run.whole[1])} bytes")
             for others in ({}, {"NO_MEMORY_BEHIND": ""}):
                 outcomes = run.outcomes(pool, others)
-                bad = [k + 1 for k, outcome in enumerate(outcomes) if outcome is None] + late(outcomes)
+                bad = [k + 1 for k, outcome in enumerate(outcomes) if outcome is None]
                 if run.count == 0 or outcomes[-1] != "the same":
                     bad.append(run.count + 1)
                 passed, wrong = passed + len(outcomes) - len(bad), wrong + [f"{title}, number {k}, {others}" for k in bad]

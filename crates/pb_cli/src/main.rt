@@ -14,22 +14,32 @@ mod tests;
 
 use call::pabble;
 use pb_io::{HostFolder, HostSink};
+use pb_lines::Refusal;
+use pb_text::NoMemory;
 use rand_core::Rng;
 use rand_pcg::Pcg32;
+use saying::refuse;
 use std::process::ExitCode;
 use std::{env, io};
 
-fn main(rt: HostRuntime) -> ExitCode {
-    let mut words = Vec::new(rt.alloc());
-    if let Ok(all) = env::args(&rt) {
-        words = all
-            .skip(1)
-            .collect(rt.alloc())
-            .unwrap_or(Vec::new(rt.alloc()));
+/// The words after the program's name; none where some aren't UTF-8.
+fn words(rt: &HostRuntime) -> Result<Vec<String>, NoMemory> {
+    match env::args(rt) {
+        Ok(all) => Ok(all.skip(1).collect(rt.alloc())?),
+        Err(error) if error.kind() == io::ErrorKind::OutOfMemory => Err(NoMemory),
+        Err(_) => Ok(Vec::new(rt.alloc())),
     }
-    let mut folder = HostFolder::new(&rt);
+}
+
+fn main(rt: HostRuntime) -> ExitCode {
     let mut out = HostSink::new(io::writer(&rt));
-    let status = pabble(rt.alloc(), words.as_slice(), &mut folder, &mut out, word);
+    let status = match words(&rt) {
+        Ok(all) => {
+            let mut folder = HostFolder::new(&rt);
+            pabble(rt.alloc(), all.as_slice(), &mut folder, &mut out, word)
+        }
+        Err(NoMemory) => refuse(&mut out, Refusal::NoMemory),
+    };
     ExitCode::from(status.code())
 }
 
