@@ -144,6 +144,7 @@ impl Joins {
         requires { number self.now rank ≡ k + 1 }
         ensures { IfOk result (λ w. w ≡ outcome_of payload (length self.now.words) call rank (words_at self.now k)) }
     {
-        self.results.outcome(alloc, &self.lists, payload, call, rank, k)
+        self.results
+            .outcome(alloc, &self.lists, payload, call, rank, k)
     }
 }

@@ -39,13 +39,7 @@ fn a_sum_wraps(rt: HostRuntime) -> Result<(), Fail> {
 }
 
 /// A rank enters with a word.
-fn enter(
-    joins: &mut Joins,
-    alloc: Global,
-    call: Call,
-    rank: u32,
-    word: u32,
-) -> Result<(), NoMemory>
+fn enter(joins: &mut Joins, alloc: Global, call: Call, rank: u32, word: u32) -> Result<(), NoMemory>
     requires { rank < length joins.old.words }
     ensures { length joins.new.words ≡ length joins.old.words }
 {

@@ -1,4 +1,4 @@
-use Rattle.std.proofs.Common.{◌≡◌, ◌<◌, ◌∙◌, ◌+◌, ◌-◌, ℕ, List, [], length, get_or, refl, ap, sym, subst, arith}
+use Rattle.std.proofs.Common.{◌≡◌, ◌<◌, ◌∙◌, ◌-◌, ℕ, List, [], length, get_or, refl, ap, sym, subst, arith}
 use Rattle.pb_join.specs.Joined.{number, all_entered}
 use Rattle.pb_join.specs.Lists.{items_of}
 use Rattle.pb_join.specs.Results.{AreResults}

@@ -1,4 +1,4 @@
-use Rattle.std.proofs.Common.{◌∷◌, ◌++◌, [], ◌∙◌, ◌≡◌, ap, sym, map, vec_len, rules}
+use Rattle.std.proofs.Common.{◌∷◌, ◌++◌, [], ◌∙◌, ap, sym, map, vec_len, rules}
 use Rattle.std.proofs.lemmas.List.{map-append}
 use Rattle.pb_join.specs.Lists.{replicated}
 use Rattle.pb_join.proofs.Pushing.{one_more_list}
