@@ -18,7 +18,6 @@ use Rattle.pb_chan.specs.Lists.{messages}
 use Rattle.pb_join.specs.declared.call.Call.{Call}
 use Rattle.pb_join.specs.Calls.{collective_of, is_same}
 use Rattle.pb_join.specs.Joined.{Joined, words_of, number, collectives, paired, entries, fits_with, agrees, entered, IsJoined}
-use Rattle.pb_join.proofs.Gathering.{get_pushed}
 use Rattle.pb_machine.specs.declared.act.Input.TheVariants.{Plain}
 use Rattle.pb_machine.specs.declared.rank.Rank.{Rank}
 use Rattle.pb_machine.specs.declared.act.Next.{Next}
@@ -28,7 +27,7 @@ use Rattle.pb_event.specs.States.{program, total_of, stand, state_at, next_step}
 use Rattle.pb_event.specs.Worlds.{moded, is_to, world_of}
 use Rattle.pb_event.specs.Sound.{IsWaiting, IsJoining, IsRooted, AreOpened, IsState}
 use Rattle.pb_event.specs.Events.{remade, IsAdvanced, IsMoved, IsEvent, MayStep}
-use Rattle.pb_event.proofs.Lists.{at_set}
+use Rattle.pb_event.proofs.Lists.{at_set, get_pushed}
 use Rattle.pb_event.proofs.Parts.{same_world}
 use Rattle.pb_event.proofs.Free.{free}
 use Rattle.pb_event.proofs.Advancing.{act_moved}

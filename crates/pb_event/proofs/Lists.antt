@@ -1,5 +1,5 @@
--- One element of a list of ranks is written.
-use Rattle.std.proofs.Common.{◌≡◌, ◌<◌, ℕ, zero, suc, true, false, cond, nat_eq, inl, inr, Some, List, [], ◌∷◌, length, get_or, refl, ap, ◌∙◌, arith, get_or-set_same, get_or-set_other}
+-- One element of a list is written, or added.
+use Rattle.std.proofs.Common.{◌≡◌, ◌<◌, ℕ, zero, suc, true, false, cond, nat_eq, ◌⊎◌, inl, inr, Option, Some, None, List, [], ◌∷◌, ◌++◌, length, get_or, refl, ap, ◌∙◌, arith, get_or-set_same, get_or-set_other}
 use Rattle.std.specs.List.{slice_get}
 use Rattle.std.proofs.Math.ListN.{set}
 use Rattle.std.proofs.lemmas.Bool.{cases_eq, eq-eqb}
@@ -21,3 +21,13 @@ at_set xs r x q d h = elim (cases_eq q r) [ inl e ↦ same e | inr e ↦ other e
 
   other : (q ≡ r → ⊥) → get_or (set xs r x) q d ≡ cond (nat_eq q r) x (get_or xs q d)
   other e = let b : nat_eq q r ≡ false = not_same q r e in rw b (get_or-set_other xs r q x d e)
+
+pub get_pushed : {A : Type 0} (xs : List A) (y : A) (k : ℕ) (z : A) → slice_get (xs ++ y ∷ []) k ≡ Some z → (slice_get xs k ≡ Some z) ⊎ ((k ≡ length xs) × (y ≡ z))
+get_pushed [] y zero z e = inr (refl, same e) where
+  same : Some y ≡ Some z → y ≡ z
+  same e = cc
+get_pushed {A} [] y (suc k) z e = absurd (clash e) where
+  clash : ◌≡◌ {A = Option A} None (Some z) → ⊥
+  clash e = cc
+get_pushed (x ∷ xs) y zero z e = inl e
+get_pushed (x ∷ xs) y (suc k) z e = elim (get_pushed xs y k z e) [ inl h ↦ inl h | inr h ↦ inr (ap suc h.0, h.1) ]

@@ -15,7 +15,6 @@ use Rattle.pb_chan.specs.Lists.{messages, words_in}
 use Rattle.pb_join.specs.Joined.{words_of, number, collectives, paired}
 use Rattle.pb_join.specs.Lists.{replicated}
 use Rattle.pb_join.proofs.Entering.{none_there, so_many}
-use Rattle.pb_join.proofs.Gathering.{get_pushed}
 use Rattle.pb_machine.specs.declared.rank.Rank.{Rank}
 use Rattle.pb_machine.specs.Steps.{going, shown, param_of, Fits}
 use Rattle.pb_event.specs.declared.stand.Stand.{Stand}
@@ -24,6 +23,7 @@ use Rattle.pb_event.specs.States.{program, total_of, fresh, stand, state_in, sta
 use Rattle.pb_event.specs.Worlds.{moded, is_to, world_of}
 use Rattle.pb_event.specs.Sound.{IsWaiting, IsJoining, AreOpened}
 use Rattle.pb_event.specs.Starts.{IsAtStart, AreStarts, AreFresh, IsStart}
+use Rattle.pb_event.proofs.Lists.{get_pushed}
 use Rattle.pb_event.proofs.Advancing.{led}
 use Rattle.pb_event.proofs.Leaving.{out_pushed}
 use Rattle.pb_event.proofs.Kept.{joining_out}

@@ -4,7 +4,6 @@ use Rattle.std.specs.List.{sum_by, slice_get, slice_set}
 use Rattle.std.proofs.lemmas.List.Sums.{sum_by-set, sum_by-cons}
 use Rattle.std.proofs.lemmas.Bool.{cases_eq}
 use Rattle.std.proofs.lemmas.Bool.Decides.{nat_tests}
-use Rattle.std.proofs.lemmas.List.{length-map}
 use Rattle.std.proofs.Math.ListN.{set}
 use Rattle.pb_world.specs.Actions.{Collective}
 use Rattle.pb_join.specs.declared.call.Call.{Call}
@@ -133,8 +132,8 @@ seen_then rounds new_rounds lists new_lists total r k call w s h n e f = record 
   few : k ≤ length rounds.list.items
   few = let u : number (shown rounds lists) r ≤ length rounds.list.items = s.short r in rw n u
 
-  long : length new_lists.list.items ≡ total
-  long = sym (length-map new_lists.list.items (λ v. v.items)) ∙ ap length f ∙ length-set (items_of lists) r (get_or (items_of lists) r [] ++ w ∷ []) ∙ length-map lists.list.items (λ v. v.items) ∙ s.long
+  long : length (items_of new_lists) ≡ total
+  long = ap length f ∙ length-set (items_of lists) r (get_or (items_of lists) r [] ++ w ∷ []) ∙ s.long
 
   exact : (j : ℕ) → came_at new_rounds.list.items j ≡ came (shown new_rounds new_lists) j
   exact j =
@@ -160,9 +159,8 @@ pub few_then : (rounds : Rounds) (lists : Lists) (total k : ℕ) → IsSeen roun
 few_then rounds lists total k s h =
     let a : came_at rounds.list.items k ≡ came (shown rounds lists) k = s.exact k in
     let b : came (shown rounds lists) k ≤ length (items_of lists) = came_few k (items_of lists) in
-    let c : length (items_of lists) ≡ length lists.list.items = length-map lists.list.items (λ v. v.items) in
-    let d : length lists.list.items ≡ total = s.long in
-    omega (arith, a, b, c, d, h)
+    let d : length (items_of lists) ≡ total = s.long in
+    omega (arith, a, b, d, h)
 
 -- ---- nothing yet
 
@@ -186,11 +184,30 @@ so_many (suc n) = ap suc (so_many n)
 
 pub seen_first : (rounds : Rounds) (lists : Lists) (total : ℕ) → rounds.list.items ≡ [] → items_of lists ≡ replicated total → IsSeen rounds lists total
 seen_first rounds lists total e f = record { long = long; exact = exact; short = short } where
-  long : length lists.list.items ≡ total
-  long = sym (length-map lists.list.items (λ v. v.items)) ∙ ap length f ∙ so_many total
+  long : length (items_of lists) ≡ total
+  long = ap length f ∙ so_many total
 
   exact : (k : ℕ) → came_at rounds.list.items k ≡ came (shown rounds lists) k
   exact k = ap (λ xs. came_at xs k) e ∙ sym (none_came total k) ∙ ap (sum_by (came_to k)) (sym f)
 
   short : (r : ℕ) → number (shown rounds lists) r ≤ length rounds.list.items
   short r = let n : length (get_or (items_of lists) r []) ≡ 0 = ap (λ xs. length (get_or xs r [])) f ∙ ap length (none_there total r) in omega (arith, n)
+
+-- ---- the same words
+
+pub seen_same : (rounds new_rounds : Rounds) (lists new_lists : Lists) (total : ℕ) → new_rounds.list.items ≡ rounds.list.items → items_of new_lists ≡ items_of lists → IsSeen rounds lists total → IsSeen new_rounds new_lists total
+seen_same rounds new_rounds lists new_lists total e f s = record { long = ap length f ∙ s.long; exact = exact; short = short } where
+  exact : (k : ℕ) → came_at new_rounds.list.items k ≡ came (shown new_rounds new_lists) k
+  exact k = ap (λ xs. came_at xs k) e ∙ s.exact k ∙ ap (sum_by (came_to k)) (sym f)
+
+  short : (r : ℕ) → number (shown new_rounds new_lists) r ≤ length new_rounds.list.items
+  short r =
+      let n : length (get_or (items_of new_lists) r []) ≡ length (get_or (items_of lists) r []) = ap (λ xs. length (get_or xs r [])) f in
+      let m : length new_rounds.list.items ≡ length rounds.list.items = ap length e in
+      let h : length (get_or (items_of lists) r []) ≤ length rounds.list.items = s.short r in
+      omega (arith, n, m, h)
+
+pub shown_same : (rounds new_rounds : Rounds) (lists new_lists : Lists) → new_rounds.list.items ≡ rounds.list.items → items_of new_lists ≡ items_of lists → shown new_rounds new_lists ≡ shown rounds lists
+shown_same rounds new_rounds lists new_lists e f = both _ _ _ _ (ap (map (λ x. x.call)) e) f where
+  both : (a b : List Call) (v z : List (List (List ℕ))) → a ≡ b → v ≡ z → ◌≡◌ {A = Joined} (record { calls = a; words = v }) (record { calls = b; words = z })
+  both a b v z g h = cc

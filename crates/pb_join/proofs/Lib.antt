@@ -2,3 +2,4 @@ pub mod Combining
 pub mod Entering
 pub mod Pushing
 pub mod Gathering
+pub mod Forgetting

@@ -20,7 +20,7 @@ pub pushed_in : {V : Type 0} (items : V → List (List ℕ)) (xs : List V) (r : 
 pushed_in items xs r v d w h at e =
     map-set items xs r v ∙ ap (λ z. set (map items xs) r z) (e ∙ ap (λ z. z ++ w ∷ []) (ap items at ∙ sym (get_or-map items xs r d [] h)))
 
-pub kept_in : {V : Type 0} (items : V → List (List ℕ)) (xs : List V) (r : ℕ) (v d : V) → d ≡ get_or xs r d → items v ≡ items d → map items (set xs r v) ≡ map items xs
+pub kept_in : {V A : Type 0} (items : V → A) (xs : List V) (r : ℕ) (v d : V) → d ≡ get_or xs r d → items v ≡ items d → map items (set xs r v) ≡ map items xs
 kept_in items xs r v d at e = map-set_same items xs r v d (e ∙ ap items at)
 
 pub with_one_in : (xs : List Round) (k : ℕ) (d : Round) (call : Call) → k < length xs → d ≡ get_or xs k d → set xs k (one_more d) ≡ with_one xs k call

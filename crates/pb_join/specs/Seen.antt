@@ -11,6 +11,6 @@ shown rounds lists = record { calls = map (λ x. x.call) rounds.list.items; word
 
 -- the rounds count the entries
 pub record IsSeen (rounds : Rounds) (lists : Lists) (total : ℕ) : Type 0 where
-  pub long : length lists.list.items ≡ total
+  pub long : length (items_of lists) ≡ total
   pub exact : (k : ℕ) → came_at rounds.list.items k ≡ came (shown rounds lists) k
   pub short : (r : ℕ) → number (shown rounds lists) r ≤ length rounds.list.items

@@ -1,25 +1,25 @@
-ghost use Rattle.std.specs.Prelude.{◌≡◌, ℕ, ◌<◌, ◌≤◌, true, IfOk, OnOk, OnErr, [], length, map, option_map, slice_get};
+ghost use Rattle.std.specs.Prelude.{◌≡◌, ℕ, ◌<◌, ◌≤◌, ◌+◌, true, IfOk, OnOk, OnErr, [], length, map, option_map, slice_get};
 ghost use Rattle.pb_join.specs.Calls.{collective_of};
 ghost use Rattle.pb_join.specs.Joined.{words_of, number, agrees, has_entered, all_entered, entered, IsJoined};
 ghost use Rattle.pb_join.specs.Outcomes.{words_at, outcome_of};
 ghost use Rattle.pb_join.specs.Lists.{replicated};
-ghost use Rattle.pb_local.specs.Collectives.{operation_of, combine, combined_of};
 
 use crate::call::Call;
 use crate::lists::Lists;
 use crate::results::Results;
 use crate::rounds::Rounds;
-use pb_syntax::{Op, Payload};
+use pb_syntax::Payload;
 use pb_text::{NoMemory, Words};
 use std::alloc::Global;
 use std::marker::Model;
 
-/// The collectives that ranks have entered, with their words. A rank's k-th collective belongs to the k-th of each other.
+/// The collectives that ranks have entered, with their words. A rank's k-th collective belongs to the k-th of each other. Once
+/// all ranks have entered one, each has left those before it, and their words take no more memory.
 #[derive(Drop)]
 pub struct Joins {
     rounds: Rounds,
     lists: Lists,
-    /// What all have entered together.
+    /// What all get at the last one that all have entered.
     results: Results,
     total: u32,
 }
@@ -27,7 +27,7 @@ pub struct Joins {
 impl Model for Joins {
     ghost use Rattle.std.specs.Prelude.{◌≡◌, ◌≤◌, ◌<◌, ℕ, length};
     ghost use Rattle.pb_join.specs.Joined.{Joined};
-    ghost use Rattle.pb_join.specs.Lists.{items_of};
+    ghost use Rattle.pb_join.specs.Lists.{items_of, AreKept};
     ghost use Rattle.pb_join.specs.Results.{AreResults};
     ghost use Rattle.pb_join.specs.Seen.{shown, IsSeen};
 
@@ -35,7 +35,7 @@ impl Model for Joins {
 
     ghost view = { λ a. shown a.rounds a.lists };
 
-    ghost invariant = { λ a. IsSeen a.rounds a.lists a.total × AreResults (items_of a.lists) a.results.list.items };
+    ghost invariant = { λ a. IsSeen a.rounds a.lists a.total × AreResults (items_of a.lists) a.results.last × AreKept a.lists };
 }
 
 impl Joins {
@@ -48,9 +48,7 @@ impl Joins {
         let rounds = Rounds {
             list: Vec::new(alloc),
         };
-        let results = Results {
-            list: Vec::new(alloc),
-        };
+        let results = Results { last: None };
         Ok(Joins {
             rounds,
             lists,
@@ -98,7 +96,7 @@ impl Joins {
     }
 
     /// The rank enters this collective, whose label carries this, with these words. After `NoMemory` all is as before, and
-    /// the words are given up. The last entry combines the words of all.
+    /// the words are given up. The last entry combines the words of all, and ends what is kept of the collective before.
     pub fn enter(
         &mut self,
         alloc: Global,
@@ -115,21 +113,26 @@ impl Joins {
         self.rounds.reserve()?;
         self.lists.push(rank, words)?;
         self.rounds.count(k, call);
-        self.gather(alloc, payload, call, k);
+        self.gather(alloc, payload, call, rank);
         Ok(())
     }
 
-    /// Combines the words of all, where all have entered the collective with this number now.
-    fn gather(&mut self, alloc: Global, payload: Payload, call: Call, k: usize)
+    /// Combines the words of all, where all have entered what this rank has entered last. The words of the collectives before
+    /// are forgotten then.
+    fn gather(&mut self, alloc: Global, payload: Payload, call: Call, rank: u32)
+        requires { 0 < number self.old rank }
         ensures { self.new ≡ self.old }
     {
+        let number = self.number(rank);
+        let k = number - 1;
         if self.all_entered(k) {
             self.results.add(alloc, &self.lists, payload, call, k);
+            self.lists.forget(k);
         }
     }
 
-    /// The words with which a rank leaves its collective with this number, by its label's payload, where the entries that
-    /// it needs were made. Changes nothing.
+    /// The words with which a rank leaves its last collective, which has this number, by its label's payload, where the
+    /// entries that it needs were made. Changes nothing.
     pub fn outcome(
         &self,
         alloc: Global,
@@ -138,42 +141,10 @@ impl Joins {
         rank: u32,
         k: usize,
     ) -> Result<Words, NoMemory>
+        requires { number self.now rank ≡ k + 1 }
         ensures { IfOk result (λ w. w ≡ outcome_of payload (length self.now.words) call rank (words_at self.now k)) }
     {
-        match call {
-            Call::Barrier => Ok(Words::of(Vec::new(alloc))),
-            Call::Broadcast { root, .. } => self.copied(alloc, root, k),
-            Call::Reduce { op, root, .. } => {
-                if rank == root {
-                    Ok(Words::of(self.combined(alloc, payload, op, k)?))
-                } else {
-                    Ok(Words::of(Vec::new(alloc)))
-                }
-            }
-            Call::Allreduce { op, .. } => Ok(Words::of(self.combined(alloc, payload, op, k)?)),
-        }
-    }
-
-    /// The words with which a rank entered; none where there is no such rank.
-    fn copied(&self, alloc: Global, rank: u32, k: usize) -> Result<Words, NoMemory>
-        ensures { IfOk result (λ w. w ≡ words_at self.now k rank) }
-    {
-        Ok(Words::of(self.lists.words(rank as usize, k).to_vec(alloc)?))
-    }
-
-    /// The words of all ranks, combined from rank 0 on.
-    fn combined(
-        &self,
-        alloc: Global,
-        payload: Payload,
-        op: Op,
-        k: usize,
-    ) -> Result<Vec<u32>, NoMemory>
-        ensures { IfOk result (λ v. v.items ≡ combined_of (combine payload (operation_of op)) (length self.now.words) (words_at self.now k)) }
-    {
-        match self.results.found(payload, op, k) {
-            Some(words) => Ok(words.to_vec(alloc)?),
-            None => self.lists.combined(alloc, payload, op, k),
-        }
+        self.results
+            .outcome(alloc, &self.lists, payload, call, rank, k)
     }
 }

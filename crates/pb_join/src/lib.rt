@@ -9,6 +9,7 @@ mod results;
 mod rounds;
 #[cfg(test)]
 mod tests;
+mod window;
 
 pub use call::Call;
 pub use joins::Joins;

@@ -1,8 +1,9 @@
-use Rattle.std.proofs.Common.{◌≡◌, ◌∙◌, ◌∷◌, [], Some, ap, subst, refl, sym, length}
+use Rattle.std.proofs.Common.{◌≡◌, ◌∙◌, ◌∷◌, [], suc, Some, ap, subst, refl, sym, length, arith}
 use Rattle.std.specs.List.{slice_get}
 use Rattle.pb_world.specs.Actions.{Leave}
 use Rattle.pb_local.specs.Tables.{label_at}
 use Rattle.pb_join.specs.Calls.{collective_of, label_in}
+use Rattle.pb_join.specs.Joined.{number}
 use Rattle.pb_join.specs.Outcomes.{words_at, outcome_of}
 use Rattle.pb_machine.specs.declared.act.Input.TheVariants.{Plain}
 use Rattle.pb_event.specs.declared.stand.Stand.{Stand}
@@ -14,6 +15,14 @@ use Rattle.pb_event.proofs.Advancing.{made}
 use Rattle.pb_event.proofs.Before.{written}
 use Rattle.pb_event.proofs.Exits.{leave_next, inside, leave_event}
 use Rattle.pb_event.proofs.state.State.leave.Goals as goal
+
+pub outcome-requires : goal.outcome-requires
+outcome-requires c =
+    let p = leave_next (next_step c.args.self.now c.args.rank) c.requires.may.next_is in
+    let q = inside c.args.self.now c.args.rank p.0 c.requires.may.sound c.requires.may.there p.1 in
+    let one : number c.args.self.now.joins c.args.rank ≡ suc (stand c.args.self.now c.args.rank).left = q.2.one in
+    let same : c.kept_of-kept.result.left ≡ (stand c.args.self.now c.args.rank).left = ap (λ (v : Stand). v.left) c.kept_of-kept.ensures in
+    omega (arith, one, same)
 
 pub returns-clause-event : goal.returns-clause-event
 returns-clause-event c =
