@@ -75,6 +75,14 @@ module _ (p : Protocol) (tree : CTree) (n : ℕ) (post : ℕ → ℕ → ℕ →
 abbrev pub IsFileRefusal : List ℕ → Option (List File) → Status → List ℕ → Type 0
 IsFileRefusal name holds status text = (status ≢ S.Done) × IsFileReply (λ bytes written. ⊥) name holds status text
 
+-- the file is accepted and short enough, and this is one of the trees that may be printed for it
+pub record IsTreeOf (name : List ℕ) (holds : Option (List File)) (tree : CTree) : Type 0 where
+  pub bytes : List ℕ
+  pub protocol : Protocol
+  pub content : IsContent holds name bytes
+  pub short : length bytes ≤ most_bytes
+  pub compiled : IsCompiled bytes protocol tree
+
 -- The file is refused, and one line tells it; or it is accepted, and the simulation of one of the trees that may be printed for it is told
 abbrev pub SaysRun : (ℕ → ℕ → ℕ → ℕ → Type 0) → List ℕ → Options → Option (List File) → Status → Option (List ℕ) → Option (List ℕ) → Type 0
 SaysRun post name options holds result old new =
