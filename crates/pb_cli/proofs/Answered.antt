@@ -1,5 +1,5 @@
 -- From what is made of a file's bytes, or the verdict on them, to the reply.
-use Rattle.std.proofs.Common.{◌≡◌, ◌≢◌, ℕ, ◌≤◌, inr, List, length, Option, None, Some, refl, subst}
+use Rattle.std.proofs.Common.{◌≢◌, ℕ, ◌≤◌, inr, List, length, Option, None, Some, refl, subst}
 use Rattle.pb_io.specs.Files.{File, IsContent}
 use Rattle.pb_core.specs.Plain.{Protocol}
 use Rattle.pb_lex.specs.declared.error.LexError.TheVariants as E

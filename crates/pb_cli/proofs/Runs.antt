@@ -1,10 +1,9 @@
 -- From the simulation of a tree that was compiled to what `run` answers.
-use Rattle.std.proofs.Common.{◌≡◌, ℕ, ◌+◌, ◌*◌, ◌%◌, ◌<◌, ◌≤◌, ◌⊎◌, inl, inr, ℤ, pos, ◌≤ℤ◌, List, [], ◌++◌, length, Option, Some, None, refl, sym, ap, subst, ◌∙◌, append-nil, arith}
+use Rattle.std.proofs.Common.{◌≡◌, ℕ, ◌*◌, ◌%◌, ◌<◌, ◌≤◌, inl, inr, ℤ, pos, List, length, Option, Some, None, sym, ap, subst, append-nil, arith}
 use Rattle.std.specs.Prelude.{Contains}
 use Rattle.std.proofs.lemmas.Int.{ints}
 use Rattle.std.proofs.lemmas.List.Elements.{Contains-get_or}
 use Rattle.pb_io.specs.Files.{File}
-use Rattle.pb_io.specs.Sinks.{AppendsFront}
 use Rattle.pb_affine.specs.declared.range.NRange.{NRange}
 use Rattle.pb_world.specs.Actions.{Action}
 use Rattle.pb_world.specs.Family.{Family}
@@ -20,7 +19,6 @@ use Rattle.pb_local.specs.Tree.{program_of}
 use Rattle.pb_local.specs.WellMade as L
 use Rattle.pb_local.specs.WellMade.{IsInRange}
 use Rattle.pb_ctree.specs.declared.tree.CTree.{CTree}
-use Rattle.pb_shape.specs.Shape.{HasShape}
 use Rattle.pb_shape.specs.Theorem.{sequence_of}
 use Rattle.pb_follow.proofs.Starts.{total_same}
 use Rattle.pb_compile.specs.Compiled.{IsCompiled}
@@ -43,13 +41,13 @@ use Rattle.pb_sim.specs.Made.{IsNumber, HasStep}
 use Rattle.pb_sim.specs.Scheduled as R
 use Rattle.pb_sim.specs.Scheduled.{Turn, ScheduledRun}
 use Rattle.pb_sim.specs.Standing.{IsGoing}
-use Rattle.pb_play.specs.Plans.{Source, drawn, May}
+use Rattle.pb_play.specs.Plans.{drawn, May}
 use Rattle.pb_play.specs.Plays.{IsPlay}
 use Rattle.pb_play.specs.Endings.{Ran, Stands, IsUnready}
 use Rattle.pb_simulate.specs.Replies as A
 use Rattle.pb_simulate.specs.Replies.{Starts}
 use Rattle.pb_cli.specs.Reply.{Says}
-use Rattle.pb_cli.specs.Run.{MayRun, ranks_of, Begins, RunsTo, IsRunReply, SaysRunReply, IsFileRefusal, IsTreeOf, SaysRun}
+use Rattle.pb_cli.specs.Run.{MayRun, ranks_of, Begins, IsRunReply, SaysRunReply, IsFileRefusal, IsTreeOf, SaysRun}
 
 -- ---- a run under turns is a run
 
@@ -124,7 +122,7 @@ module _ (bytes : List ℕ) (p : Protocol) (tree : CTree) (n : ℕ) (is : IsComp
         never_unready : (t : ℕ) → IsUnready tree (pos n) (drawn seed modes) t x → ⊥
         never_unready t held =
             let can = (held.may.ready (sequence_of p (pos n))).ready held.turn.0
-                (subst (λ (r : ℕ). Contains held.may.list r) (sym (ap (λ turn. turn.0) held.may.is)) (drawn_from seed t held.may.list held.may.some)) in
+            (subst (λ (r : ℕ). Contains held.may.list r) (sym (ap (λ turn. turn.0) held.may.is)) (drawn_from seed t held.may.list held.may.some)) in
             held.why (sequence_of p (pos n))
             (subst (λ (t : CTree). CanStep (family (program_of t.local) x.state.n (sequence_of p (pos n))) (world_of x.state) held.turn.0) (sym play.tree_is)
             (subst (λ (m : ℤ). CanStep (family (program_of tree.local) m (sequence_of p (pos n))) (world_of x.state) held.turn.0) (sym play.n_is) can.1))

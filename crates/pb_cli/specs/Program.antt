@@ -18,4 +18,3 @@ SaysReply post (Some (project name)) holds result old new = SaysOf (IsFileReply 
 SaysReply post (Some (sim name options)) holds result old new = SaysSim post name options holds result old new
 SaysReply post (Some (replay name schedule n)) holds result old new = SaysReplay post name schedule n holds result old new
 SaysReply post (Some (run name options)) holds result old new = SaysRun post name options holds result old new
-

@@ -1,5 +1,5 @@
 -- What `run` answers: a protocol file is compiled, and its tree is simulated.
-use Rattle.std.specs.Prelude.{◌≡◌, ◌≢◌, ℕ, ◌<◌, ◌≤◌, ◌⊎◌, ℤ, pos, List, [], ◌++◌, length, Option}
+use Rattle.std.specs.Prelude.{◌≡◌, ◌≢◌, ℕ, ◌<◌, ◌≤◌, ◌⊎◌, pos, List, [], ◌++◌, length, Option}
 use Rattle.pb_io.specs.Files.{File, IsContent}
 use Rattle.pb_io.specs.Sinks.{AppendsFront}
 use Rattle.pb_world.specs.Actions.{Action, answers_of, Covers}
@@ -28,7 +28,7 @@ use Rattle.pb_sim.specs.Standing.{IsGoing}
 use Rattle.pb_play.specs.Plans.{Source, drawn}
 use Rattle.pb_play.specs.Endings.{Ran, IsFull, text_of, part_of}
 use Rattle.pb_simulate.specs.Endings.{ended_line}
-use Rattle.pb_cli.specs.Reply.{IsFileReply, Says, SaysOf, most_bytes}
+use Rattle.pb_cli.specs.Reply.{IsFileReply, SaysOf, most_bytes}
 
 -- the protocol can be simulated for this N: a number of its range, with at most 1,024 ranks
 pub record MayRun (p : Protocol) (n : ℕ) : Type 0 where
