@@ -1,14 +1,22 @@
 -- From what is made of a file's bytes, or the verdict on them, to the reply.
-use Rattle.std.proofs.Common.{ℕ, ◌≤◌, inr, List, length, Option, None, Some, refl, subst}
+use Rattle.std.proofs.Common.{◌≡◌, ◌≢◌, ℕ, ◌≤◌, inr, List, length, Option, None, Some, refl, subst}
 use Rattle.pb_io.specs.Files.{File, IsContent}
 use Rattle.pb_core.specs.Plain.{Protocol}
 use Rattle.pb_lex.specs.declared.error.LexError.TheVariants as E
 use Rattle.pb_lines.specs.Lines.{line_of, status_of}
+use Rattle.pb_lines.specs.declared.refusal.Refusal.{Refusal}
+use Rattle.pb_lines.specs.declared.refusal.Refusal.TheVariants as refusal
+use Rattle.pb_lines.specs.declared.status.Status.{Status}
+use Rattle.pb_lines.specs.declared.status.Status.TheVariants as S
 use Rattle.pb_lines.specs.declared.status.Status.TheVariants.{Done}
+use Rattle.pb_ctree.specs.declared.tree.CTree.{CTree}
+use Rattle.pb_ctree.specs.Trees.{IsTree}
+use Rattle.pb_compile.specs.Compiled.{IsCompiled}
 use Rattle.pb_compile.specs.Verdict.{IsAcceptedAs, IsVerdict, IsKept, OnTree}
 use Rattle.pb_compile.specs.declared.verdict.Verdict.{Verdict}
 use Rattle.pb_compile.specs.declared.verdict.Verdict.TheVariants as verdict
 use Rattle.pb_cli.specs.Reply.{IsFileReply, IsTold, OnShort, most_bytes, refusal_of}
+use Rattle.pb_cli.specs.Run.{IsFileRefusal, IsTreeOf}
 
 -- an accepted file keeps its rules
 pub checked : (bytes : List ℕ) (p : Protocol) → IsAcceptedAs bytes p → OnTree bytes IsKept
@@ -39,3 +47,52 @@ module _ (IsText : List ℕ → List ℕ → Type 0) (name : List ℕ) (holds : 
   told (verdict.Broken rule place n role index) is = is_told (verdict.Broken rule place n role index) is
   told verdict.TooManyCases is = inr (is_told verdict.TooManyCases is)
   told verdict.NoMemory is = refl
+
+-- ---- a file that isn't taken, whatever is wanted of it
+
+-- no refusal says that all is done
+pub never_done : (why : Refusal) → status_of why ≢ Done
+never_done refusal.Usage e = absurd cc
+never_done refusal.ReadFault e = absurd cc
+never_done refusal.FileBytes e = absurd cc
+never_done refusal.NoMemory e = absurd cc
+never_done (refusal.Syntax place) e = absurd cc
+never_done (refusal.Limit limit place) e = absurd cc
+never_done refusal.Breakpoints e = absurd cc
+never_done (refusal.Broken rule place n at) e = absurd cc
+never_done (refusal.Text place) e = absurd cc
+never_done (refusal.Schedule line) e = absurd cc
+never_done refusal.Events e = absurd cc
+never_done (refusal.OutOfRange n range) e = absurd cc
+never_done refusal.Ranks e = absurd cc
+never_done refusal.WordsInFlight e = absurd cc
+never_done (refusal.Turns turns) e = absurd cc
+
+no_file : (IsText : List ℕ → List ℕ → Type 0) (name : List ℕ) (holds : Option (List File)) → OnShort name holds (λ bytes. ⊥) → (text : List ℕ) → IsFileReply IsText name holds Done text
+no_file IsText name None is text = tt
+no_file IsText name (Some files) is text = absurd is.1
+
+wider : (IsText : List ℕ → List ℕ → Type 0) (name : List ℕ) (holds : Option (List File)) (status : Status) (text : List ℕ)
+    → IsFileReply (λ bytes written. ⊥) name holds status text → IsFileReply IsText name holds status text
+wider IsText name holds S.Done text is = no_file IsText name holds is text
+wider IsText name holds S.Refused text is = is
+wider IsText name holds S.Limit text is = is
+wider IsText name holds S.ReadFault text is = is
+wider IsText name holds S.NoMemory text is = is
+wider IsText name holds other text is = absurd is
+
+pub unread : (IsText : List ℕ → List ℕ → Type 0) (name : List ℕ) (holds : Option (List File)) (why : Refusal)
+    → IsFileRefusal name holds (status_of why) (line_of why) → IsFileReply IsText name holds (status_of why) (line_of why)
+unread IsText name holds why is = wider IsText name holds (status_of why) (line_of why) is.1
+
+pub refused : (name : List ℕ) (holds : Option (List File)) (bytes : List ℕ) → IsContent holds name bytes → length bytes ≤ most_bytes → (v : Verdict) → IsVerdict bytes v
+    → IsFileRefusal name holds (status_of (refusal_of v)) (line_of (refusal_of v))
+refused name holds bytes read short v is = (never_done (refusal_of v), told (λ bytes written. ⊥) name holds bytes read short v is)
+
+-- ---- a tree that is simulated
+
+pub compiled : (name : List ℕ) (holds : Option (List File)) (bytes : List ℕ) (p : Protocol) (tree : CTree) → IsContent holds name bytes → length bytes ≤ most_bytes → IsCompiled bytes p tree → IsTreeOf name holds tree
+compiled name holds bytes p tree read short is = record { bytes = bytes; protocol = p; content = read; short = short; compiled = is }
+
+pub made : (bytes : List ℕ) (p : Protocol) (tree : CTree) → IsCompiled bytes p tree → IsTree tree
+made bytes p tree is = is.projected.made

@@ -7,8 +7,10 @@ use Rattle.pb_lines.specs.declared.refusal.Refusal.{Refusal}
 use Rattle.pb_lines.specs.declared.refusal.Refusal.TheVariants as refusal
 use Rattle.pb_lines.specs.declared.status.Status.{Status}
 use Rattle.pb_lines.specs.declared.status.Status.TheVariants.{Done, NoMemory}
-use Rattle.pb_cli.specs.Reply.{Answers, Says, SaysOf, SaysReply, bytes_of}
+use Rattle.pb_cli.specs.Program.{SaysReply}
+use Rattle.pb_cli.specs.Reply.{Answers, Says, SaysOf, bytes_of}
 use Rattle.pb_cli.specs.declared.answer.Answer.{Answer}
+use Rattle.pb_cli.proofs.Answered.{never_done}
 
 pub said : (Belong : Status → List ℕ → Type 0) (answer : Result Answer Refusal) (result : Status) (old new : Option (List ℕ))
     → Answers answer Belong → Answers answer (λ status text. Says status text result old new) → SaysOf Belong result old new
@@ -24,4 +26,4 @@ no_memory post (Some (gen name)) holds result old new says = (NoMemory, line_of 
 no_memory post (Some (project name)) holds result old new says = (NoMemory, line_of refusal.NoMemory, refl, says)
 no_memory post (Some (sim name options)) holds result old new says = inl (refusal.NoMemory, tt, says)
 no_memory post (Some (replay name schedule n)) holds result old new says = inl (refusal.NoMemory, tt, says)
-no_memory post (Some (run name options)) holds result old new says = (NoMemory, line_of refusal.NoMemory, refl, says)
+no_memory post (Some (run name options)) holds result old new says = inl (NoMemory, line_of refusal.NoMemory, (never_done refusal.NoMemory, refl), says)

@@ -7,7 +7,6 @@ use Rattle.pb_lex.specs.declared.error.LexError.TheVariants as E
 use Rattle.pb_io.specs.Files.{File, content_of, IsSureOf}
 use Rattle.pb_io.specs.Sinks.{AppendsFront}
 use Rattle.pb_words.specs.Request.{Request, check, gen, project, sim, replay, run}
-use Rattle.pb_simulate.specs.Commands.{SaysSim, SaysReplay}
 use Rattle.pb_lines.specs.Lines.{accepted_line, line_of, status_of}
 use Rattle.pb_lines.specs.declared.refusal.Refusal.{Refusal}
 use Rattle.pb_lines.specs.declared.refusal.Refusal.TheVariants as refusal
@@ -96,17 +95,6 @@ Says status text result old new = ((result ≡ status) × Appends old new text) 
 -- so it was with a status and a text that belong together
 abbrev pub SaysOf : (Status → List ℕ → Type 0) → Status → Option (List ℕ) → Option (List ℕ) → Type 0
 SaysOf Belong result old new = (status : Status) × (text : List ℕ) × Belong status text × Says status text result old new
-
--- What is said where words ask for this, but for a write that failed: a status and a text that belong to the words and the
--- files. The program has no `run` yet. Simulations take their words from `post`, by seed, rank and number
-abbrev pub SaysReply : (ℕ → ℕ → ℕ → ℕ → Type 0) → Option Request → Option (List File) → Status → Option (List ℕ) → Option (List ℕ) → Type 0
-SaysReply post None holds result old new = SaysOf IsUsage result old new
-SaysReply post (Some (check name)) holds result old new = SaysOf (IsFileReply (Makes W.Verdict) name holds) result old new
-SaysReply post (Some (gen name)) holds result old new = SaysOf (IsFileReply (Makes W.Text) name holds) result old new
-SaysReply post (Some (project name)) holds result old new = SaysOf (IsFileReply (Makes W.Layout) name holds) result old new
-SaysReply post (Some (sim name options)) holds result old new = SaysSim post name options holds result old new
-SaysReply post (Some (replay name schedule n)) holds result old new = SaysReplay post name schedule n holds result old new
-SaysReply post (Some (run name options)) holds result old new = SaysOf IsUsage result old new
 
 -- a steady folder that holds each file that the words name
 abbrev pub IsSureOfForm : Option Request → Bool → Option (List File) → Type 0

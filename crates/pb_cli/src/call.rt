@@ -3,10 +3,12 @@ ghost use Rattle.std.specs.String.{string_bytes};
 ghost use Rattle.pb_io.specs.Faults.{Rose};
 ghost use Rattle.pb_io.specs.Files.{IsSureOf};
 ghost use Rattle.pb_words.specs.Request.{AsksForFew, request, request_of};
-ghost use Rattle.pb_cli.specs.Reply.{IsFileReply, IsSureOfForm, Makes, SaysOf, SaysReply};
+ghost use Rattle.pb_cli.specs.Program.{SaysReply};
+ghost use Rattle.pb_cli.specs.Reply.{IsFileReply, IsSureOfForm, Makes, SaysOf};
 
 use crate::answer::Wanted;
 use crate::file::file_answer;
+use crate::running::run;
 use crate::saying::{refuse, say};
 use pb_io::{Folder, Sink};
 use pb_lines::{Refusal, Status};
@@ -38,10 +40,14 @@ use std::alloc::Global;
 /// has a step and not all is at its end, and `Turns` where all events were made and some rank has a step. `Done` comes only
 /// where all ranks have ended and no message is left. The log of the events made stands before the line.
 ///
-/// `Usage` comes where the words are in no form, and for `run`, which this program doesn't have yet. `ReadFault` comes only where
-/// the folder's count of faults rose in this call, and never where a steady folder holds the files; `WriteFault` only where the
-/// sink's did, and then some first bytes of what belongs there were written. Want of memory, `NoMemory`, may come in place of
-/// each of the others.
+/// `run FILE` with options compiles a protocol file, and simulates the tree of its C text as `sim` simulates a text, by a seed.
+/// Where the file isn't accepted it writes the line that `check` writes. It never answers `Stuck`, `Text` or `Schedule`. What
+/// its ranks do is, up to swaps of actions of different ranks, a prefix of the protocol's sequential run under the answers that
+/// were given, and where it answers `Done` it is a whole such run.
+///
+/// `Usage` comes only where the words are in no form. `ReadFault` comes only where the folder's count of faults rose in this
+/// call, and never where a steady folder holds the files; `WriteFault` only where the sink's did, and then some first bytes of
+/// what belongs there were written. Want of memory, `NoMemory`, may come in place of each of the others.
 ///
 /// `answers` gives word number `count` of a rank, from 0, by a seed, the rank and that number.
 pub fn pabble<F: Folder, O: Sink, A: Fn(u64, u32, u64) -> u32 + Drop>(
@@ -65,7 +71,7 @@ pub fn pabble<F: Folder, O: Sink, A: Fn(u64, u32, u64) -> u32 + Drop>(
     }
 }
 
-/// Does a command. `run`, which the program doesn't have yet, is in no form.
+/// Does a command.
 fn perform<F: Folder, O: Sink, A: Fn(u64, u32, u64) -> u32 + Drop>(
     alloc: Global,
     command: Command,
@@ -89,7 +95,7 @@ fn perform<F: Folder, O: Sink, A: Fn(u64, u32, u64) -> u32 + Drop>(
         Command::Replay(text, schedule, n) => {
             replay(alloc, text, schedule, n, answers, folder, out)
         }
-        Command::Run(_, _) => refuse(out, Refusal::Usage),
+        Command::Run(file, options) => run(alloc, file, options, answers, folder, out),
     }
 }
 

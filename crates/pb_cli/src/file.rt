@@ -2,9 +2,11 @@
 
 ghost use Rattle.std.specs.Prelude.{◌≤◌, length, IfOk, IfErr, IsErrOf};
 ghost use Rattle.pb_io.specs.Faults.{Rose};
-ghost use Rattle.pb_io.specs.Files.{IsSureOf};
+ghost use Rattle.pb_io.specs.Files.{IsContent, IsSureOf};
+ghost use Rattle.pb_lines.specs.Lines.{line_of, status_of};
 ghost use Rattle.pb_compile.specs.Verdict.{IsVerdict};
 ghost use Rattle.pb_cli.specs.Reply.{Answers, IsFileReply, Makes, bytes_of, most_bytes};
+ghost use Rattle.pb_cli.specs.Run.{IsFileRefusal};
 
 use crate::answer::{Answer, Wanted};
 use crate::refusing::refusal_of;
@@ -16,8 +18,24 @@ use std::alloc::Global;
 /// The greatest number of bytes of a protocol file.
 const MOST_BYTES: u32 = 1_048_576;
 
+/// The bytes of a protocol file, or why there are none.
+pub fn bytes_in<F: Folder>(alloc: Global, folder: &mut F, file: &str) -> Result<Vec<u8>, Refusal>
+    ensures whole { IfOk result (λ bytes. IsContent (F.holds folder.old) file.now bytes.items) }
+    ensures short { IfOk result (λ bytes. length bytes.items ≤ most_bytes) }
+    ensures denied { IfErr result (λ why. IsFileRefusal file.now (F.holds folder.old) (status_of why) (line_of why)) }
+    ensures fault { IsErrOf result Refusal.ReadFault → Rose (F.faults folder.old) (F.faults folder.new) }
+    ensures sure { IsErrOf result Refusal.ReadFault → IsSureOf (F.steady folder.old) (F.holds folder.old) file.now → ⊥ }
+{
+    match read_all(alloc, folder, file, MOST_BYTES) {
+        Ok(bytes) => Ok(bytes),
+        Err(InFault::ReadFault) => Err(Refusal::ReadFault),
+        Err(InFault::TooLong) => Err(Refusal::FileBytes),
+        Err(InFault::NoMemory) => Err(Refusal::NoMemory),
+    }
+}
+
 /// What is wanted of the protocol in a file, or why there is none.
-#[tactic(auto, using(crate::proofs::Answered::done, crate::proofs::Answered::told))]
+#[tactic(auto, using(crate::proofs::Answered::done, crate::proofs::Answered::told, crate::proofs::Answered::unread))]
 pub fn file_answer<F: Folder>(
     alloc: Global,
     folder: &mut F,
@@ -28,11 +46,9 @@ pub fn file_answer<F: Folder>(
     ensures fault { IsErrOf result Refusal.ReadFault → Rose (F.faults folder.old) (F.faults folder.new) }
     ensures sure { IsErrOf result Refusal.ReadFault → IsSureOf (F.steady folder.old) (F.holds folder.old) file.now → ⊥ }
 {
-    let bytes = match read_all(alloc, folder, file, MOST_BYTES) {
+    let bytes = match bytes_in(alloc, folder, file) {
         Ok(bytes) => bytes,
-        Err(InFault::ReadFault) => return Err(Refusal::ReadFault),
-        Err(InFault::TooLong) => return Err(Refusal::FileBytes),
-        Err(InFault::NoMemory) => return Err(Refusal::NoMemory),
+        Err(why) => return Err(why),
     };
     match text_answer(alloc, &bytes, wanted) {
         Ok(answer) => Ok(answer),

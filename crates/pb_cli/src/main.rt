@@ -8,6 +8,7 @@ mod answer;
 mod call;
 mod file;
 mod refusing;
+mod running;
 mod saying;
 #[cfg(test)]
 mod tests;

@@ -549,7 +549,7 @@ fn words_in_no_form(rt: HostRuntime) -> Result<(), Fail> {
         &["-", "p"],
         &["sim", "p"],
         &["replay", "p", "q"],
-        &["run", "p", "--n=3"],
+        &["run", "p"],
     ];
     for form in forms {
         let words = strings(rt.alloc(), form)?;
@@ -587,6 +587,88 @@ fn simulating_the_text_of_a_file(rt: HostRuntime) -> Result<(), Fail> {
         assert_eq!(rt; status, expected);
         assert_eq!(rt; out.taken(), log.as_bytes());
     }
+    Ok(())
+}
+
+/// A message that goes round.
+const RING: &str = "const N = 2..9;
+global protocol P(role W[0..N-1]) {
+  A() from W[i:0..N-2] to W[i+1];
+  A() from W[N-1] to W[0];
+}
+";
+
+/// Messages without an end.
+const ENDLESS: &str = "const N = 2..2;
+global protocol P(role W[0..N-1]) {
+  rec X { A() from W[0] to W[1]; continue X; }
+}
+";
+
+/// A message to a rank that isn't there for N = 2.
+const BROKEN: &str = "const N = 2..9;
+global protocol P(role W[0..N-1]) {
+  A() from W[0] to W[2];
+}
+";
+
+/// The status of `run p` with these options where p has this text, and what was written.
+fn ran(alloc: Global, text: &str, options: &[&str]) -> Result<(Status, Vec<u8>), Fail> {
+    let mut words = strings(alloc, &["run", "p"])?;
+    for option in options {
+        words.push(String::from_str(alloc, option)?)?;
+    }
+    let mut folder = MemFolder::new(files(alloc, text.as_bytes())?, Vec::new(alloc));
+    let mut out = MemSink::new(alloc, 8192, 8192, Vec::new(alloc))?;
+    let status = pabble(alloc, &words, &mut folder, &mut out, word);
+    Ok((status, Vec::from_slice(alloc, out.taken())?))
+}
+
+#[test]
+fn run_goes_round_in_each_mode(rt: HostRuntime) -> Result<(), Fail> {
+    for mode in ["eager", "waiting", "mixed"] {
+        let (status, log) = ran(rt.alloc(), RING, &["--n", "3", "--mode", mode])?;
+        assert_eq!(rt; status, Status::Done, "{mode}");
+        assert_eq!(rt;
+            log.as_slice(),
+            b"0 send 1 A\n1 recv 0 A\n1 send 2 A\n2 recv 1 A\n2 send 0 A\n0 recv 2 A\nended\n".as_slice(),
+            "{mode}"
+        );
+    }
+    Ok(())
+}
+
+#[test]
+fn run_of_what_cannot_be_run(rt: HostRuntime) -> Result<(), Fail> {
+    for (text, n, expected, line) in [
+        (
+            RING,
+            "0",
+            Status::OutOfRange,
+            "pabble: N = 0 outside 2..9\n",
+        ),
+        (FIRST, "1025", Status::Limit, "pabble: limit ranks\n"),
+        (
+            BROKEN,
+            "3",
+            Status::Refused,
+            "pabble: rule 7 at 3:20, N = 2, W[2]\n",
+        ),
+        ("", "2", Status::Refused, "pabble: syntax at 1:1\n"),
+    ] {
+        let (status, written) = ran(rt.alloc(), text, &["--n", n])?;
+        assert_eq!(rt; status, expected, "{line}");
+        assert_eq!(rt; written.as_slice(), line.as_bytes(), "{line}");
+    }
+    Ok(())
+}
+
+#[test]
+fn run_of_a_loop_ends_after_the_events_asked_for(rt: HostRuntime) -> Result<(), Fail> {
+    let (status, written) = ran(rt.alloc(), ENDLESS, &["--n", "2", "--turns", "100"])?;
+    assert_eq!(rt; status, Status::Turns);
+    assert!(rt; written.starts_with(b"0 send 1 A\n"));
+    assert!(rt; written.ends_with(b"\npabble: turns 100\n"));
     Ok(())
 }
 

@@ -5,3 +5,6 @@ returns-in-Sim-clause-reply g c = rw c.in-Sim.is c.sim.ensures.reply
 
 pub returns-in-Replay-clause-reply : goal.returns-in-Replay-clause-reply
 returns-in-Replay-clause-reply g c = rw c.in-Replay.is c.replay.ensures.reply
+
+pub returns-in-Run-clause-reply : goal.returns-in-Run-clause-reply
+returns-in-Run-clause-reply g c = rw c.in-Run.is c.run.ensures.reply

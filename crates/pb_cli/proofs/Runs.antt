@@ -1,0 +1,187 @@
+-- From the simulation of a tree that was compiled to what `run` answers.
+use Rattle.std.proofs.Common.{◌≡◌, ℕ, ◌+◌, ◌*◌, ◌%◌, ◌<◌, ◌≤◌, ◌⊎◌, inl, inr, ℤ, pos, ◌≤ℤ◌, List, [], ◌++◌, length, Option, Some, None, refl, sym, ap, subst, ◌∙◌, append-nil, arith}
+use Rattle.std.specs.Prelude.{Contains}
+use Rattle.std.proofs.lemmas.Int.{ints}
+use Rattle.std.proofs.lemmas.List.Elements.{Contains-get_or}
+use Rattle.pb_io.specs.Files.{File}
+use Rattle.pb_io.specs.Sinks.{AppendsFront}
+use Rattle.pb_affine.specs.declared.range.NRange.{NRange}
+use Rattle.pb_world.specs.Actions.{Action}
+use Rattle.pb_world.specs.Family.{Family}
+use Rattle.pb_world.specs.Theorem.{AllRanks, IsWhole}
+use Rattle.pb_world.specs.World as W
+use Rattle.pb_world.specs.World.{World, Reached, CanStep}
+use Rattle.pb_core.specs.Plain.{Protocol}
+use Rattle.pb_core.specs.Ranks.{total}
+use Rattle.pb_core.specs.Verdict as V
+use Rattle.pb_core.specs.Verdict.{IsIn}
+use Rattle.pb_local.specs.Family.{family}
+use Rattle.pb_local.specs.Tree.{program_of}
+use Rattle.pb_local.specs.WellMade as L
+use Rattle.pb_local.specs.WellMade.{IsInRange}
+use Rattle.pb_ctree.specs.declared.tree.CTree.{CTree}
+use Rattle.pb_shape.specs.Shape.{HasShape}
+use Rattle.pb_shape.specs.Theorem.{sequence_of}
+use Rattle.pb_follow.proofs.Starts.{total_same}
+use Rattle.pb_compile.specs.Compiled.{IsCompiled}
+use Rattle.pb_event.specs.States.{program}
+use Rattle.pb_event.specs.Worlds.{world_of}
+use Rattle.pb_sched.specs.Draws.{pick, word}
+use Rattle.pb_words.specs.declared.options.Modes.{Modes}
+use Rattle.pb_words.specs.declared.options.Options.{Options}
+use Rattle.pb_words.specs.declared.options.Shown.{Shown}
+use Rattle.pb_lines.specs.Lines.{line_of, status_of}
+use Rattle.pb_lines.specs.declared.refusal.Refusal.{Refusal}
+use Rattle.pb_lines.specs.declared.refusal.Refusal.TheVariants as refusal
+use Rattle.pb_lines.specs.declared.status.Status.{Status}
+use Rattle.pb_lines.specs.declared.status.Status.TheVariants as S
+use Rattle.pb_sim.specs.declared.seen.Seen.{Seen}
+use Rattle.pb_sim.specs.declared.standing.Cause.{Cause}
+use Rattle.pb_sim.specs.declared.standing.Standing.TheVariants as T
+use Rattle.pb_sim.specs.Made as D
+use Rattle.pb_sim.specs.Made.{IsNumber, HasStep}
+use Rattle.pb_sim.specs.Scheduled as R
+use Rattle.pb_sim.specs.Scheduled.{Turn, ScheduledRun}
+use Rattle.pb_sim.specs.Standing.{IsGoing}
+use Rattle.pb_play.specs.Plans.{Source, drawn, May}
+use Rattle.pb_play.specs.Plays.{IsPlay}
+use Rattle.pb_play.specs.Endings.{Ran, Stands, IsUnready}
+use Rattle.pb_simulate.specs.Replies as A
+use Rattle.pb_simulate.specs.Replies.{Starts}
+use Rattle.pb_cli.specs.Reply.{Says}
+use Rattle.pb_cli.specs.Run.{MayRun, ranks_of, Begins, RunsTo, IsRunReply, SaysRunReply, IsFileRefusal, IsTreeOf, SaysRun}
+
+-- ---- a run under turns is a run
+
+reached : {S : Type 0} (F : Family S) (answered : ℕ → ℕ → ℕ → Type 0) (may : ℕ → World S → Turn → Type 0) {turns : List Turn} {w : List (ℕ × Action)} {X : World S}
+    → ScheduledRun F answered may turns w X → Reached F w X
+reached F answered may R.start = W.start
+reached F answered may (R.event run allowed turned) = W.event (reached F answered may run) turned.step
+
+-- ---- a draw from a list that isn't empty stands in it
+
+drawn_from : (seed turn : ℕ) (list : List ℕ) → 0 < length list → Contains list (pick seed turn list)
+drawn_from seed turn list some = Contains-get_or list (word seed (2 * turn) % length list) 0 (omega (arith, some))
+
+-- ---- numbers of a range
+
+up_to : (high : Option ℕ) (n : ℕ) → L.IsUpTo n high → V.IsUpTo (pos n) high
+up_to None n is = tt
+up_to (Some high) n is = omega (arith, ints, is)
+
+down_to : (high : Option ℕ) (n : ℕ) → V.IsUpTo (pos n) high → L.IsUpTo n high
+down_to None n is = tt
+down_to (Some high) n is = omega (arith, ints, is)
+
+inside : (range : NRange) (n : ℕ) → IsNumber range (pos n) → IsIn range (pos n)
+inside range n is = record { low = (let low = is.is.low in omega (arith, ints, low)); high = up_to range.high n is.is.high }
+
+number : (range : NRange) (n : ℕ) → IsIn range (pos n) → IsNumber range (pos n)
+number range n is = record { some = omega (arith, ints); is = record { low = (let low = is.low in omega (arith, ints, low)); high = down_to range.high n is.high } }
+
+module _ (bytes : List ℕ) (p : Protocol) (tree : CTree) (n : ℕ) (is : IsCompiled bytes p tree) where
+  range_is : tree.local.range ≡ p.range
+  range_is = is.projected.shape.range
+
+  total_is : D.ranks_of tree (pos n) ≡ total p.roles (pos n)
+  total_is = sym (total_same p (program_of tree.local) (pos n) is.projected.shape)
+
+  within : IsNumber tree.local.range (pos n) → IsIn p.range (pos n)
+  within there = subst (λ (range : NRange). IsIn range (pos n)) range_is (inside tree.local.range n there)
+
+  without : (IsNumber tree.local.range (pos n) → ⊥) → IsIn p.range (pos n) → ⊥
+  without none there = none (number tree.local.range n (subst (λ (range : NRange). IsIn range (pos n)) (sym range_is) there))
+
+  may_run : Starts tree n → MayRun p n
+  may_run starts = record { within = within starts.number; few = subst (λ (count : ℕ). count ≤ 1024) total_is starts.few }
+
+  module _ (may : MayRun p n) where
+    all_ranks : AllRanks (ranks_of p tree n)
+    all_ranks = (is.does (pos n) may.within (let few = may.few in omega (arith, few))).1
+
+    module _ (post : ℕ → ℕ → ℕ → Type 0) (seed : ℕ) (modes : Modes) where
+      module _ (turns : List Turn) (w : List (ℕ × Action)) (x : Seen) (play : IsPlay tree (pos n) post (drawn seed modes) turns w x) where
+        reaches : Reached (ranks_of p tree n) w (world_of x.state)
+        reaches =
+            subst (λ (t : CTree). Reached (family (program_of t.local) (pos n) (sequence_of p (pos n))) w (world_of x.state)) play.tree_is
+            (subst (λ (m : ℤ). Reached (family (program x.state) m (sequence_of p (pos n))) w (world_of x.state)) play.n_is
+            (reached (family (program x.state) x.state.n (sequence_of p (pos n))) post (May tree (pos n) (drawn seed modes)) (play.run.run (sequence_of p (pos n)))))
+
+        begins : Begins p tree n w
+        begins = all_ranks.covered w (world_of x.state) reaches
+
+        -- where nobody has a step, all is done
+        whole : (IsGoing (ranks_of p tree n) (world_of x.state) → ⊥) → IsWhole (ranks_of p tree n) w (world_of x.state)
+        whole still = all_ranks.whole w (world_of x.state) reaches (λ r there can. still (record { rank = r; there = there; can = can }))
+
+        never_stuck : (rank : ℕ) (cause : Cause) → Stands tree (pos n) x (T.Stuck rank cause) → ⊥
+        never_stuck rank cause stands =
+            let it = stands (sequence_of p (pos n)) in
+            let all = whole it.0 in
+            it.1 (record { ended = all.ended; empty = all.empty })
+
+        -- the rank that is drawn has a step
+        never_unready : (t : ℕ) → IsUnready tree (pos n) (drawn seed modes) t x → ⊥
+        never_unready t held =
+            let can = (held.may.ready (sequence_of p (pos n))).ready held.turn.0
+            (subst (λ (r : ℕ). Contains held.may.list r) (sym (ap (λ turn. turn.0) held.may.is)) (drawn_from seed t held.may.list held.may.some)) in
+            held.why (sequence_of p (pos n))
+            (subst (λ (t : CTree). CanStep (family (program_of t.local) x.state.n (sequence_of p (pos n))) (world_of x.state) held.turn.0) (sym play.tree_is)
+            (subst (λ (m : ℤ). CanStep (family (program_of tree.local) m (sequence_of p (pos n))) (world_of x.state) held.turn.0) (sym play.n_is) can.1))
+
+      carried : (most : ℕ) (Q P : List Turn → List (ℕ × Action) → Seen → Type 0)
+          → ((turns : List Turn) (w : List (ℕ × Action)) (x : Seen) → IsPlay tree (pos n) post (drawn seed modes) turns w x → Q turns w x → P turns w x)
+          → Ran tree (pos n) post (drawn seed modes) most Q → Ran tree (pos n) post (drawn seed modes) most (λ turns w x. Begins p tree n w × P turns w x)
+      carried most Q P to ran = record {
+        turns = ran.turns;
+        w = ran.w;
+        x = ran.x;
+        play = ran.play;
+        few = ran.few;
+        is = (begins ran.turns ran.w ran.x ran.play, to ran.turns ran.w ran.x ran.play ran.is);
+      }
+
+  module _ (post : ℕ → ℕ → ℕ → Type 0) (seed : ℕ) (modes : Modes) (most : ℕ) (shown : Shown) where
+    reply : (status : Status) (text : List ℕ) → A.IsReply tree n post (drawn seed modes) most shown seed status text → IsRunReply p tree n post (drawn seed modes) most shown seed status text
+    reply S.Done text (starts, (body, ran, same)) =
+        let may = may_run starts in
+        (may, (body, carried may post seed modes most _ _ (λ turns w x play q. (whole may post seed modes turns w x play (q.0 (sequence_of p (pos n))).0, q.2)) ran, same))
+    reply S.Turns text (starts, (body, ran, same)) =
+        let may = may_run starts in
+        (may, (body, carried may post seed modes most _ _ (λ turns w x play q. (q.0 (sequence_of p (pos n)), q.1, q.3)) ran, same))
+    reply S.Limit text (inl (starts, (body, ran, same))) =
+        let may = may_run starts in
+        inl (may, (body, carried may post seed modes most _ _ (λ turns w x play q. q) ran, same))
+    reply S.Limit text (inr (there, many, same)) = inr (within there, subst (λ (count : ℕ). 1024 < count) total_is many, same)
+    reply S.OutOfRange text (none, same) = (without none, subst (λ (range : NRange). text ≡ line_of (refusal.OutOfRange n range)) range_is same)
+    reply S.NoMemory text (inl same) = inl same
+    reply S.NoMemory text (inr (starts, (body, ran, same))) =
+        let may = may_run starts in
+        inr (may, (body, carried may post seed modes most _ _ (λ turns w x play q. q) ran, same))
+    reply S.Stuck text (rank, cause, (starts, (body, ran, same))) =
+        absurd (never_stuck (may_run starts) post seed modes ran.turns ran.w ran.x ran.play rank cause ran.is.0)
+    reply S.Schedule text (t, (starts, (body, ran, same))) =
+        absurd (never_unready (may_run starts) post seed modes ran.turns ran.w ran.x ran.play t ran.is.1)
+    reply other text is = absurd is
+
+    says : (result : Status) (old new : Option (List ℕ)) → A.SaysReply tree n post (drawn seed modes) most shown seed result old new → SaysRunReply p tree n post (drawn seed modes) most shown seed result old new
+    says result old new (inl (status, text, belongs, said)) = inl (status, text, reply status text belongs, said)
+    says result old new (inr (fails, (text, starts, far, front))) =
+        let may = may_run starts in
+        inr (fails, (text, (may, (text, carried may post seed modes most _ _ (λ turns w x play q. q) far, sym (append-nil text))), front))
+
+module _ (post : ℕ → ℕ → ℕ → ℕ → Type 0) (name : List ℕ) (options : Options) (holds : Option (List File)) (result : Status) (old new : Option (List ℕ)) where
+  pub ran : (tree : CTree) → IsTreeOf name holds tree
+      → A.SaysReply tree options.n (post options.seed) (drawn options.seed options.modes) options.turns options.shown options.seed result old new → SaysRun post name options holds result old new
+  ran tree is told = inr (
+    is.bytes,
+    is.protocol,
+    tree,
+    is.content,
+    is.short,
+    is.compiled,
+    says is.bytes is.protocol tree options.n is.compiled (post options.seed) options.seed options.modes options.turns options.shown result old new told,
+  )
+
+  pub denied : (why : Refusal) → IsFileRefusal name holds (status_of why) (line_of why) → Says (status_of why) (line_of why) result old new → SaysRun post name options holds result old new
+  denied why is said = inl (status_of why, line_of why, is, said)
