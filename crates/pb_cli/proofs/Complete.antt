@@ -1,5 +1,5 @@
 -- Each reply is one of those that may come.
-use Rattle.std.proofs.Common.{◌≡◌, ◌≢◌, ℕ, ◌<◌, ◌≤◌, ◌*◌, ℤ, pos, inl, inr, List, [], ◌∷◌, map, length, Option, None, Some, refl, sym, ap, subst, ◌∙◌, arith}
+use Rattle.std.proofs.Common.{◌≡◌, ◌≢◌, ℕ, ◌<◌, ◌≤◌, pos, inl, inr, List, [], ◌∷◌, map, length, Option, None, Some, refl, sym, ap, subst, ◌∙◌, arith}
 use Rattle.std.specs.Prelude.{Contains, ◌^◌}
 use Rattle.pb_io.specs.Files.{File, content_of}
 use Rattle.pb_core.specs.Plain.{Protocol}
@@ -18,10 +18,9 @@ use Rattle.pb_lines.specs.declared.status.Status.{Status}
 use Rattle.pb_lines.specs.declared.status.Status.TheVariants as S
 use Rattle.pb_compile.specs.Verdict.{IsAcceptedAs, IsVerdict}
 use Rattle.pb_compile.specs.declared.verdict.Verdict.{Verdict}
-use Rattle.pb_compile.specs.declared.verdict.Verdict.TheVariants as verdict
 use Rattle.pb_sched.specs.Outcomes.{IsSchedule}
 use Rattle.pb_sched.specs.declared.schedule.Turn.{Turn}
-use Rattle.pb_sim.specs.Made.{IsNumber, ranks_of}
+use Rattle.pb_sim.specs.Made.{IsNumber}
 use Rattle.pb_play.specs.Plans.{Source, drawn, given, pair_of}
 use Rattle.pb_play.specs.declared.ending.Ending.TheVariants as E
 use Rattle.pb_simulate.specs.Commands as T
@@ -30,7 +29,7 @@ use Rattle.pb_simulate.specs.Replies as R
 use Rattle.pb_simulate.specs.Replies.{Starts}
 use Rattle.pb_cli.specs.declared.answer.Wanted.TheVariants as W
 use Rattle.pb_cli.specs.Reply.{IsFileReply, IsUsage, Makes, Says, SaysOf, most_bytes, refusal_of}
-use Rattle.pb_cli.specs.Run.{MayRun, IsFileRefusal, IsRunReply, SaysRun, SaysRunReply}
+use Rattle.pb_cli.specs.Run.{MayRun, IsRunReply, SaysRun, SaysRunReply}
 use Rattle.pb_cli.specs.Program.{SaysReply}
 use Rattle.pb_cli.specs.Complete.{Comes, Completes, IsComplete}
 use Rattle.pb_exact.proofs.Files.{accepted_has_no_fault, one_meaning}

@@ -1,8 +1,7 @@
 -- A schedule has no line at fault, and one reading.
-use Rattle.std.proofs.Common.{◌≡◌, ℕ, List, refl}
+use Rattle.std.proofs.Common.{◌≡◌, refl}
 use Rattle.pb_lines.specs.declared.refusal.Refusal.TheVariants as refusal
-use Rattle.pb_sched.specs.Outcomes.{Outcome, schedule, bad_line, too_many}
-use Rattle.pb_sched.specs.declared.schedule.Turn.{Turn}
+use Rattle.pb_sched.specs.Outcomes.{schedule, bad_line, too_many}
 use Rattle.pb_sched.proofs.Once.{once}
 use Rattle.pb_exact.specs.Laws.{ScheduleHasNoFault, OneSchedule}
 
