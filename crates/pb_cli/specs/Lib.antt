@@ -1,3 +1,4 @@
+pub mod Complete
 pub mod Program
 pub mod Reply
 pub mod Run

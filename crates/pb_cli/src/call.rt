@@ -3,6 +3,7 @@ ghost use Rattle.std.specs.String.{string_bytes};
 ghost use Rattle.pb_io.specs.Faults.{Rose};
 ghost use Rattle.pb_io.specs.Files.{IsSureOf};
 ghost use Rattle.pb_words.specs.Request.{AsksForFew, request, request_of};
+ghost use Rattle.pb_cli.specs.Complete.{IsComplete};
 ghost use Rattle.pb_cli.specs.Program.{SaysReply};
 ghost use Rattle.pb_cli.specs.Reply.{IsFileReply, IsSureOfForm, Makes, SaysOf};
 
@@ -49,6 +50,10 @@ use std::alloc::Global;
 /// call, and never where a steady folder holds the files; `WriteFault` only where the sink's did, and then some first bytes of
 /// what belongs there were written. Want of memory, `NoMemory`, may come in place of each of the others.
 ///
+/// Where the words are in a form, the files keep the rules and the limits, and N is one of the range with at most 1,024 ranks,
+/// it answers `Done`, or want of memory, or a fault that rose; or, of a simulation, `Stuck`, `Turns` or `Limit`, and of a
+/// schedule `Schedule`.
+///
 /// `answers` gives word number `count` of a rank, from 0, by a seed, the rank and that number.
 pub fn pabble<F: Folder, O: Sink, A: Fn(u64, u32, u64) -> u32 + Drop>(
     alloc: Global,
@@ -56,6 +61,25 @@ pub fn pabble<F: Folder, O: Sink, A: Fn(u64, u32, u64) -> u32 + Drop>(
     folder: &mut F,
     out: &mut O,
     answers: A,
+) -> Status
+    requires { A.IsAlwaysCallable answers }
+    ensures reply { SaysReply (A.post answers) (request (map string_bytes words.now)) (F.holds folder.old) result (O.taken out.old) (O.taken out.new) }
+    ensures complete { IsComplete (request (map string_bytes words.now)) (F.holds folder.old) result }
+    ensures read_fault { result ≡ Status.ReadFault → Rose (F.faults folder.old) (F.faults folder.new) }
+    ensures sure { result ≡ Status.ReadFault
+        → IsSureOfForm (request (map string_bytes words.now)) (F.steady folder.old) (F.holds folder.old) → ⊥ }
+    ensures write_fault { result ≡ Status.WriteFault → Rose (O.faults out.old) (O.faults out.new) }
+{
+    act(alloc, words, answers, folder, out)
+}
+
+/// Does what the words say.
+fn act<F: Folder, O: Sink, A: Fn(u64, u32, u64) -> u32 + Drop>(
+    alloc: Global,
+    words: &[String],
+    answers: A,
+    folder: &mut F,
+    out: &mut O,
 ) -> Status
     requires { A.IsAlwaysCallable answers }
     ensures reply { SaysReply (A.post answers) (request (map string_bytes words.now)) (F.holds folder.old) result (O.taken out.old) (O.taken out.new) }

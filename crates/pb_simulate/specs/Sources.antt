@@ -1,10 +1,11 @@
 -- What a simulation is made of: a C text, and a schedule.
-use Rattle.std.specs.Prelude.{◌≡◌, ℕ, ◌⊎◌, List}
+use Rattle.std.specs.Prelude.{◌≡◌, ℕ, ◌⊎◌, true, All, List}
 use Rattle.pb_text.specs.declared.place.Place.{Place}
 use Rattle.pb_text.specs.declared.quantity.Quantity.{Quantity}
 use Rattle.pb_text.specs.declared.quantity.Quantity.TheVariants as Q
 use Rattle.pb_ctree.specs.declared.body.Bodies.{Bodies}
 use Rattle.pb_ctree.specs.declared.tree.CTree.{CTree}
+use Rattle.pb_ctree.specs.Bodies.{is_body}
 use Rattle.pb_ctree.specs.Texts.{Spells}
 use Rattle.pb_cread.specs.Faults.{IsFault}
 use Rattle.pb_cread.specs.Limits.{KeepsLimits}
@@ -15,9 +16,12 @@ use Rattle.pb_sched.specs.declared.schedule.Schedule.{Schedule}
 use Rattle.pb_lines.specs.declared.refusal.Refusal.{Refusal}
 use Rattle.pb_lines.specs.declared.refusal.Refusal.TheVariants as refusal
 
--- the bytes spell this tree, with some bodies, and keep the limits on texts
+-- The bytes spell this tree, with some bodies, and keep the limits on texts. That of the bodies is so of each value of the type
+-- `Body`; without it one text could be that of other trees
 pub record IsTextOf (bytes : List ℕ) (tree : CTree) : Type 0 where
   pub bodies : Bodies
+  pub prelude : is_body bodies.prelude ≡ true
+  pub list : All (λ body. is_body body ≡ true) bodies.list.items
   pub spells : Spells tree bodies bytes
   pub limits : KeepsLimits (program_of tree.local)
 

@@ -1,11 +1,12 @@
 //! Texts and schedules.
 
-ghost use Rattle.std.specs.Prelude.{◌≤◌, length, IfOk, IfErr, IsErrOf};
+ghost use Rattle.std.specs.Prelude.{◌≡◌, ◌≤◌, true, All, length, IfOk, IfErr, IsErrOf};
+ghost use Rattle.pb_ctree.specs.Bodies.{is_body};
 ghost use Rattle.pb_sched.specs.Outcomes.{IsSchedule};
 ghost use Rattle.pb_simulate.specs.Sources.{IsTextOf, IsNoText, IsNoSchedule};
 
 use pb_cread::{TextFault, read_c};
-use pb_ctree::CTree;
+use pb_ctree::{Bodies, CTree};
 use pb_lines::{Quantity, Refusal};
 use pb_sched::{Schedule, ScheduleFault, read_schedule};
 use std::alloc::Global;
@@ -18,11 +19,25 @@ pub fn read_text(alloc: Global, bytes: &[u8]) -> Result<CTree, Refusal>
     ensures real { IsErrOf result Refusal.ReadFault → ⊥ }
 {
     match read_c(alloc, bytes) {
-        Ok(text) => Ok(text.tree),
+        Ok(text) => {
+            tell_bodies(&text.bodies);
+            Ok(text.tree)
+        }
         Err(TextFault::Unexpected(place)) => Err(Refusal::Text(place)),
         Err(TextFault::TooDeep(place)) => Err(Refusal::Limit(Quantity::TextNesting, place)),
         Err(TextFault::TooMany(place)) => Err(Refusal::Limit(Quantity::TextStatements, place)),
         Err(TextFault::NoMemory) => Err(Refusal::NoMemory),
+    }
+}
+
+/// Tells of each body what its type does: it is whole lines, and none of them is a marker.
+fn tell_bodies(bodies: &Bodies)
+    ensures prelude { is_body bodies.now.prelude ≡ true }
+    ensures list { All (λ body. is_body body ≡ true) bodies.now.list.items }
+{
+    let _prelude = bodies.prelude.bytes();
+    for body in &bodies.list {
+        let _bytes = body.bytes();
     }
 }
 

@@ -1,0 +1,303 @@
+-- Each reply is one of those that may come.
+use Rattle.std.proofs.Common.{◌≡◌, ◌≢◌, ℕ, ◌<◌, ◌≤◌, pos, inl, inr, List, [], ◌∷◌, map, length, Option, None, Some, refl, sym, ap, subst, ◌∙◌, arith}
+use Rattle.std.specs.Prelude.{Contains, ◌^◌}
+use Rattle.pb_io.specs.Files.{File, content_of}
+use Rattle.pb_core.specs.Plain.{Protocol}
+use Rattle.pb_local.specs.Tree.{Program, program_of}
+use Rattle.pb_local.specs.Ranks.{total}
+use Rattle.pb_ctree.specs.declared.tree.CTree.{CTree}
+use Rattle.pb_words.specs.Request.{Request, check, gen, project, sim, replay, run}
+use Rattle.pb_words.specs.declared.options.Options.{Options}
+use Rattle.pb_words.specs.declared.options.Shown.{Shown}
+use Rattle.pb_words.specs.declared.options.Shown.TheVariants.{Log}
+use Rattle.pb_words.specs.declared.options.Modes.{Modes}
+use Rattle.pb_lines.specs.Lines as L
+use Rattle.pb_lines.specs.declared.refusal.Refusal.{Refusal}
+use Rattle.pb_lines.specs.declared.refusal.Refusal.TheVariants as refusal
+use Rattle.pb_lines.specs.declared.status.Status.{Status}
+use Rattle.pb_lines.specs.declared.status.Status.TheVariants as S
+use Rattle.pb_compile.specs.Verdict.{IsAcceptedAs, IsVerdict}
+use Rattle.pb_compile.specs.declared.verdict.Verdict.{Verdict}
+use Rattle.pb_sched.specs.Outcomes.{IsSchedule}
+use Rattle.pb_sched.specs.declared.schedule.Turn.{Turn}
+use Rattle.pb_sim.specs.Made.{IsNumber}
+use Rattle.pb_play.specs.Plans.{Source, drawn, given, pair_of}
+use Rattle.pb_play.specs.declared.ending.Ending.TheVariants as E
+use Rattle.pb_simulate.specs.Commands as T
+use Rattle.pb_simulate.specs.Sources.{IsTextOf, IsNoText, IsNoSchedule}
+use Rattle.pb_simulate.specs.Replies as R
+use Rattle.pb_simulate.specs.Replies.{Starts}
+use Rattle.pb_cli.specs.declared.answer.Wanted.TheVariants as W
+use Rattle.pb_cli.specs.Reply.{IsFileReply, IsUsage, Makes, Says, SaysOf, most_bytes, refusal_of}
+use Rattle.pb_cli.specs.Run.{MayRun, IsRunReply, SaysRun, SaysRunReply}
+use Rattle.pb_cli.specs.Program.{SaysReply}
+use Rattle.pb_cli.specs.Complete.{Comes, Completes, IsComplete}
+use Rattle.pb_exact.proofs.Files.{accepted_has_no_fault, one_meaning}
+use Rattle.pb_exact.proofs.Texts.{text_has_no_fault, one_text_tree}
+use Rattle.pb_exact.proofs.Schedules.{schedule_has_no_fault}
+use Rattle.pb_exact.proofs.Draws.{drawn_has_a_step}
+
+-- ---- statuses
+
+no_memory : (these : List Status) → Comes these S.NoMemory
+no_memory these = (0, omega arith, refl)
+
+read_fault : (these : List Status) → Comes these S.ReadFault
+read_fault these = (1, omega arith, refl)
+
+write_fault : (these : List Status) → Comes these S.WriteFault
+write_fault these = (2, omega arith, refl)
+
+first : (status : Status) (more : List Status) → Comes (status ∷ more) status
+first status more = (3, omega arith, refl)
+
+second : (a status : Status) (more : List Status) → Comes (a ∷ status ∷ more) status
+second a status more = (4, omega arith, refl)
+
+third : (a b status : Status) (more : List Status) → Comes (a ∷ b ∷ status ∷ more) status
+third a b status more = (5, omega arith, refl)
+
+fourth : (a b c status : Status) (more : List Status) → Comes (a ∷ b ∷ c ∷ status ∷ more) status
+fourth a b c status more = (6, omega arith, refl)
+
+fifth : (a b c d status : Status) (more : List Status) → Comes (a ∷ b ∷ c ∷ d ∷ status ∷ more) status
+fifth a b c d status more = (7, omega arith, refl)
+
+-- what is said is the status, or a write failed
+said : (these : List Status) (status result : Status) (text : List ℕ) (old new : Option (List ℕ)) → Comes these status → Says status text result old new → Comes these result
+said these status result text old new is (inl (same, went)) = subst (Comes these) (sym same) is
+said these status result text old new is (inr (same, front)) = subst (Comes these) (sym same) (write_fault these)
+
+broken_off : (these : List Status) (result : Status) → result ≡ S.WriteFault → Comes these result
+broken_off these result same = subst (Comes these) (sym same) (write_fault these)
+
+-- ---- usage
+
+abbrev NotUsage : Status → Type 0
+NotUsage S.Usage = ⊥
+NotUsage other = Unit {0}
+
+never : (status : Status) → NotUsage status → status ≢ S.Usage
+never status is e = subst NotUsage e is
+
+said_not : (status result : Status) (text : List ℕ) (old new : Option (List ℕ)) → NotUsage status → Says status text result old new → result ≢ S.Usage
+said_not status result text old new is (inl (same, went)) = never result (subst NotUsage (sym same) is)
+said_not status result text old new is (inr (same, front)) = never result (subst NotUsage (sym same) tt)
+
+-- ---- protocol files
+
+file_not : (IsText : List ℕ → List ℕ → Type 0) (name : List ℕ) (holds : Option (List File)) (status : Status) (text : List ℕ) → IsFileReply IsText name holds status text → NotUsage status
+file_not IsText name holds S.Usage text reply = absurd reply
+file_not IsText name holds other text reply = tt
+
+refused_is : S.Refused ≡ S.NoMemory → ⊥
+refused_is e = absurd cc
+
+limit_is : S.Limit ≡ S.NoMemory → ⊥
+limit_is e = absurd cc
+
+module _ (IsText : List ℕ → List ℕ → Type 0) (name : List ℕ) (files : List File) (p : Protocol) (few : length (content_of files name) ≤ most_bytes) (is : IsAcceptedAs (content_of files name) p)
+    (these : List Status) where
+  -- the verdict is want of memory alone
+  only : (v : Verdict) (status : Status) → IsVerdict (content_of files name) v → status ≡ L.status_of (refusal_of v) → status ≡ S.NoMemory
+  only v status told same = same ∙ ap (λ (w : Verdict). L.status_of (refusal_of w)) (accepted_has_no_fault (content_of files name) p is v told)
+
+  file_comes : Comes these S.Done → (status : Status) (text : List ℕ) → IsFileReply IsText name (Some files) status text → Comes these status
+  file_comes done S.Done text reply = done
+  file_comes done S.NoMemory text reply = no_memory these
+  file_comes done S.ReadFault text reply = read_fault these
+  file_comes done S.Refused text (v, told, same, line) = absurd (refused_is (only v S.Refused told.1 same))
+  file_comes done S.Limit text (inl (more, line)) = absurd (omega (arith, few, more))
+  file_comes done S.Limit text (inr (v, told, same, line)) = absurd (limit_is (only v S.Limit told.1 same))
+  file_comes done other text reply = absurd reply
+
+module _ (IsText : List ℕ → List ℕ → Type 0) (name : List ℕ) (result : Status) (old new : Option (List ℕ)) where
+  file_complete : (holds : Option (List File)) → SaysOf (IsFileReply IsText name holds) result old new → (result ≢ S.Usage) × Completes (check name) holds result
+  file_complete None (status, text, reply, says) = (said_not status result text old new (file_not IsText name None status text reply) says, tt)
+  file_complete (Some files) (status, text, reply, says) = (
+    said_not status result text old new (file_not IsText name (Some files) status text reply) says,
+    λ p few is. said (S.Done ∷ []) status result text old new (file_comes IsText name files p few is (S.Done ∷ []) (first S.Done []) status text reply) says,
+  )
+
+-- ---- runs of protocol files
+
+run_not : (p : Protocol) (tree : CTree) (n : ℕ) (post : ℕ → ℕ → ℕ → Type 0) (source : Source) (most : ℕ) (shown : Shown) (seed : ℕ) (status : Status) (text : List ℕ)
+    → IsRunReply p tree n post source most shown seed status text → NotUsage status
+run_not p tree n post source most shown seed S.Usage text reply = absurd reply
+run_not p tree n post source most shown seed other text reply = tt
+
+abbrev run_statuses : List Status
+run_statuses = S.Done ∷ S.Turns ∷ S.Limit ∷ []
+
+run_comes : (p : Protocol) (tree : CTree) (n : ℕ) (post : ℕ → ℕ → ℕ → Type 0) (source : Source) (most : ℕ) (shown : Shown) (seed : ℕ) → MayRun p n → (status : Status) (text : List ℕ)
+    → IsRunReply p tree n post source most shown seed status text → Comes run_statuses status
+run_comes p tree n post source most shown seed may S.Done text reply = first S.Done (S.Turns ∷ S.Limit ∷ [])
+run_comes p tree n post source most shown seed may S.Turns text reply = second S.Done S.Turns (S.Limit ∷ [])
+run_comes p tree n post source most shown seed may S.Limit text reply = third S.Done S.Turns S.Limit []
+run_comes p tree n post source most shown seed may S.NoMemory text reply = no_memory run_statuses
+run_comes p tree n post source most shown seed may S.OutOfRange text reply = absurd (reply.0 may.within)
+run_comes p tree n post source most shown seed may other text reply = absurd reply
+
+module _ (p : Protocol) (tree : CTree) (n : ℕ) (post : ℕ → ℕ → ℕ → Type 0) (source : Source) (most : ℕ) (shown : Shown) (seed : ℕ) (result : Status) (old new : Option (List ℕ)) where
+  run_reply : SaysRunReply p tree n post source most shown seed result old new → (result ≢ S.Usage) × (MayRun p n → Comes run_statuses result)
+  run_reply (inl (status, text, reply, says)) = (
+    said_not status result text old new (run_not p tree n post source most shown seed status text reply) says,
+    λ may. said run_statuses status result text old new (run_comes p tree n post source most shown seed may status text reply) says,
+  )
+  run_reply (inr (same, rest)) = (never result (subst NotUsage (sym same) tt), λ may. broken_off run_statuses result same)
+
+run_complete : (post : ℕ → ℕ → ℕ → ℕ → Type 0) (name : List ℕ) (options : Options) (holds : Option (List File)) (result : Status) (old new : Option (List ℕ))
+    → SaysRun post name options holds result old new → (result ≢ S.Usage) × Completes (run name options) holds result
+run_complete post name options None result old new (inl (status, text, reply, says)) =
+    (said_not status result text old new (file_not (λ bytes written. ⊥) name None status text reply.1) says, tt)
+run_complete post name options (Some files) result old new (inl (status, text, reply, says)) = (
+  said_not status result text old new (file_not (λ bytes written. ⊥) name (Some files) status text reply.1) says,
+  λ p few is may. said run_statuses status result text old new
+      (file_comes (λ bytes written. ⊥) name files p few is run_statuses (first S.Done (S.Turns ∷ S.Limit ∷ [])) status text reply.1) says,
+)
+run_complete post name options None result old new (inr (bytes, p, tree, content, short, compiled, reply)) =
+    ((run_reply p tree options.n (post options.seed) (drawn options.seed options.modes) options.turns options.shown options.seed result old new reply).0, tt)
+run_complete post name options (Some files) result old new (inr (bytes, p, tree, content, short, compiled, reply)) =
+    let r = run_reply p tree options.n (post options.seed) (drawn options.seed options.modes) options.turns options.shown options.seed result old new reply in
+    (r.0, λ q few is may. r.1 (subst (λ (x : Protocol). MayRun x options.n) (one_meaning bytes q p (subst (λ (b : List ℕ). IsAcceptedAs b q) (sym content) is) compiled.accepted) may))
+
+-- ---- simulations
+
+abbrev sim_statuses : List Status → List Status
+sim_statuses more = S.Done ∷ S.Stuck ∷ S.Turns ∷ S.Limit ∷ more
+
+-- why a text isn't taken
+untaken_not : (IsRefused : List ℕ → Refusal → Type 0) (name : List ℕ) (holds : Option (List File)) (why : Refusal) → T.IsUntaken IsRefused name holds why → NotUsage (L.status_of why)
+untaken_not IsRefused name holds refusal.ReadFault is = tt
+untaken_not IsRefused name holds refusal.NoMemory is = tt
+untaken_not IsRefused name holds refusal.FileBytes is = tt
+untaken_not IsRefused name holds (refusal.Text place) is = tt
+untaken_not IsRefused name holds (refusal.Limit limit place) is = tt
+untaken_not IsRefused name holds (refusal.Schedule line) is = tt
+untaken_not IsRefused name holds refusal.Events is = tt
+untaken_not IsRefused name holds other is = absurd is
+
+-- where want of memory alone is true of the bytes
+module _ (IsRefused : List ℕ → Refusal → Type 0) (name : List ℕ) (files : List File) (few : length (content_of files name) ≤ T.most_bytes)
+    (only : (why : Refusal) → IsRefused (content_of files name) why → why ≡ refusal.NoMemory) (these : List Status) where
+  by_law : (why : Refusal) → IsRefused (content_of files name) why → Comes these (L.status_of why)
+  by_law why is = subst (λ (w : Refusal). Comes these (L.status_of w)) (sym (only why is)) (no_memory these)
+
+  untaken_comes : (why : Refusal) → T.IsUntaken IsRefused name (Some files) why → Comes these (L.status_of why)
+  untaken_comes refusal.ReadFault is = read_fault these
+  untaken_comes refusal.NoMemory is = no_memory these
+  untaken_comes refusal.FileBytes is = absurd (omega (arith, few, is))
+  untaken_comes (refusal.Text place) is = by_law (refusal.Text place) is.1
+  untaken_comes (refusal.Limit limit place) is = by_law (refusal.Limit limit place) is.1
+  untaken_comes (refusal.Schedule line) is = by_law (refusal.Schedule line) is.1
+  untaken_comes refusal.Events is = by_law refusal.Events is.1
+  untaken_comes other is = absurd is
+
+  refuses_comes : (result : Status) (old new : Option (List ℕ)) → T.Refuses (T.IsUntaken IsRefused name (Some files)) result old new → Comes these result
+  refuses_comes result old new (why, is, says) = said these (L.status_of why) result (L.line_of why) old new (untaken_comes why is) says
+
+refuses_not : (IsRefused : List ℕ → Refusal → Type 0) (name : List ℕ) (holds : Option (List File)) (result : Status) (old new : Option (List ℕ))
+    → T.Refuses (T.IsUntaken IsRefused name holds) result old new → result ≢ S.Usage
+refuses_not IsRefused name holds result old new (why, is, says) = said_not (L.status_of why) result (L.line_of why) old new (untaken_not IsRefused name holds why is) says
+
+module _ (tree : CTree) (n : ℕ) (post : ℕ → ℕ → ℕ → Type 0) (source : Source) (most : ℕ) (shown : Shown) (seed : ℕ) where
+  reply_not : (status : Status) (text : List ℕ) → R.IsReply tree n post source most shown seed status text → NotUsage status
+  reply_not S.Usage text reply = absurd reply
+  reply_not other text reply = tt
+
+  says_not : (result : Status) (old new : Option (List ℕ)) → R.SaysReply tree n post source most shown seed result old new → result ≢ S.Usage
+  says_not result old new (inl (status, text, reply, says)) = said_not status result text old new (reply_not status text reply) says
+  says_not result old new (inr (same, rest)) = never result (subst NotUsage (sym same) tt)
+
+  module _ (starts : Starts tree n) (more : List Status) (scheduled : (t : ℕ) (text : List ℕ) → R.IsTold tree n post source most shown seed (E.Refused t) text → Comes (sim_statuses more) S.Schedule) where
+    reply_comes : (status : Status) (text : List ℕ) → R.IsReply tree n post source most shown seed status text → Comes (sim_statuses more) status
+    reply_comes S.Done text reply = first S.Done (S.Stuck ∷ S.Turns ∷ S.Limit ∷ more)
+    reply_comes S.Stuck text reply = second S.Done S.Stuck (S.Turns ∷ S.Limit ∷ more)
+    reply_comes S.Turns text reply = third S.Done S.Stuck S.Turns (S.Limit ∷ more)
+    reply_comes S.Limit text reply = fourth S.Done S.Stuck S.Turns S.Limit more
+    reply_comes S.Schedule text reply = scheduled reply.0 text reply.1
+    reply_comes S.NoMemory text reply = no_memory (sim_statuses more)
+    reply_comes S.OutOfRange text reply = absurd (reply.0 starts.number)
+    reply_comes other text reply = absurd reply
+
+    says_comes : (result : Status) (old new : Option (List ℕ)) → R.SaysReply tree n post source most shown seed result old new → Comes (sim_statuses more) result
+    says_comes result old new (inl (status, text, reply, says)) = said (sim_statuses more) status result text old new (reply_comes status text reply) says
+    says_comes result old new (inr (same, rest)) = broken_off (sim_statuses more) result same
+
+-- no rank that a seed draws is refused
+never_refused : (tree : CTree) (n : ℕ) (post : ℕ → ℕ → ℕ → Type 0) (draws : ℕ) (modes : Modes) (most : ℕ) (shown : Shown) (seed t : ℕ) (text : List ℕ)
+    → R.IsTold tree n post (drawn draws modes) most shown seed (E.Refused t) text → ⊥
+never_refused tree n post draws modes most shown seed t text (starts, (body, ran, whole)) =
+    drawn_has_a_step tree (pos n) draws modes t ran.x ran.play.tree_is ran.play.n_is ran.is.1
+
+within_64 : (n : ℕ) → n ≤ 67108864 → n < 2 ^ 64
+within_64 n few = omega (arith, few)
+
+-- trees of one program start for the same N
+starts_too : (t u : CTree) (n : ℕ) → program_of t.local ≡ program_of u.local → Starts t n → Starts u n
+starts_too t u n same starts = record {
+  number = subst (λ (p : Program). IsNumber p.range (pos n)) same starts.number;
+  few = subst (λ (p : Program). total p.roles (pos n) ≤ 1024) same starts.few;
+}
+
+module _ (name : List ℕ) (files : List File) (n : ℕ) (t u : CTree) (few : length (content_of files name) ≤ T.most_bytes) where
+  starts_here : IsTextOf (content_of files name) t → IsTextOf (content_of files name) u → Starts t n → Starts u n
+  starts_here a b starts = starts_too t u n (one_text_tree (content_of files name) t u (within_64 (length (content_of files name)) few) a b) starts
+
+sim_complete : (post : ℕ → ℕ → ℕ → ℕ → Type 0) (name : List ℕ) (options : Options) (holds : Option (List File)) (result : Status) (old new : Option (List ℕ))
+    → T.SaysSim post name options holds result old new → (result ≢ S.Usage) × Completes (sim name options) holds result
+sim_complete post name options None result old new (inl refuses) = (refuses_not IsNoText name None result old new refuses, tt)
+sim_complete post name options None result old new (inr (u, told, says)) =
+    (says_not u options.n (post options.seed) (drawn options.seed options.modes) options.turns options.shown options.seed result old new says, tt)
+sim_complete post name options (Some files) result old new (inl refuses) = (
+  refuses_not IsNoText name (Some files) result old new refuses,
+  λ t few is starts. refuses_comes IsNoText name files few (text_has_no_fault (content_of files name) t is) (sim_statuses []) result old new refuses,
+)
+sim_complete post name options (Some files) result old new (inr (u, told, says)) = (
+  says_not u options.n (post options.seed) (drawn options.seed options.modes) options.turns options.shown options.seed result old new says,
+  λ t few is starts. says_comes u options.n (post options.seed) (drawn options.seed options.modes) options.turns options.shown options.seed (starts_here name files options.n t u few is told.1 starts) []
+      (λ k text reply. absurd (never_refused u options.n (post options.seed) options.seed options.modes options.turns options.shown options.seed k text reply)) result old new says,
+)
+
+-- ---- simulations by a schedule
+
+module _ (post : ℕ → ℕ → ℕ → ℕ → Type 0) (name schedule : List ℕ) (n : ℕ) (result : Status) (old new : Option (List ℕ)) where
+  replay_not : (holds : Option (List File)) → T.SaysReplay post name schedule n holds result old new → result ≢ S.Usage
+  replay_not holds (inl refuses) = refuses_not IsNoText name holds result old new refuses
+  replay_not holds (inr (u, told, inl refuses)) = refuses_not IsNoSchedule schedule holds result old new refuses
+  replay_not holds (inr (u, told, inr (seed, turns, read, says))) = says_not u n (post seed) (given (map pair_of turns)) (length turns) Log 0 result old new says
+
+  replay_complete : (holds : Option (List File)) → T.SaysReplay post name schedule n holds result old new → (result ≢ S.Usage) × Completes (replay name schedule n) holds result
+  replay_complete None said = (replay_not None said, tt)
+  replay_complete (Some files) said = (replay_not (Some files) said, λ t few is starts seed turns short read. on t few is starts seed turns short read said) where
+    on : (t : CTree) → length (content_of files name) ≤ T.most_bytes → IsTextOf (content_of files name) t → Starts t n → (seed : ℕ) (turns : List Turn) → length (content_of files schedule) ≤ T.most_bytes
+        → IsSchedule (content_of files schedule) seed turns → T.SaysReplay post name schedule n (Some files) result old new → Comes (sim_statuses (S.Schedule ∷ [])) result
+    on t few is starts seed turns short read (inl refuses) = refuses_comes IsNoText name files few (text_has_no_fault (content_of files name) t is) (sim_statuses (S.Schedule ∷ [])) result old new refuses
+    on t few is starts seed turns short read (inr (u, told, inl refuses)) =
+        refuses_comes IsNoSchedule schedule files short (schedule_has_no_fault (content_of files schedule) seed turns read) (sim_statuses (S.Schedule ∷ [])) result old new refuses
+    on t few is starts seed turns short read (inr (u, told, inr (other, others, own, says))) =
+        says_comes u n (post other) (given (map pair_of others)) (length others) Log 0 (starts_here name files n t u few is told.1 starts) (S.Schedule ∷ [])
+        (λ k text reply. fifth S.Done S.Stuck S.Turns S.Limit S.Schedule []) result old new says
+
+-- ---- words in no form
+
+usage_comes : (status : Status) (text : List ℕ) → IsUsage status text → Contains (S.Usage ∷ S.NoMemory ∷ S.WriteFault ∷ []) status
+usage_comes S.Usage text is = (0, omega arith, refl)
+usage_comes S.NoMemory text is = (1, omega arith, refl)
+usage_comes other text is = absurd is
+
+usage_complete : (result : Status) (old new : Option (List ℕ)) → SaysOf IsUsage result old new → Contains (S.Usage ∷ S.NoMemory ∷ S.WriteFault ∷ []) result
+usage_complete result old new (status, text, is, inl (same, went)) = subst (Contains (S.Usage ∷ S.NoMemory ∷ S.WriteFault ∷ [])) (sym same) (usage_comes status text is)
+usage_complete result old new (status, text, is, inr (same, front)) = subst (Contains (S.Usage ∷ S.NoMemory ∷ S.WriteFault ∷ [])) (sym same) (2, omega arith, refl)
+
+-- ---- the program
+
+pub complete : (post : ℕ → ℕ → ℕ → ℕ → Type 0) (request : Option Request) (holds : Option (List File)) (result : Status) (old new : Option (List ℕ))
+    → SaysReply post request holds result old new → IsComplete request holds result
+complete post None holds result old new said = usage_complete result old new said
+complete post (Some (check name)) holds result old new said = file_complete (Makes W.Verdict) name result old new holds said
+complete post (Some (gen name)) holds result old new said = file_complete (Makes W.Text) name result old new holds said
+complete post (Some (project name)) holds result old new said = file_complete (Makes W.Layout) name result old new holds said
+complete post (Some (sim name options)) holds result old new said = sim_complete post name options holds result old new said
+complete post (Some (replay name schedule n)) holds result old new said = replay_complete post name schedule n result old new holds said
+complete post (Some (run name options)) holds result old new said = run_complete post name options holds result old new said

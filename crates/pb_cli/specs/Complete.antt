@@ -1,0 +1,48 @@
+-- What comes where the words are in a form and the files keep the rules and the limits: all is done, or else memory is wanting or
+-- a fault rose. A simulation may be stuck, make all its events, or pass the limit on words in flight.
+use Rattle.std.specs.Prelude.{◌≢◌, ℕ, ◌≤◌, List, [], ◌∷◌, length, Contains, Option, Some, None}
+use Rattle.pb_io.specs.Files.{File}
+use Rattle.pb_core.specs.Plain.{Protocol}
+use Rattle.pb_ctree.specs.declared.tree.CTree.{CTree}
+use Rattle.pb_words.specs.Request.{Request, check, gen, project, sim, replay, run}
+use Rattle.pb_lines.specs.declared.status.Status.{Status}
+use Rattle.pb_lines.specs.declared.status.Status.TheVariants as S
+use Rattle.pb_compile.specs.Verdict.{IsAcceptedAs}
+use Rattle.pb_sched.specs.Outcomes.{IsSchedule}
+use Rattle.pb_sched.specs.declared.schedule.Turn.{Turn}
+use Rattle.pb_simulate.specs.Commands as T
+use Rattle.pb_simulate.specs.Sources.{IsTextOf}
+use Rattle.pb_simulate.specs.Replies.{Starts}
+use Rattle.pb_cli.specs.Reply.{OnFile, most_bytes}
+use Rattle.pb_cli.specs.Run.{MayRun}
+
+-- one of these, or memory is wanting, or a fault rose
+abbrev pub Comes : List Status → Status → Type 0
+Comes these result = Contains (S.NoMemory ∷ S.ReadFault ∷ S.WriteFault ∷ these) result
+
+-- where the folder tells that the file is an accepted protocol file
+abbrev pub OnAccepted : List ℕ → Option (List File) → (Protocol → Type 0) → Type 0
+OnAccepted name holds P = OnFile name holds (λ bytes. (p : Protocol) → length bytes ≤ most_bytes → IsAcceptedAs bytes p → P p)
+
+-- that it is a C text, whose tree can be simulated for this N
+abbrev pub OnText : List ℕ → ℕ → Option (List File) → Type 0 → Type 0
+OnText name n holds P = OnFile name holds (λ bytes. (tree : CTree) → length bytes ≤ T.most_bytes → IsTextOf bytes tree → Starts tree n → P)
+
+-- that it is a schedule
+abbrev pub OnSchedule : List ℕ → Option (List File) → Type 0 → Type 0
+OnSchedule name holds P = OnFile name holds (λ bytes. (seed : ℕ) (turns : List Turn) → length bytes ≤ T.most_bytes → IsSchedule bytes seed turns → P)
+
+-- what comes where the files are such
+abbrev pub Completes : Request → Option (List File) → Status → Type 0
+Completes (check name) holds result = OnAccepted name holds (λ p. Comes (S.Done ∷ []) result)
+Completes (gen name) holds result = OnAccepted name holds (λ p. Comes (S.Done ∷ []) result)
+Completes (project name) holds result = OnAccepted name holds (λ p. Comes (S.Done ∷ []) result)
+Completes (run name options) holds result = OnAccepted name holds (λ p. MayRun p options.n → Comes (S.Done ∷ S.Turns ∷ S.Limit ∷ []) result)
+Completes (sim name options) holds result = OnText name options.n holds (Comes (S.Done ∷ S.Stuck ∷ S.Turns ∷ S.Limit ∷ []) result)
+Completes (replay name schedule n) holds result =
+    OnText name n holds (OnSchedule schedule holds (Comes (S.Done ∷ S.Stuck ∷ S.Turns ∷ S.Limit ∷ S.Schedule ∷ []) result))
+
+-- of words in no form that is told, and of no others
+abbrev pub IsComplete : Option Request → Option (List File) → Status → Type 0
+IsComplete None holds result = Contains (S.Usage ∷ S.NoMemory ∷ S.WriteFault ∷ []) result
+IsComplete (Some request) holds result = (result ≢ S.Usage) × Completes request holds result
