@@ -1,15 +1,13 @@
 -- From the simulation of a tree that was compiled to what `run` answers.
-use Rattle.std.proofs.Common.{◌≡◌, ℕ, ◌*◌, ◌%◌, ◌<◌, ◌≤◌, inl, inr, ℤ, pos, List, length, Option, Some, None, sym, ap, subst, append-nil, arith}
-use Rattle.std.specs.Prelude.{Contains}
+use Rattle.std.proofs.Common.{◌≡◌, ℕ, ◌≤◌, inl, inr, ℤ, pos, List, length, Option, Some, None, sym, subst, append-nil, arith}
 use Rattle.std.proofs.lemmas.Int.{ints}
-use Rattle.std.proofs.lemmas.List.Elements.{Contains-get_or}
 use Rattle.pb_io.specs.Files.{File}
 use Rattle.pb_affine.specs.declared.range.NRange.{NRange}
 use Rattle.pb_world.specs.Actions.{Action}
 use Rattle.pb_world.specs.Family.{Family}
 use Rattle.pb_world.specs.Theorem.{AllRanks, IsWhole}
 use Rattle.pb_world.specs.World as W
-use Rattle.pb_world.specs.World.{World, Reached, CanStep}
+use Rattle.pb_world.specs.World.{World, Reached}
 use Rattle.pb_core.specs.Plain.{Protocol}
 use Rattle.pb_core.specs.Ranks.{total}
 use Rattle.pb_core.specs.Verdict as V
@@ -24,7 +22,6 @@ use Rattle.pb_follow.proofs.Starts.{total_same}
 use Rattle.pb_compile.specs.Compiled.{IsCompiled}
 use Rattle.pb_event.specs.States.{program}
 use Rattle.pb_event.specs.Worlds.{world_of}
-use Rattle.pb_sched.specs.Draws.{pick, word}
 use Rattle.pb_words.specs.declared.options.Modes.{Modes}
 use Rattle.pb_words.specs.declared.options.Options.{Options}
 use Rattle.pb_words.specs.declared.options.Shown.{Shown}
@@ -46,6 +43,7 @@ use Rattle.pb_play.specs.Plays.{IsPlay}
 use Rattle.pb_play.specs.Endings.{Ran, Stands, IsUnready}
 use Rattle.pb_simulate.specs.Replies as A
 use Rattle.pb_simulate.specs.Replies.{Starts}
+use Rattle.pb_exact.proofs.Draws.{drawn_has_a_step}
 use Rattle.pb_cli.specs.Reply.{Says}
 use Rattle.pb_cli.specs.Run.{MayRun, ranks_of, Begins, IsRunReply, SaysRunReply, IsFileRefusal, IsTreeOf, SaysRun}
 
@@ -55,11 +53,6 @@ reached : {S : Type 0} (F : Family S) (answered : ℕ → ℕ → ℕ → Type 0
     → ScheduledRun F answered may turns w X → Reached F w X
 reached F answered may R.start = W.start
 reached F answered may (R.event run allowed turned) = W.event (reached F answered may run) turned.step
-
--- ---- a draw from a list that isn't empty stands in it
-
-drawn_from : (seed turn : ℕ) (list : List ℕ) → 0 < length list → Contains list (pick seed turn list)
-drawn_from seed turn list some = Contains-get_or list (word seed (2 * turn) % length list) 0 (omega (arith, some))
 
 -- ---- numbers of a range
 
@@ -120,12 +113,7 @@ module _ (bytes : List ℕ) (p : Protocol) (tree : CTree) (n : ℕ) (is : IsComp
 
         -- the rank that is drawn has a step
         never_unready : (t : ℕ) → IsUnready tree (pos n) (drawn seed modes) t x → ⊥
-        never_unready t held =
-            let can = (held.may.ready (sequence_of p (pos n))).ready held.turn.0
-            (subst (λ (r : ℕ). Contains held.may.list r) (sym (ap (λ turn. turn.0) held.may.is)) (drawn_from seed t held.may.list held.may.some)) in
-            held.why (sequence_of p (pos n))
-            (subst (λ (t : CTree). CanStep (family (program_of t.local) x.state.n (sequence_of p (pos n))) (world_of x.state) held.turn.0) (sym play.tree_is)
-            (subst (λ (m : ℤ). CanStep (family (program_of tree.local) m (sequence_of p (pos n))) (world_of x.state) held.turn.0) (sym play.n_is) can.1))
+        never_unready t held = drawn_has_a_step tree (pos n) seed modes t x play.tree_is play.n_is held
 
       carried : (most : ℕ) (Q P : List Turn → List (ℕ × Action) → Seen → Type 0)
           → ((turns : List Turn) (w : List (ℕ × Action)) (x : Seen) → IsPlay tree (pos n) post (drawn seed modes) turns w x → Q turns w x → P turns w x)
