@@ -1,6 +1,6 @@
 //! Protocol files, their texts, and what simulating them answers.
 
-ghost use Rattle.std.specs.Prelude.{IfOk};
+ghost use Rattle.std.specs.Prelude.{◌≤◌, IfOk};
 ghost use Rattle.pb_ctree.specs.Trees.{IsTree};
 
 use pb_compile::{Compiled, compile, generate};
@@ -52,8 +52,10 @@ pub fn text_of(alloc: Global, file: &str) -> Result<String, Fail> {
     Ok(String::from_str(alloc, std::str::from_utf8(&text)?)?)
 }
 
-/// A simulation at N by seed 0, in which each send is eager.
-pub fn options(n: u32) -> Options {
+/// A simulation at N by seed 0, of at most 1,000,000 events, in which each send is eager.
+pub fn options(n: u32) -> Options
+    ensures { result.turns ≤ 1000000 }
+{
     Options {
         n,
         seed: 0,
