@@ -1,5 +1,5 @@
 -- From the simulation of a tree that was compiled to what `run` answers.
-use Rattle.std.proofs.Common.{◌≡◌, ℕ, ◌≤◌, inl, inr, ℤ, pos, List, length, Option, Some, None, sym, subst, append-nil, arith}
+use Rattle.std.proofs.Common.{◌≡◌, ℕ, ◌<◌, ◌≤◌, inl, inr, ℤ, pos, List, length, Option, Some, None, sym, subst, append-nil, arith}
 use Rattle.std.proofs.lemmas.Int.{ints}
 use Rattle.pb_io.specs.Files.{File}
 use Rattle.pb_affine.specs.declared.range.NRange.{NRange}
