@@ -63,7 +63,7 @@ abbrev pub param_of : Rank → ℤ
 param_of r = r.state.me.n
 
 -- the rank's memory and numbers are those of the tree
-pub record Fits (tree : CTree) (r : Rank) : Type 0 where
+pub record IsPlaced (tree : CTree) (r : Rank) : Type 0 where
   pub total : r.state.me.total ≡ total tree.local.roles.items r.state.me.n
   pub room : height_all (body_of tree) ≤ length r.path.items
   pub inside : r.depth ≤ length r.path.items
@@ -94,6 +94,11 @@ is_waiting (W.Does kind) = false
 is_waiting W.Ended = false
 is_waiting W.Lost = false
 is_waiting W.Undefined = false
+
+-- and what it holds to come next is what comes next
+pub record Fits (tree : CTree) (r : Rank) : Type 0 where
+  pub placed : IsPlaced tree r
+  pub next : r.next ≡ next_shown (program_of tree.local) (param_of r) (shown tree r)
 
 -- it waits for a message, and there is a test for this label
 abbrev pub takes_shown : Program → ℤ → Shown → ℕ → Bool

@@ -11,7 +11,7 @@ ghost use Rattle.pb_ahead.specs.Numbers.{tested};
 ghost use Rattle.pb_ahead.specs.Place.{todo};
 ghost use Rattle.pb_ahead.specs.View.{goes, move_by, rank_of, told_to};
 ghost use Rattle.pb_ahead.specs.Safe.{IsRoom, IsSafe, IsIn};
-ghost use Rattle.pb_machine.specs.Steps.{going, misled, body_of, path_of, joined, shown_in, shown, param_of, Fits, next_shown, takes_shown, goes_with, IsStepOf, unless_lost, next_by, takes_by, after, counted_as, read_as, move_shown};
+ghost use Rattle.pb_machine.specs.Steps.{going, misled, body_of, path_of, joined, shown_in, shown, param_of, IsPlaced, Fits, next_shown, takes_shown, goes_with, IsStepOf, unless_lost, next_by, takes_by, after, counted_as, read_as, move_shown};
 ghost use Rattle.pb_ahead.specs.declared.ahead.Go.TheVariants.{Enter};
 
 use crate::act::{Act, Input, Next, entry};
@@ -36,6 +36,8 @@ pub struct Rank {
     depth: usize,
     /// The next statement of the innermost block.
     at: usize,
+    /// What comes next from here.
+    next: Next,
 }
 
 impl Rank {
@@ -59,7 +61,7 @@ impl Rank {
         }
         let path = vec![in alloc; Step { at: 0, part: 0 }; height as usize]?;
         let me = me_at(&tree.local.roles, n, rank);
-        Ok(Rank {
+        let mut rank = Rank {
             state: State { me, i: 0 },
             phase: Phase::Going,
             silent: 0,
@@ -67,14 +69,17 @@ impl Rank {
             path,
             depth: 0,
             at: 0,
-        })
+            next: Next::Undefined,
+        };
+        rank.look(tree);
+        Ok(rank)
     }
 
     /// What is next, and where that leads.
     #[tactic(auto, using(crate::proofs::Phases::joined_is, crate::proofs::Phases::misled_is, pb_ahead::proofs::Breadths::tree_narrow))]
     fn ahead<'a>(&self, tree: &'a CTree) -> Ahead<'a>
         requires tree { IsTree tree.now }
-        requires fits { Fits tree.now self.now }
+        requires placed { IsPlaced tree.now self.now }
         ensures next { move_by (body_of tree.now) (path_of self.now) self.now.state.me self.now.state.i result ≡ move_shown (program_of tree.now.local) (param_of self.now) (shown tree.now self.now) }
         ensures safe { IsSafe self.now.depth (height_all (body_of tree.now)) result }
     {
@@ -109,7 +114,7 @@ impl Rank {
 
     fn seen(&self, tree: &CTree) -> Next
         requires tree { IsTree tree.now }
-        requires fits { Fits tree.now self.now }
+        requires placed { IsPlaced tree.now self.now }
         ensures { result ≡ next_by self.now.limit self.now.silent (move_shown (program_of tree.now.local) (param_of self.now) (shown tree.now self.now)) }
     {
         match self.ahead(tree) {
@@ -130,19 +135,30 @@ impl Rank {
         }
     }
 
-    /// What the rank does next, as far as it alone decides it. Takes no memory.
+    /// Keeps what comes next from here.
     #[tactic(auto, using(crate::proofs::Views::next_seen))]
+    fn look(&mut self, tree: &CTree)
+        requires tree { IsTree tree.now }
+        requires placed { IsPlaced tree.now self.old }
+        ensures fits { Fits tree.now self.new }
+        ensures shown { shown tree.now self.new ≡ shown tree.now self.old }
+        ensures n { param_of self.new ≡ param_of self.old }
+    {
+        self.next = self.seen(tree);
+    }
+
+    /// What the rank does next, as far as it alone decides it. Takes no memory.
     pub fn next(&self, tree: &CTree) -> Next
         requires tree { IsTree tree.now }
         requires fits { Fits tree.now self.now }
         ensures { result ≡ next_shown (program_of tree.now.local) (param_of self.now) (shown tree.now self.now) }
     {
-        self.seen(tree)
+        self.next
     }
 
     fn reads(&self, tree: &CTree, tag: u32) -> bool
         requires tree { IsTree tree.now }
-        requires fits { Fits tree.now self.now }
+        requires placed { IsPlaced tree.now self.now }
         ensures { result ≡ takes_by self.now.limit self.now.silent (move_shown (program_of tree.now.local) (param_of self.now) (shown tree.now self.now)) tag }
     {
         match self.ahead(tree) {
@@ -236,7 +252,7 @@ impl Rank {
 
     fn step(&mut self, tree: &CTree, input: Input)
         requires tree { IsTree tree.now }
-        requires fits { Fits tree.now self.old }
+        requires placed { IsPlaced tree.now self.old }
         requires input { IsSome (after self.old.limit self.old.silent input (move_shown (program_of tree.now.local) (param_of self.old) (shown tree.now self.old))) }
         ensures step { after self.old.limit self.old.silent input (move_shown (program_of tree.now.local) (param_of self.old) (shown tree.now self.old)) ≡ Some (shown tree.now self.new) }
         ensures me { self.new.state.me ≡ self.old.state.me }
@@ -285,5 +301,6 @@ impl Rank {
         ensures n { param_of self.new ≡ param_of self.old }
     {
         self.step(tree, input);
+        self.look(tree);
     }
 }
