@@ -92,7 +92,7 @@ takes_seen tree r label h = takes_same (program_of tree.local) (param_of r) r.li
 
 -- ---- the input goes with the step
 
-never : {P : Type 0} → false ≡ true → P
+pub never : {P : Type 0} → false ≡ true → P
 never {P} e = absurd (clash e) where
   clash : false ≡ true → ⊥
   clash z = cc
