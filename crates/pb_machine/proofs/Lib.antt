@@ -1,5 +1,6 @@
 pub mod Moves
 pub mod Views
+pub mod Ways
 pub mod Ranges
 pub mod Counting
 pub mod Phases

@@ -18,10 +18,10 @@ use Rattle.pb_machine.specs.declared.rank.Rank.{Rank}
 use Rattle.pb_ahead.specs.Place.{todo}
 use Rattle.pb_ahead.specs.Calls.{collective_of}
 use Rattle.pb_ahead.specs.View.{rank_of, goes, move_by, Knows}
-use Rattle.pb_machine.specs.Steps.{body_of, path_of, joined, shown_in, shown, param_of, Fits, move_shown}
+use Rattle.pb_machine.specs.Steps.{body_of, path_of, joined, shown_in, shown, param_of, IsPlaced, move_shown}
 use Rattle.pb_machine.proofs.Moves.{stayed}
 
-pub knows : (tree : CTree) (r : Rank) → IsTree tree → Fits tree r → Knows (program_of tree.local) tree.places.items r.state.me
+pub knows : (tree : CTree) (r : Rank) → IsTree tree → IsPlaced tree r → Knows (program_of tree.local) tree.places.items r.state.me
 knows tree r is fits = record { placed = is.places; numbered = fits.total }
 
 -- the move with another phase in its place
@@ -47,7 +47,7 @@ misled_is tree r is = ap (moved tree r) (sym is)
 
 -- the same, over slices that are the tree's and the rank's
 pub going_moves : (tree : CTree) (r : Rank) (body : List Stmt) (places : List Formula) (path : List Step) (x : Ahead) → r.phase ≡ Going →
-    body ≡ tree.local.body.items → places ≡ tree.places.items → path ≡ path_of r → IsTree tree → Fits tree r →
+    body ≡ tree.local.body.items → places ≡ tree.places.items → path ≡ path_of r → IsTree tree → IsPlaced tree r →
     ((p : Program) → Knows p places r.state.me →
     move_by (plain_all body) path r.state.me r.state.i x ≡ move_from p r.state.me.n (rank_of r.state.me r.state.i (todo (plain_all body) path r.at)) (todo (plain_all body) path r.at)) →
     move_by (body_of tree) (path_of r) r.state.me r.state.i x ≡ move_shown (program_of tree.local) (param_of r) (shown tree r)

@@ -17,7 +17,7 @@ use Rattle.pb_machine.specs.declared.phase.Phase.{Phase}
 use Rattle.pb_machine.specs.declared.phase.Phase.TheVariants.{Going, Joined, Misled}
 use Rattle.pb_machine.specs.declared.rank.Rank.{Rank}
 use Rattle.pb_machine.specs.Acts.{act_of}
-use Rattle.pb_machine.specs.Steps.{Shown, going, state_of, shown_in, shown, param_of, Fits, next_of, next_shown, is_there, is_waiting, takes_shown, is_plain, is_tag, goes_with, goes_with_act, is_answer, answered, labelled, answer_in, read_or, IsStep, IsStepOf, unless_lost, next_by, takes_by, counted_as, read_as, if_so, after, move_shown}
+use Rattle.pb_machine.specs.Steps.{Shown, going, state_of, shown_in, shown, param_of, IsPlaced, next_of, next_shown, is_there, is_waiting, takes_shown, is_plain, is_tag, goes_with, goes_with_act, is_answer, answered, labelled, answer_in, read_or, IsStep, IsStepOf, unless_lost, next_by, takes_by, counted_as, read_as, if_so, after, move_shown}
 
 -- what comes next after so many silent steps
 abbrev counted_next : ℕ → ℕ → M.Move → W.Next
@@ -54,7 +54,7 @@ next_same p n limit Going x h = next_is limit x.count (M.move p n x.state) ∙ a
 next_same p n limit (Joined call) x h = next_is limit x.count (M.move p n x.state) ∙ ap (λ l. next_of (counted_next l x.count (M.move p n x.state))) h
 next_same p n limit Misled x h = refl
 
-pub next_seen : (tree : CTree) (r : Rank) → Fits tree r →
+pub next_seen : (tree : CTree) (r : Rank) → IsPlaced tree r →
     next_by r.limit r.silent (move_shown (program_of tree.local) (param_of r) (shown tree r)) ≡ next_shown (program_of tree.local) (param_of r) (shown tree r)
 next_seen tree r h = next_same (program_of tree.local) (param_of r) r.limit r.phase (state_of tree r) h.limit
 
@@ -86,13 +86,13 @@ takes_same p n limit label (Joined call) x h =
     takes_is limit x.count (M.move p n x.state) label ∙ ap (λ l. is_waiting (counted_next l x.count (M.move p n x.state)) && is_there (one_more x.count (M.read_in (M.move p n x.state) label))) h
 takes_same p n limit label Misled x h = refl
 
-pub takes_seen : (tree : CTree) (r : Rank) (label : ℕ) → Fits tree r →
+pub takes_seen : (tree : CTree) (r : Rank) (label : ℕ) → IsPlaced tree r →
     takes_by r.limit r.silent (move_shown (program_of tree.local) (param_of r) (shown tree r)) label ≡ takes_shown (program_of tree.local) (param_of r) (shown tree r) label
 takes_seen tree r label h = takes_same (program_of tree.local) (param_of r) r.limit label r.phase (state_of tree r) h.limit
 
 -- ---- the input goes with the step
 
-never : {P : Type 0} → false ≡ true → P
+pub never : {P : Type 0} → false ≡ true → P
 never {P} e = absurd (clash e) where
   clash : false ≡ true → ⊥
   clash z = cc
@@ -128,7 +128,7 @@ goes_is limit count input (M.probes source f) h = by_left (left limit count) whe
   by_left (some e g) = labels f limit count input e (sym (ap (λ b. goes_with (if b then N.Waits source else N.Lost) input) e) ∙ h)
   by_left (none e g) = never (sym (ap (λ b. goes_with (if b then N.Waits source else N.Lost) input) e) ∙ h)
 
-pub goes_seen : (tree : CTree) (r : Rank) (input : Input) → Fits tree r → goes_with (next_shown (program_of tree.local) (param_of r) (shown tree r)) input ≡ true →
+pub goes_seen : (tree : CTree) (r : Rank) (input : Input) → IsPlaced tree r → goes_with (next_shown (program_of tree.local) (param_of r) (shown tree r)) input ≡ true →
     IsSome (after r.limit r.silent input (move_shown (program_of tree.local) (param_of r) (shown tree r)))
 goes_seen tree r input h g =
     goes_is r.limit r.silent input (move_shown (program_of tree.local) (param_of r) (shown tree r)) (ap (λ z. goes_with z input) (next_seen tree r h) ∙ g)
@@ -223,7 +223,7 @@ step_same p n limit Going x input y h e = step_of p n limit x input y h e
 step_same p n limit (Joined call) x input y h e = step_of p n limit x input y h e
 step_same p n limit Misled x input y h e = clash_none y e
 
-pub step_seen : (tree : CTree) (r : Rank) (input : Input) (y : Shown) → Fits tree r →
+pub step_seen : (tree : CTree) (r : Rank) (input : Input) (y : Shown) → IsPlaced tree r →
     after r.limit r.silent input (move_shown (program_of tree.local) (param_of r) (shown tree r)) ≡ Some y →
     IsStepOf (program_of tree.local) (param_of r) (shown tree r) input y
 step_seen tree r input y h e = step_same (program_of tree.local) (param_of r) r.limit r.phase (state_of tree r) input y h.limit e

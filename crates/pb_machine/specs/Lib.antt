@@ -1,4 +1,5 @@
 pub mod Acts
 pub mod Seats
 pub mod Steps
+pub mod Ways
 pub mod Sample

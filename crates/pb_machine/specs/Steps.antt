@@ -1,5 +1,5 @@
 -- What is seen of a rank of the program, and its steps, which are those of the definition.
-use Rattle.std.specs.Prelude.{◌≡◌, ◌≤◌, ℕ, suc, ℤ, Bool, true, false, nat_lt, ◌&&◌, if◌then◌else◌, Option, Some, None, List, length, take}
+use Rattle.std.specs.Prelude.{◌≡◌, ◌≤◌, ℕ, suc, ℤ, Bool, true, false, nat_lt, ◌&&◌, if◌then◌else◌, Option, Some, None, IsSome, List, length, take}
 use Rattle.pb_world.specs.Actions.{Action, kind_of, branch_in}
 use Rattle.pb_world.specs.Machine as W
 use Rattle.pb_world.specs.Counted.{Counted}
@@ -17,12 +17,14 @@ use Rattle.pb_machine.specs.declared.act.Input.{Input}
 use Rattle.pb_machine.specs.declared.act.Input.TheVariants.{Plain, Tag, Answer}
 use Rattle.pb_machine.specs.declared.phase.Phase.{Phase}
 use Rattle.pb_machine.specs.declared.phase.Phase.TheVariants.{Going, Joined, Misled}
+use Rattle.pb_machine.specs.declared.way.Way.{Way}
 use Rattle.pb_machine.specs.declared.rank.Rank.{Rank}
 use Rattle.pb_ahead.specs.Heights.{height_all}
 use Rattle.pb_ahead.specs.Place.{todo}
 use Rattle.pb_ahead.specs.Calls.{collective_of}
 use Rattle.pb_machine.specs.Acts.{act_of}
-use Rattle.pb_ahead.specs.View.{rank_of}
+use Rattle.pb_ahead.specs.View.{rank_of, goes}
+use Rattle.pb_ahead.specs.Safe.{IsRoom}
 
 -- ---- what is seen of a rank
 
@@ -63,7 +65,7 @@ abbrev pub param_of : Rank → ℤ
 param_of r = r.state.me.n
 
 -- the rank's memory and numbers are those of the tree
-pub record Fits (tree : CTree) (r : Rank) : Type 0 where
+pub record IsPlaced (tree : CTree) (r : Rank) : Type 0 where
   pub total : r.state.me.total ≡ total tree.local.roles.items r.state.me.n
   pub room : height_all (body_of tree) ≤ length r.path.items
   pub inside : r.depth ≤ length r.path.items
@@ -208,3 +210,25 @@ after limit count input (M.probes source f) = labelled limit count f input
 abbrev pub move_shown : Program → ℤ → Shown → M.Move
 move_shown p n (going x) = M.move p n x.state
 move_shown p n misled = M.undefined
+
+-- ---- what a rank keeps
+
+-- what is seen of a rank that went this way
+abbrev pub arrived : CTree → Rank → Way → Shown
+arrived tree r w = shown_in w.phase (record { state = rank_of r.state.me w.i (joined w.phase (goes (body_of tree) (path_of r) w.go)); count = w.silent })
+
+-- there is room for this way, and each input that goes with the next step leads along it
+pub record Leads (tree : CTree) (r : Rank) (w : Way) : Type 0 where
+  pub room : IsRoom r.depth (length r.path.items) w.go
+  pub there : (input : Input) → IsSome (after r.limit r.silent input (move_shown (program_of tree.local) (param_of r) (shown tree r))) →
+      after r.limit r.silent input (move_shown (program_of tree.local) (param_of r) (shown tree r)) ≡ Some (arrived tree r w)
+
+abbrev pub IsWay : CTree → Rank → Option Way → Type 0
+IsWay tree r None = Unit {0}
+IsWay tree r (Some w) = Leads tree r w
+
+-- the rank is placed in the tree, and what it keeps of the next step is so
+pub record Fits (tree : CTree) (r : Rank) : Type 0 where
+  pub placed : IsPlaced tree r
+  pub next : r.next ≡ next_shown (program_of tree.local) (param_of r) (shown tree r)
+  pub way : IsWay tree r r.way

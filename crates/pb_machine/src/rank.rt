@@ -11,13 +11,15 @@ ghost use Rattle.pb_ahead.specs.Numbers.{tested};
 ghost use Rattle.pb_ahead.specs.Place.{todo};
 ghost use Rattle.pb_ahead.specs.View.{goes, move_by, rank_of, told_to};
 ghost use Rattle.pb_ahead.specs.Safe.{IsRoom, IsSafe, IsIn};
-ghost use Rattle.pb_machine.specs.Steps.{going, misled, body_of, path_of, joined, shown_in, shown, param_of, Fits, next_shown, takes_shown, goes_with, IsStepOf, unless_lost, next_by, takes_by, after, counted_as, read_as, move_shown};
+ghost use Rattle.pb_machine.specs.Steps.{going, misled, body_of, path_of, joined, shown_in, shown, param_of, IsPlaced, Fits, next_shown, takes_shown, goes_with, IsStepOf, unless_lost, next_by, takes_by, after, counted_as, read_as, move_shown};
+ghost use Rattle.pb_machine.specs.Ways.{act_way, quiet_way, way_by};
 ghost use Rattle.pb_ahead.specs.declared.ahead.Go.TheVariants.{Enter};
 
 use crate::act::{Act, Input, Next, entry};
 use crate::phase::Phase;
 use crate::seats::me_at;
 use crate::sizes::{MOST, height, size};
+use crate::way::Way;
 use pb_ahead::{Ahead, Go, State, Step, tested};
 use pb_ctree::{CTree, NoMemory, Test};
 use std::alloc::Global;
@@ -36,6 +38,10 @@ pub struct Rank {
     depth: usize,
     /// The next statement of the innermost block.
     at: usize,
+    /// What comes next from here.
+    next: Next,
+    /// Where that leads, if only one place.
+    way: Option<Way>,
 }
 
 impl Rank {
@@ -59,7 +65,7 @@ impl Rank {
         }
         let path = vec![in alloc; Step { at: 0, part: 0 }; height as usize]?;
         let me = me_at(&tree.local.roles, n, rank);
-        Ok(Rank {
+        let mut rank = Rank {
             state: State { me, i: 0 },
             phase: Phase::Going,
             silent: 0,
@@ -67,14 +73,18 @@ impl Rank {
             path,
             depth: 0,
             at: 0,
-        })
+            next: Next::Undefined,
+            way: None,
+        };
+        rank.look(tree);
+        Ok(rank)
     }
 
     /// What is next, and where that leads.
     #[tactic(auto, using(crate::proofs::Phases::joined_is, crate::proofs::Phases::misled_is, pb_ahead::proofs::Breadths::tree_narrow))]
     fn ahead<'a>(&self, tree: &'a CTree) -> Ahead<'a>
         requires tree { IsTree tree.now }
-        requires fits { Fits tree.now self.now }
+        requires placed { IsPlaced tree.now self.now }
         ensures next { move_by (body_of tree.now) (path_of self.now) self.now.state.me self.now.state.i result ≡ move_shown (program_of tree.now.local) (param_of self.now) (shown tree.now self.now) }
         ensures safe { IsSafe self.now.depth (height_all (body_of tree.now)) result }
     {
@@ -107,12 +117,10 @@ impl Rank {
         }
     }
 
-    fn seen(&self, tree: &CTree) -> Next
-        requires tree { IsTree tree.now }
-        requires fits { Fits tree.now self.now }
-        ensures { result ≡ next_by self.now.limit self.now.silent (move_shown (program_of tree.now.local) (param_of self.now) (shown tree.now self.now)) }
+    fn seen(&self, ahead: Ahead<'_>) -> Next
+        ensures { (b : Codes) → result ≡ next_by self.now.limit self.now.silent (move_by b (path_of self.now) self.now.state.me self.now.state.i ahead.entry) }
     {
-        match self.ahead(tree) {
+        match ahead {
             Ahead::Ended => Next::Ended,
             Ahead::Undefined => Next::Undefined,
             Ahead::Silent { .. } => self.unless_lost(Next::Silent),
@@ -130,19 +138,74 @@ impl Rank {
         }
     }
 
+    /// Where a step leads that leads to one place.
+    fn leads(&self, ahead: Ahead<'_>) -> Option<Way>
+        ensures { result ≡ way_by self.now.limit self.now.silent self.now.state.i ahead.entry }
+    {
+        match ahead {
+            Ahead::Silent { i, go } => self.quietly(i, go),
+            Ahead::Run { go, .. } => Some(self.acting(Phase::Going, go)),
+            Ahead::Send { go, .. } => Some(self.acting(Phase::Going, go)),
+            Ahead::Recv { go, .. } => Some(self.acting(Phase::Going, go)),
+            Ahead::Leave { go, .. } => Some(self.acting(Phase::Going, go)),
+            Ahead::Join { call, go } => Some(self.acting(Phase::Joined(call), go)),
+            Ahead::Ended => None,
+            Ahead::Undefined => None,
+            Ahead::Choose { .. } => None,
+            Ahead::Probe { .. } => None,
+        }
+    }
+
+    fn acting(&self, phase: Phase, go: Go) -> Way
+        ensures { result ≡ act_way phase self.now.state.i go }
+    {
+        Way {
+            phase,
+            i: self.state.i,
+            silent: 0,
+            go,
+        }
+    }
+
+    fn quietly(&self, i: i32, go: Go) -> Option<Way>
+        ensures { result ≡ quiet_way self.now.limit self.now.silent i go }
+    {
+        if self.silent >= self.limit {
+            return None;
+        }
+        Some(Way {
+            phase: Phase::Going,
+            i,
+            silent: self.silent + 1,
+            go,
+        })
+    }
+
+    /// Keeps what comes next from here, and where that leads.
+    fn look(&mut self, tree: &CTree)
+        requires tree { IsTree tree.now }
+        requires placed { IsPlaced tree.now self.old }
+        ensures fits { Fits tree.now self.new }
+        ensures shown { shown tree.now self.new ≡ shown tree.now self.old }
+        ensures n { param_of self.new ≡ param_of self.old }
+    {
+        let ahead = self.ahead(tree);
+        self.next = self.seen(ahead);
+        self.way = self.leads(ahead);
+    }
+
     /// What the rank does next, as far as it alone decides it. Takes no memory.
-    #[tactic(auto, using(crate::proofs::Views::next_seen))]
     pub fn next(&self, tree: &CTree) -> Next
         requires tree { IsTree tree.now }
         requires fits { Fits tree.now self.now }
         ensures { result ≡ next_shown (program_of tree.now.local) (param_of self.now) (shown tree.now self.now) }
     {
-        self.seen(tree)
+        self.next
     }
 
     fn reads(&self, tree: &CTree, tag: u32) -> bool
         requires tree { IsTree tree.now }
-        requires fits { Fits tree.now self.now }
+        requires placed { IsPlaced tree.now self.now }
         ensures { result ≡ takes_by self.now.limit self.now.silent (move_shown (program_of tree.now.local) (param_of self.now) (shown tree.now self.now)) tag }
     {
         match self.ahead(tree) {
@@ -236,7 +299,7 @@ impl Rank {
 
     fn step(&mut self, tree: &CTree, input: Input)
         requires tree { IsTree tree.now }
-        requires fits { Fits tree.now self.old }
+        requires placed { IsPlaced tree.now self.old }
         requires input { IsSome (after self.old.limit self.old.silent input (move_shown (program_of tree.now.local) (param_of self.old) (shown tree.now self.old))) }
         ensures step { after self.old.limit self.old.silent input (move_shown (program_of tree.now.local) (param_of self.old) (shown tree.now self.old)) ≡ Some (shown tree.now self.new) }
         ensures me { self.new.state.me ≡ self.old.state.me }
@@ -273,6 +336,23 @@ impl Rank {
         }
     }
 
+    /// The step by the way that was kept, else by a walk.
+    fn go_on(&mut self, tree: &CTree, input: Input)
+        requires tree { IsTree tree.now }
+        requires fits { Fits tree.now self.old }
+        requires input { IsSome (after self.old.limit self.old.silent input (move_shown (program_of tree.now.local) (param_of self.old) (shown tree.now self.old))) }
+        ensures step { after self.old.limit self.old.silent input (move_shown (program_of tree.now.local) (param_of self.old) (shown tree.now self.old)) ≡ Some (shown tree.now self.new) }
+        ensures me { self.new.state.me ≡ self.old.state.me }
+        ensures limit { self.new.limit ≡ self.old.limit }
+        ensures long { length self.new.path.items ≡ length self.old.path.items }
+        ensures inside { self.new.depth ≤ length self.new.path.items }
+    {
+        match self.way {
+            Some(way) => self.arrive(way.phase, way.i, way.silent, way.go),
+            None => self.step(tree, input),
+        }
+    }
+
     /// One step with this input: the branch that the kernel chose at a choice, the label of the first message where the
     /// rank waits, and nothing elsewhere. A label for which `takes` is false makes the rank undefined. Takes no memory.
     #[tactic(auto, using(crate::proofs::Views::goes_seen, crate::proofs::Views::step_seen))]
@@ -284,6 +364,7 @@ impl Rank {
         ensures fits { Fits tree.now self.new }
         ensures n { param_of self.new ≡ param_of self.old }
     {
-        self.step(tree, input);
+        self.go_on(tree, input);
+        self.look(tree);
     }
 }
