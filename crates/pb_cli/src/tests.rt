@@ -98,7 +98,7 @@ fn answered(alloc: Global, command: &str, text: &[u8]) -> Result<(Status, Vec<u8
     let words = strings(alloc, &[command, "p"])?;
     let mut folder = MemFolder::new(files(alloc, text)?, Vec::new(alloc));
     let mut out = MemSink::new(alloc, 8192, 8192, Vec::new(alloc))?;
-    let status = pabble(alloc, &words, &mut folder, &mut out, word);
+    let status = called(alloc, &words, &mut folder, &mut out);
     Ok((status, Vec::from_slice(alloc, out.taken())?))
 }
 
@@ -555,7 +555,7 @@ fn words_in_no_form(rt: HostRuntime) -> Result<(), Fail> {
         let words = strings(rt.alloc(), form)?;
         let mut folder = MemFolder::new(files(rt.alloc(), FIRST.as_bytes())?, Vec::new(rt.alloc()));
         let mut out = MemSink::new(rt.alloc(), 64, 1, Vec::new(rt.alloc()))?;
-        let status = pabble(rt.alloc(), &words, &mut folder, &mut out, word);
+        let status = called(rt.alloc(), &words, &mut folder, &mut out);
         assert_eq!(rt; status, Status::Usage);
         assert_eq!(rt; out.taken(), b"pabble: usage\n".as_slice());
     }
@@ -583,7 +583,7 @@ fn simulating_the_text_of_a_file(rt: HostRuntime) -> Result<(), Fail> {
         let words = strings(rt.alloc(), &["sim", "p", "--n", n])?;
         let mut folder = MemFolder::new(files(rt.alloc(), text.as_bytes())?, Vec::new(rt.alloc()));
         let mut out = MemSink::new(rt.alloc(), 64, 64, Vec::new(rt.alloc()))?;
-        let status = pabble(rt.alloc(), &words, &mut folder, &mut out, word);
+        let status = called(rt.alloc(), &words, &mut folder, &mut out);
         assert_eq!(rt; status, expected);
         assert_eq!(rt; out.taken(), log.as_bytes());
     }
@@ -620,7 +620,7 @@ fn ran(alloc: Global, text: &str, options: &[&str]) -> Result<(Status, Vec<u8>),
     }
     let mut folder = MemFolder::new(files(alloc, text.as_bytes())?, Vec::new(alloc));
     let mut out = MemSink::new(alloc, 8192, 8192, Vec::new(alloc))?;
-    let status = pabble(alloc, &words, &mut folder, &mut out, word);
+    let status = called(alloc, &words, &mut folder, &mut out);
     Ok((status, Vec::from_slice(alloc, out.taken())?))
 }
 
@@ -688,7 +688,7 @@ fn words_behind_two_dashes_are_files(rt: HostRuntime) -> Result<(), Fail> {
         let words = strings(rt.alloc(), form)?;
         let mut folder = MemFolder::new(files(rt.alloc(), FIRST.as_bytes())?, Vec::new(rt.alloc()));
         let mut out = MemSink::new(rt.alloc(), 64, 64, Vec::new(rt.alloc()))?;
-        let status = pabble(rt.alloc(), &words, &mut folder, &mut out, word);
+        let status = called(rt.alloc(), &words, &mut folder, &mut out);
         assert_eq!(rt; status, expected);
         assert_eq!(rt; out.taken(), line.as_bytes());
     }
@@ -707,7 +707,7 @@ fn each_failing_read_is_a_read_fault(rt: HostRuntime) -> Result<(), Fail> {
         let fails = [failing].to_vec(rt.alloc())?;
         let mut folder = MemFolder::new(files(rt.alloc(), FIRST.as_bytes())?, fails);
         let mut out = MemSink::new(rt.alloc(), 8192, 8192, Vec::new(rt.alloc()))?;
-        let status = pabble(rt.alloc(), &words, &mut folder, &mut out, word);
+        let status = called(rt.alloc(), &words, &mut folder, &mut out);
         assert_eq!(rt; status, expected, "call {failing}");
         let is_line = out.taken() == b"pabble: read fault\n".as_slice();
         assert_eq!(rt; is_line, expected == Status::ReadFault, "call {failing}");
@@ -729,7 +729,7 @@ fn a_failing_write_leaves_a_front(rt: HostRuntime) -> Result<(), Fail> {
         let fails = [failing].to_vec(rt.alloc())?;
         let mut folder = MemFolder::new(files(rt.alloc(), FIRST.as_bytes())?, Vec::new(rt.alloc()));
         let mut out = MemSink::new(rt.alloc(), room, most, fails)?;
-        let status = pabble(rt.alloc(), &words, &mut folder, &mut out, word);
+        let status = called(rt.alloc(), &words, &mut folder, &mut out);
         let is_whole = expected == FIRST_TEXT.len();
         assert_eq!(rt; status == Status::Done, is_whole, "{room} {most} {failing}");
         assert_eq!(rt;
@@ -772,11 +772,16 @@ fn check_has_the_faults_of_its_files(rt: HostRuntime) -> Result<(), Fail> {
         let fails = [failing].to_vec(rt.alloc())?;
         let mut folder = MemFolder::new(files(rt.alloc(), FIRST.as_bytes())?, fails);
         let mut out = MemSink::new(rt.alloc(), room, 64, Vec::new(rt.alloc()))?;
-        let status = pabble(rt.alloc(), &words, &mut folder, &mut out, word);
+        let status = called(rt.alloc(), &words, &mut folder, &mut out);
         assert_eq!(rt; status, expected, "{failing} {room}");
         assert_eq!(rt; out.taken(), taken.as_bytes(), "{failing} {room}");
     }
     Ok(())
+}
+
+/// The status over a folder and a sink in memory.
+fn called(alloc: Global, words: &[String], folder: &mut MemFolder, out: &mut MemSink) -> Status {
+    pabble(alloc, words, folder, out, word)
 }
 
 /// The status over a folder and a sink that never fail.
