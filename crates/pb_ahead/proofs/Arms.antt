@@ -26,11 +26,11 @@ use Rattle.pb_ahead.specs.declared.ahead.Go.TheVariants.{Stay, Enter}
 use Rattle.pb_ahead.specs.Heights.{height, height_all, breadth, breadth_all}
 use Rattle.pb_ahead.specs.Numbers.{seat_of, guard_holds, some_holds, source_at, tested}
 use Rattle.pb_ahead.specs.Peers.{peer_at}
-use Rattle.pb_ahead.specs.Place.{part_at, part_number, inner_number, looped, found, nowhere, at_code, at_round, block_from, number_at, head, inside, marked, Spot, on_from, beyond, enter, enter_at, spot, root, todo, settled}
+use Rattle.pb_ahead.specs.Place.{part_at, part_number, inner_number, looped, found, nowhere, at_code, at_round, block_from, number_at, head, inside, marked, Spot, on_from, beyond, enter, enter_at, spot, root, todo, block_at, tests_of, tests_at, settled}
 use Rattle.pb_ahead.specs.Meaning.{IsFront, IsCode, IsRound, IsAt, IsLoop, IsBack}
 use Rattle.pb_ahead.specs.View.{rank_of, goes, told_to, enters, when_some, begun, turned, owned, probed, asked, chosen, branched, move_to, back_by, Knows}
 use Rattle.pb_ahead.proofs.Plains.{parts, from_none, if_plain, for_plain, loop_plain}
-use Rattle.pb_ahead.proofs.Places.{spot-append, found_whole, looped_whole, back-passed}
+use Rattle.pb_ahead.proofs.Places.{spot-append, block_is, found_whole, looped_whole, back-passed}
 use Rattle.pb_ahead.proofs.Heights.{path_low}
 use Rattle.pb_ahead.proofs.Breadths.{path_narrow}
 use Rattle.pb_ahead.proofs.Computing.{guard_is, some_is, source_is, tested_is, peer_is}
@@ -236,6 +236,13 @@ code_high b path t d at after c h = let e = path_low b h.front at c _ h.there in
 
 pub code_narrow : (b : Codes) (path : List Step) (t : Todo) (d at after : ℕ) (c : Code) → IsCode b path t d at after c → breadth_all b ≤ 64 → breadth c ≤ 64
 code_narrow b path t d at after c h few = let e = path_narrow b h.front at c _ h.there in omega (arith, e, few)
+
+-- the tests of the statement at a place
+pub code_tests : (b : Codes) (path : List Step) (t : Todo) (d at after : ℕ) (c : Code) → IsCode b path t d at after c → tests_at b (take d path) at ≡ tests_of c
+code_tests b path t d at after c h =
+    ap (λ z. tests_of (head (block_from at (block_at b z)))) (front_is path d h.front h.is_front)
+    ∙ ap (λ z. tests_of (head (block_from at z))) (block_is (root b) h.front)
+    ∙ ap (λ z. tests_of (head z)) h.there
 
 pub ended_next : (p : Program) (n : ℤ) (x : Rank) (b : Codes) (path : List Step) (k : ℕ) → nowhere ≡ found b path 0 k nowhere → ends ≡ move_from p n x (todo b path k)
 ended_next p n x b path k h =

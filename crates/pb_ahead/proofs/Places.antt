@@ -4,12 +4,17 @@ use Rattle.std.proofs.lemmas.Bool.{eq-eqb}
 use Rattle.pb_local.specs.Tree.{Code, when, for_each, own, loop, again, choice, send, recv, run, barrier, broadcast, reduce, allreduce, Codes, nothing, more, size}
 use Rattle.pb_local.specs.Machine.{Todo, next, round_of, end_of, pushed, back_to}
 use Rattle.pb_ahead.specs.declared.step.Step.{Step}
-use Rattle.pb_ahead.specs.Place.{block_from, number_at, head, marked, Spot, on_from, beyond, enter, spot, root, todo, settled, Found, nowhere, at_code, at_round, at_or, round_or, better, found, loop_or, looped}
+use Rattle.pb_ahead.specs.Place.{block_from, number_at, head, marked, Spot, on_from, beyond, enter, spot, root, todo, block_at, settled, Found, nowhere, at_code, at_round, at_or, round_or, better, found, loop_or, looped}
 use Rattle.pb_ahead.specs.Meaning.{IsFront, IsAt, IsLoop, IsBack}
 
 pub spot-append : (s : Spot) (xs ys : List Step) → spot s (xs ++ ys) ≡ spot (spot s xs) ys
 spot-append s [] ys = refl
 spot-append s (x ∷ xs) ys = spot-append (enter s x) xs ys
+
+-- the block of the spot that a path leads to
+pub block_is : (s : Spot) (path : List Step) → block_at s.block path ≡ (spot s path).block
+block_is s [] = refl
+block_is s (f ∷ fs) = block_is (enter s f) fs
 
 pub from-suc : (k : ℕ) (b : Codes) (c : Code) (cs : Codes) → block_from k b ≡ more c cs → block_from (suc k) b ≡ cs
 from-suc zero nothing c cs h = cc

@@ -12,7 +12,7 @@ use Rattle.pb_local.specs.declared.stmt.Stmt.TheOpen as Layer
 use Rattle.pb_local.specs.Tree.{Code, when, for_each, loop, nothing, more, Parts, parts_of, layer, plain, plain_all}
 use Rattle.pb_local.proofs.Plains.{choice_plain}
 use Rattle.pb_ahead.specs.declared.step.Step.{Step}
-use Rattle.pb_ahead.specs.Place.{block_from, head, inside, part_at, Found, at_or, round_or, better}
+use Rattle.pb_ahead.specs.Place.{block_from, head, inside, part_at, tests_of, Found, at_or, round_or, better}
 
 -- the branches of a choice
 abbrev pub parts : List (Vec Stmt Global) → Parts
@@ -30,6 +30,10 @@ loop_plain id x = ap plain (sym (rolls-Loop id x)) ∙ fold-roll-Stmt Code layer
 pub of_choice : (s : Stmt) (who : Guard) (k : ℕ) (rs : Vec Relay Global) (from : Peer) (ts : Vec Test Global) (bs : Vec (Vec Stmt Global) Global) (n : ℕ) →
     s ≡ Choice who k rs from ts bs → inside n (plain s) ≡ part_at n (parts bs.items)
 of_choice s who k rs from ts bs n h = ap (inside n) (ap plain h ∙ choice_plain who k rs from ts bs)
+
+pub choice_tests : (s : Stmt) (who : Guard) (k : ℕ) (rs : Vec Relay Global) (from : Peer) (ts : Vec Test Global) (bs : Vec (Vec Stmt Global) Global) →
+    s ≡ Choice who k rs from ts bs → tests_of (plain s) ≡ ts.items
+choice_tests s who k rs from ts bs h = ap tests_of (ap plain h ∙ choice_plain who k rs from ts bs)
 
 pub part_none : (bs : List (Vec Stmt Global)) (k : ℕ) → length bs ≤ k → part_at k (parts bs) ≡ nothing
 part_none [] k h = refl

@@ -1,6 +1,7 @@
 -- A rank's place in its tree: a path of steps into blocks, and what is still to do there.
 use Rattle.std.specs.Prelude.{ℕ, zero, suc, ◌+◌, List, [], ◌∷◌, Option, Some, nat_eq, if◌then◌else◌}
 use Rattle.pb_affine.specs.declared.lin.Lin.{Lin}
+use Rattle.pb_local.specs.declared.stmt.Test.{Test}
 use Rattle.pb_local.specs.Tree.{Code, when, for_each, own, loop, again, choice, send, recv, run, barrier, broadcast, reduce, allreduce, Codes, nothing, more, Parts, no_part, part, size, size_all}
 use Rattle.pb_local.specs.Machine.{Todo, finished, next, round_of, end_of, leave, pushed}
 use Rattle.pb_ahead.specs.declared.step.Step.{Step}
@@ -124,6 +125,31 @@ root body = record { number = 0; block = body; rest = finished }
 -- what is to do from statement k on of the block that a path leads to
 abbrev pub todo : Codes → List Step → ℕ → Todo
 todo body path k = on_from (spot (root body) path) k
+
+-- the block that a path leads to
+abbrev pub block_at : Codes → List Step → Codes
+block_at b [] = b
+block_at b (f ∷ fs) = block_at (inside f.part (head (block_from f.at b))) fs
+
+-- a choice's tests
+abbrev pub tests_of : Code → List Test
+tests_of (choice who kernel relays from tests branches) = tests
+tests_of (when guards first other) = []
+tests_of (for_each low high body) = []
+tests_of (loop id body) = []
+tests_of (own off) = []
+tests_of (again id) = []
+tests_of (send label to) = []
+tests_of (recv label from) = []
+tests_of (run kernel) = []
+tests_of barrier = []
+tests_of (broadcast label root) = []
+tests_of (reduce label op root) = []
+tests_of (allreduce label op) = []
+
+-- the tests of statement k of the block that a path leads to
+abbrev pub tests_at : Codes → List Step → ℕ → List Test
+tests_at b path k = tests_of (head (block_from k (block_at b path)))
 
 -- with the ends of loops that were reached passed
 abbrev pub settled : Todo → Todo

@@ -25,4 +25,4 @@ IsSafe n h (A.Send to label go) = IsRoom n h go
 IsSafe n h (A.Recv from label go) = IsRoom n h go
 IsSafe n h (A.Join call go) = IsRoom n h go
 IsSafe n h (A.Leave call go) = IsRoom n h go
-IsSafe n h (A.Probe from d k tests) = IsIn n h d
+IsSafe n h (A.Probe from d k) = IsIn n h d

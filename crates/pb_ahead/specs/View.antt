@@ -22,7 +22,7 @@ use Rattle.pb_ahead.specs.declared.ahead.Ahead.{Ahead}
 use Rattle.pb_ahead.specs.declared.ahead.Ahead.TheVariants as A
 use Rattle.pb_ahead.specs.Numbers.{seat_of, int32, guard_holds, some_holds, source_at, tested}
 use Rattle.pb_ahead.specs.Peers.{peer_at}
-use Rattle.pb_ahead.specs.Place.{todo}
+use Rattle.pb_ahead.specs.Place.{todo, tests_at}
 use Rattle.pb_ahead.specs.Calls.{collective_of}
 
 -- a rank of the definition
@@ -52,7 +52,7 @@ move_by b path me i (A.Send to label go) = does (Sends to label) (rank_of me i (
 move_by b path me i (A.Recv from label go) = does (Receives from label) (rank_of me i (goes b path go))
 move_by b path me i (A.Join call go) = enters me i (collective_of call) (goes b path go)
 move_by b path me i (A.Leave call go) = does (Leaves (collective_of call)) (rank_of me i (goes b path go))
-move_by b path me i (A.Probe from d k tests) = probes from (λ label. told_to me i (λ x. goes b path (Enter d k x)) (tested tests.now label me i))
+move_by b path me i (A.Probe from d k) = probes from (λ label. told_to me i (λ x. goes b path (Enter d k x)) (tested (tests_at b (take d path) k) label me i))
 
 -- ---- one statement's step, by where its blocks, the statement behind it and a loop's body lead
 

@@ -1,5 +1,4 @@
 use crate::call::Call;
-use pb_ctree::Test;
 
 /// Where a step leads: to another statement of a block that the rank is in, or into a block of a statement.
 #[derive(Clone, Copy)]
@@ -17,7 +16,7 @@ pub enum Go {
 
 /// What a rank does next, and where that leads.
 #[derive(Clone, Copy)]
-pub enum Ahead<'a> {
+pub enum Ahead {
     Ended,
     Undefined,
     /// A silent step, behind which the variable is `i`.
@@ -60,6 +59,5 @@ pub enum Ahead<'a> {
         from: u32,
         depth: usize,
         at: usize,
-        tests: &'a [Test],
     },
 }

@@ -8,6 +8,7 @@ mod next;
 mod numbers;
 mod peers;
 mod place;
+mod probe;
 mod state;
 mod step;
 
@@ -16,6 +17,7 @@ pub use call::Call;
 pub use me::Me;
 pub use numbers::tested;
 pub use pb_ctree::{Formula, Op, Stmt, Test};
+pub use probe::tests_at;
 pub use state::State;
 pub use step::Step;
 

@@ -8,7 +8,7 @@ ghost use Rattle.pb_ahead.specs.declared.ahead.Go.TheVariants.{Enter, Stay};
 ghost use Rattle.pb_ahead.specs.Heights.{height, height_all, breadth, breadth_all};
 ghost use Rattle.pb_ahead.specs.Numbers.{guard_holds, some_holds};
 ghost use Rattle.pb_ahead.specs.Peers.{peer_at};
-ghost use Rattle.pb_ahead.specs.Place.{todo, looped};
+ghost use Rattle.pb_ahead.specs.Place.{todo, looped, tests_of, tests_at};
 ghost use Rattle.pb_ahead.specs.Meaning.{IsRound};
 ghost use Rattle.pb_ahead.specs.Calls.{collective_of};
 ghost use Rattle.pb_ahead.specs.View.{goes, move_by, move_to, back_by, rank_of, begun, turned, owned, branched, chosen, asked, probed, sends, receives, enters, when_some, Knows};
@@ -26,7 +26,7 @@ use pb_ctree::{Formula, Guard, Lin, Op, Peer, Relay, Stmt, Test};
 
 impl State {
     /// A round with this variable, where it isn't above the high end.
-    fn begin<'a>(&self, i: i32, high: Lin, round: Go, over: Go) -> Ahead<'a>
+    fn begin(&self, i: i32, high: Lin, round: Go, over: Go) -> Ahead
         ensures next { (b : Codes) (path : List Step) → move_by b path self.now.me self.now.i result ≡ begun self.now.me i high (goes b path round) (goes b path over) }
         ensures safe { (n h : ℕ) → IsRoom n h round → IsRoom n h over → IsSafe n h result }
     {
@@ -43,7 +43,7 @@ impl State {
     }
 
     /// The variable becomes this number, and a round begins where it isn't above the high end.
-    fn turn<'a>(&self, number: i64, high: Lin, round: Go, over: Go) -> Ahead<'a>
+    fn turn(&self, number: i64, high: Lin, round: Go, over: Go) -> Ahead
         ensures next { (b : Codes) (path : List Step) → move_by b path self.now.me self.now.i result ≡ turned self.now.me number high (goes b path round) (goes b path over) }
         ensures safe { (n h : ℕ) → IsRoom n h round → IsRoom n h over → IsSafe n h result }
     {
@@ -54,7 +54,7 @@ impl State {
     }
 
     /// The variable becomes one more.
-    fn turn_on<'a>(&self, high: Lin, round: Go, over: Go) -> Ahead<'a>
+    fn turn_on(&self, high: Lin, round: Go, over: Go) -> Ahead
         ensures next { (b : Codes) (path : List Step) → move_by b path self.now.me self.now.i result ≡ turned self.now.me (self.now.i +ℤ pos 1) high (goes b path round) (goes b path over) }
         ensures safe { (n h : ℕ) → IsRoom n h round → IsRoom n h over → IsSafe n h result }
     {
@@ -62,7 +62,7 @@ impl State {
     }
 
     /// The variable becomes the own index plus an offset.
-    fn own<'a>(&self, off: i32, go: Go) -> Ahead<'a>
+    fn own(&self, off: i32, go: Go) -> Ahead
         ensures next { (b : Codes) (path : List Step) → move_by b path self.now.me self.now.i result ≡ owned self.now.me (self.now.me.index +ℤ off) (goes b path go) }
         ensures safe { (n h : ℕ) → IsRoom n h go → IsSafe n h result }
     {
@@ -73,7 +73,7 @@ impl State {
     }
 
     /// Into the first part of an If where a guard holds, and into the other part where none does.
-    fn branch<'a>(&self, guards: &[Guard], depth: usize, at: usize) -> Ahead<'a>
+    fn branch(&self, guards: &[Guard], depth: usize, at: usize) -> Ahead
         ensures next { (b : Codes) (path : List Step) → move_by b path self.now.me self.now.i result ≡ branched self.now.me self.now.i (λ k. goes b path (Enter depth at k)) (some_holds guards.now self.now.me self.now.i) }
         ensures safe { (n h : ℕ) → IsIn n h depth → IsSafe n h result }
     {
@@ -91,32 +91,27 @@ impl State {
     }
 
     /// The probe of a source.
-    fn probe<'a>(&self, from: Option<u32>, tests: &'a [Test], depth: usize, at: usize) -> Ahead<'a>
-        ensures next { (b : Codes) (path : List Step) → move_by b path self.now.me self.now.i result ≡ probed self.now.me self.now.i tests.now (λ k. goes b path (Enter depth at k)) from }
+    fn probe(&self, from: Option<u32>, depth: usize, at: usize) -> Ahead
+        ensures next { (b : Codes) (path : List Step) → move_by b path self.now.me self.now.i result ≡ probed self.now.me self.now.i (tests_at b (take depth path) at) (λ k. goes b path (Enter depth at k)) from }
         ensures safe { (n h : ℕ) → IsIn n h depth → IsSafe n h result }
     {
         match from {
             None => Ahead::Undefined,
-            Some(from) => Ahead::Probe {
-                from,
-                depth,
-                at,
-                tests,
-            },
+            Some(from) => Ahead::Probe { from, depth, at },
         }
     }
 
     /// The choice of another rank, which the first message of a source tells.
-    fn ask<'a>(
+    fn ask(
         &self,
         places: &[Formula],
         relays: &[Relay],
         from: Peer,
-        tests: &'a [Test],
+        tests: &[Test],
         depth: usize,
         at: usize,
-    ) -> Ahead<'a>
-        ensures next { (b : Codes) (path : List Step) → move_by b path self.now.me self.now.i result ≡ asked places.now self.now.me self.now.i relays.now from tests.now (λ k. goes b path (Enter depth at k)) }
+    ) -> Ahead
+        ensures next { (b : Codes) (path : List Step) → tests_at b (take depth path) at ≡ tests.now → move_by b path self.now.me self.now.i result ≡ asked places.now self.now.me self.now.i relays.now from tests.now (λ k. goes b path (Enter depth at k)) }
         ensures safe { (n h : ℕ) → IsIn n h depth → IsSafe n h result }
     {
         if tests.is_empty() {
@@ -124,11 +119,11 @@ impl State {
         }
         match source(relays, from, &self.me, self.i) {
             None => Ahead::Undefined,
-            Some(from) => self.probe(peer(places, from, &self.me, self.i), tests, depth, at),
+            Some(from) => self.probe(peer(places, from, &self.me, self.i), depth, at),
         }
     }
 
-    fn send<'a>(&self, label: u32, to: Option<u32>, go: Go) -> Ahead<'a>
+    fn send(&self, label: u32, to: Option<u32>, go: Go) -> Ahead
         ensures next { (b : Codes) (path : List Step) → move_by b path self.now.me self.now.i result ≡ sends self.now.me self.now.i label (goes b path go) to }
         ensures safe { (n h : ℕ) → IsRoom n h go → IsSafe n h result }
     {
@@ -138,7 +133,7 @@ impl State {
         }
     }
 
-    fn receive<'a>(&self, label: u32, from: Option<u32>, go: Go) -> Ahead<'a>
+    fn receive(&self, label: u32, from: Option<u32>, go: Go) -> Ahead
         ensures next { (b : Codes) (path : List Step) → move_by b path self.now.me self.now.i result ≡ receives self.now.me self.now.i label (goes b path go) from }
         ensures safe { (n h : ℕ) → IsRoom n h go → IsSafe n h result }
     {
@@ -148,7 +143,7 @@ impl State {
         }
     }
 
-    fn broadcast<'a>(&self, label: u32, root: Option<u32>, go: Go) -> Ahead<'a>
+    fn broadcast(&self, label: u32, root: Option<u32>, go: Go) -> Ahead
         ensures next { (b : Codes) (path : List Step) → move_by b path self.now.me self.now.i result ≡ when_some root (λ q. enters self.now.me self.now.i (Broadcast label q) (goes b path go)) }
         ensures safe { (n h : ℕ) → IsRoom n h go → IsSafe n h result }
     {
@@ -161,7 +156,7 @@ impl State {
         }
     }
 
-    fn reduce<'a>(&self, label: u32, op: Op, root: Option<u32>, go: Go) -> Ahead<'a>
+    fn reduce(&self, label: u32, op: Op, root: Option<u32>, go: Go) -> Ahead
         ensures next { (b : Codes) (path : List Step) → move_by b path self.now.me self.now.i result ≡ when_some root (λ q. enters self.now.me self.now.i (Reduce label (operation_of op) q) (goes b path go)) }
         ensures safe { (n h : ℕ) → IsRoom n h go → IsSafe n h result }
     {
@@ -175,7 +170,7 @@ impl State {
     }
 
     /// What is next at a choice with so many branches.
-    fn choice<'a>(
+    fn choice(
         &self,
         places: &[Formula],
         who: &Guard,
@@ -183,11 +178,11 @@ impl State {
         branches: u32,
         relays: &[Relay],
         from: Peer,
-        tests: &'a [Test],
+        tests: &[Test],
         depth: usize,
         at: usize,
-    ) -> Ahead<'a>
-        ensures next { (b : Codes) (path : List Step) → move_by b path self.now.me self.now.i result ≡ chosen places.now self.now.me self.now.i kernel branches relays.now from tests.now (λ k. goes b path (Enter depth at k)) (guard_holds who.now self.now.me self.now.i) }
+    ) -> Ahead
+        ensures next { (b : Codes) (path : List Step) → tests_at b (take depth path) at ≡ tests.now → move_by b path self.now.me self.now.i result ≡ chosen places.now self.now.me self.now.i kernel branches relays.now from tests.now (λ k. goes b path (Enter depth at k)) (guard_holds who.now self.now.me self.now.i) }
         ensures safe { (n h : ℕ) → IsIn n h depth → IsSafe n h result }
     {
         match guard_holds(who, &self.me, self.i) {
@@ -208,7 +203,7 @@ impl State {
     }
 
     /// What is next at a statement.
-    fn at<'a>(
+    fn at(
         &self,
         body: &[Stmt],
         places: &[Formula],
@@ -216,11 +211,11 @@ impl State {
         depth: usize,
         at: usize,
         after: usize,
-        stmt: &'a Stmt,
-    ) -> Ahead<'a>
+        stmt: &Stmt,
+    ) -> Ahead
         requires inside { depth ≤ length path.now }
         requires narrow { breadth (plain stmt.now) ≤ 64 }
-        ensures next { move_by (plain_all body.now) path.now self.now.me self.now.i result ≡ move_to places.now self.now.me self.now.i (plain stmt.now) (λ k. goes (plain_all body.now) path.now (Enter depth at k)) (goes (plain_all body.now) path.now (Stay depth after)) (λ id. back_by (plain_all body.now) path.now (looped (plain_all body.now) (take depth path.now) id 0 None)) }
+        ensures next { tests_at (plain_all body.now) (take depth path.now) at ≡ tests_of (plain stmt.now) → move_by (plain_all body.now) path.now self.now.me self.now.i result ≡ move_to places.now self.now.me self.now.i (plain stmt.now) (λ k. goes (plain_all body.now) path.now (Enter depth at k)) (goes (plain_all body.now) path.now (Stay depth after)) (λ id. back_by (plain_all body.now) path.now (looped (plain_all body.now) (take depth path.now) id 0 None)) }
         ensures safe { (h : ℕ) → depth + height (plain stmt.now) ≤ h → IsSafe (length path.now) h result }
     {
         let (me, i) = (&self.me, self.i);
@@ -285,7 +280,7 @@ impl State {
     }
 
     /// What is next at the end of a round.
-    fn round<'a>(&self, most: usize, depth: usize, after: usize, high: Lin) -> Ahead<'a>
+    fn round(&self, most: usize, depth: usize, after: usize, high: Lin) -> Ahead
         requires { depth < most }
         ensures next { (p : Program) (b : Codes) (path : List Step) (t : Todo) → IsRound b path t depth after high → move_by b path self.now.me self.now.i result ≡ move_from p self.now.me.n (rank_of self.now.me self.now.i t) t }
         ensures safe { (n h : ℕ) → depth < n → IsSafe n h result }
@@ -298,13 +293,7 @@ impl State {
     }
 
     /// What is next at statement `at` of the block that a path leads to.
-    pub fn ahead<'a>(
-        &self,
-        body: &'a [Stmt],
-        places: &[Formula],
-        path: &[Step],
-        at: usize,
-    ) -> Ahead<'a>
+    pub fn ahead(&self, body: &[Stmt], places: &[Formula], path: &[Step], at: usize) -> Ahead
         requires narrow { breadth_all (plain_all body.now) ≤ 64 }
         ensures next { (p : Program) → Knows p places.now self.now.me → move_by (plain_all body.now) path.now self.now.me self.now.i result ≡ move_from p self.now.me.n (rank_of self.now.me self.now.i (todo (plain_all body.now) path.now at)) (todo (plain_all body.now) path.now at) }
         ensures safe { IsSafe (length path.now) (height_all (plain_all body.now)) result }

@@ -8,7 +8,7 @@ use pb_ctree::{Lin, Stmt};
 
 /// Block `part` of the statement; no statements where it has no such block.
 #[tactic(auto, using(crate::proofs::Plains::of_choice))]
-fn inside(stmt: &Stmt, part: usize) -> &[Stmt]
+pub fn inside(stmt: &Stmt, part: usize) -> &[Stmt]
     ensures { plain_all result.now ≡ inside part (plain stmt.now) }
 {
     match stmt {

@@ -1,6 +1,5 @@
 pub mod Moves
 pub mod Views
-pub mod Ways
 pub mod Ranges
 pub mod Counting
 pub mod Phases

@@ -15,10 +15,12 @@ use Rattle.pb_ahead.specs.declared.call.Call.{Call}
 use Rattle.pb_machine.specs.declared.phase.Phase.{Phase}
 use Rattle.pb_machine.specs.declared.phase.Phase.TheVariants.{Going, Joined, Misled}
 use Rattle.pb_machine.specs.declared.rank.Rank.{Rank}
+use Rattle.pb_ahead.specs.Heights.{height_all}
+use Rattle.pb_ahead.specs.Safe.{IsSafe}
 use Rattle.pb_ahead.specs.Place.{todo}
 use Rattle.pb_ahead.specs.Calls.{collective_of}
 use Rattle.pb_ahead.specs.View.{rank_of, goes, move_by, Knows}
-use Rattle.pb_machine.specs.Steps.{body_of, path_of, joined, shown_in, shown, param_of, IsPlaced, move_shown}
+use Rattle.pb_machine.specs.Steps.{body_of, path_of, joined, shown_in, shown, param_of, IsPlaced, move_shown, Fits}
 use Rattle.pb_machine.proofs.Moves.{stayed}
 
 pub knows : (tree : CTree) (r : Rank) → IsTree tree → IsPlaced tree r → Knows (program_of tree.local) tree.places.items r.state.me
@@ -57,3 +59,13 @@ going_moves tree r body places path x is e1 e2 e3 made fits h =
     let by_body = subst (λ (z : List Stmt). move_by (plain_all z) path r.state.me r.state.i x ≡ move_from p r.state.me.n (rank_of r.state.me r.state.i (todo (plain_all z) path r.at)) (todo (plain_all z) path r.at)) e1 (h p here) in
     subst (λ (z : List Step). move_by (body_of tree) z r.state.me r.state.i x ≡ move_from p r.state.me.n (rank_of r.state.me r.state.i (todo (body_of tree) z r.at)) (todo (body_of tree) z r.at)) e3 by_body
     ∙ going_is tree r is
+
+-- a rank that keeps what it found
+pub kept : (tree : CTree) (r : Rank) (x : Ahead) → IsPlaced tree r →
+    move_by (body_of tree) (path_of r) r.state.me r.state.i x ≡ move_shown (program_of tree.local) (param_of r) (shown tree r) →
+    IsSafe r.depth (height_all (body_of tree)) x → Fits tree (record r { ahead = x })
+kept tree r x placed moves safe = record {
+  placed = record { total = placed.total; room = placed.room; inside = placed.inside; limit = placed.limit };
+  moves = moves;
+  safe = safe;
+}

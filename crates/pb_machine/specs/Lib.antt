@@ -1,5 +1,4 @@
 pub mod Acts
 pub mod Seats
 pub mod Steps
-pub mod Ways
 pub mod Sample

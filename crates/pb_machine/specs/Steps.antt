@@ -17,14 +17,13 @@ use Rattle.pb_machine.specs.declared.act.Input.{Input}
 use Rattle.pb_machine.specs.declared.act.Input.TheVariants.{Plain, Tag, Answer}
 use Rattle.pb_machine.specs.declared.phase.Phase.{Phase}
 use Rattle.pb_machine.specs.declared.phase.Phase.TheVariants.{Going, Joined, Misled}
-use Rattle.pb_machine.specs.declared.way.Way.{Way}
 use Rattle.pb_machine.specs.declared.rank.Rank.{Rank}
 use Rattle.pb_ahead.specs.Heights.{height_all}
 use Rattle.pb_ahead.specs.Place.{todo}
 use Rattle.pb_ahead.specs.Calls.{collective_of}
 use Rattle.pb_machine.specs.Acts.{act_of}
-use Rattle.pb_ahead.specs.View.{rank_of, goes}
-use Rattle.pb_ahead.specs.Safe.{IsRoom}
+use Rattle.pb_ahead.specs.View.{rank_of, move_by}
+use Rattle.pb_ahead.specs.Safe.{IsSafe}
 
 -- ---- what is seen of a rank
 
@@ -213,22 +212,8 @@ move_shown p n misled = M.undefined
 
 -- ---- what a rank keeps
 
--- what is seen of a rank that went this way
-abbrev pub arrived : CTree → Rank → Way → Shown
-arrived tree r w = shown_in w.phase (record { state = rank_of r.state.me w.i (joined w.phase (goes (body_of tree) (path_of r) w.go)); count = w.silent })
-
--- there is room for this way, and each input that goes with the next step leads along it
-pub record Leads (tree : CTree) (r : Rank) (w : Way) : Type 0 where
-  pub room : IsRoom r.depth (length r.path.items) w.go
-  pub there : (input : Input) → IsSome (after r.limit r.silent input (move_shown (program_of tree.local) (param_of r) (shown tree r))) →
-      after r.limit r.silent input (move_shown (program_of tree.local) (param_of r) (shown tree r)) ≡ Some (arrived tree r w)
-
-abbrev pub IsWay : CTree → Rank → Option Way → Type 0
-IsWay tree r None = Unit {0}
-IsWay tree r (Some w) = Leads tree r w
-
--- the rank is placed in the tree, and what it keeps of the next step is so
+-- the rank is placed in the tree, and what it keeps is its next step, for which there is room
 pub record Fits (tree : CTree) (r : Rank) : Type 0 where
   pub placed : IsPlaced tree r
-  pub next : r.next ≡ next_shown (program_of tree.local) (param_of r) (shown tree r)
-  pub way : IsWay tree r r.way
+  pub moves : move_by (body_of tree) (path_of r) r.state.me r.state.i r.ahead ≡ move_shown (program_of tree.local) (param_of r) (shown tree r)
+  pub safe : IsSafe r.depth (height_all (body_of tree)) r.ahead

@@ -6,7 +6,6 @@ mod phase;
 mod rank;
 mod seats;
 mod sizes;
-mod way;
 
 pub use act::{Act, Input, Next};
 pub use pb_ctree::{CTree, NoMemory, Op};

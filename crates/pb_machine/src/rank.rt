@@ -1,4 +1,4 @@
-ghost use Rattle.std.specs.Prelude.{◌≡◌, ◌≤◌, ◌<◌, ◌+◌, ℕ, suc, IfOk, IsSome, Some, length, pos, ◌≤ℤ◌, true};
+ghost use Rattle.std.specs.Prelude.{◌≡◌, ◌≤◌, ◌<◌, ◌+◌, ℕ, suc, IfOk, IsSome, Some, length, take, pos, ◌≤ℤ◌, true};
 ghost use Rattle.pb_affine.specs.Values.{count_of};
 ghost use Rattle.pb_local.specs.Ranks.{total};
 ghost use Rattle.pb_local.specs.Tree.{Codes, program_of};
@@ -8,19 +8,17 @@ ghost use Rattle.pb_ctree.specs.declared.tree.CTree.{CTree};
 ghost use Rattle.pb_ctree.specs.Trees.{IsTree};
 ghost use Rattle.pb_ahead.specs.Heights.{height_all};
 ghost use Rattle.pb_ahead.specs.Numbers.{tested};
-ghost use Rattle.pb_ahead.specs.Place.{todo};
+ghost use Rattle.pb_ahead.specs.Place.{todo, tests_at};
 ghost use Rattle.pb_ahead.specs.View.{goes, move_by, rank_of, told_to};
 ghost use Rattle.pb_ahead.specs.Safe.{IsRoom, IsSafe, IsIn};
 ghost use Rattle.pb_machine.specs.Steps.{going, misled, body_of, path_of, joined, shown_in, shown, param_of, IsPlaced, Fits, next_shown, takes_shown, goes_with, IsStepOf, unless_lost, next_by, takes_by, after, counted_as, read_as, move_shown};
-ghost use Rattle.pb_machine.specs.Ways.{act_way, quiet_way, way_by};
 ghost use Rattle.pb_ahead.specs.declared.ahead.Go.TheVariants.{Enter};
 
 use crate::act::{Act, Input, Next, entry};
 use crate::phase::Phase;
 use crate::seats::me_at;
 use crate::sizes::{MOST, height, size};
-use crate::way::Way;
-use pb_ahead::{Ahead, Go, State, Step, tested};
+use pb_ahead::{Ahead, Go, State, Step, tested, tests_at};
 use pb_ctree::{CTree, NoMemory, Test};
 use std::alloc::Global;
 
@@ -38,10 +36,8 @@ pub struct Rank {
     depth: usize,
     /// The next statement of the innermost block.
     at: usize,
-    /// What comes next from here.
-    next: Next,
-    /// Where that leads, if only one place.
-    way: Option<Way>,
+    /// What is next from here, and where that leads.
+    ahead: Ahead,
 }
 
 impl Rank {
@@ -73,16 +69,15 @@ impl Rank {
             path,
             depth: 0,
             at: 0,
-            next: Next::Undefined,
-            way: None,
+            ahead: Ahead::Undefined,
         };
         rank.look(tree);
         Ok(rank)
     }
 
-    /// What is next, and where that leads.
+    /// What is next here, found by a walk from the tree's root.
     #[tactic(auto, using(crate::proofs::Phases::joined_is, crate::proofs::Phases::misled_is, pb_ahead::proofs::Breadths::tree_narrow))]
-    fn ahead<'a>(&self, tree: &'a CTree) -> Ahead<'a>
+    fn find(&self, tree: &CTree) -> Ahead
         requires tree { IsTree tree.now }
         requires placed { IsPlaced tree.now self.now }
         ensures next { move_by (body_of tree.now) (path_of self.now) self.now.state.me self.now.state.i result ≡ move_shown (program_of tree.now.local) (param_of self.now) (shown tree.now self.now) }
@@ -117,10 +112,11 @@ impl Rank {
         }
     }
 
-    fn seen(&self, ahead: Ahead<'_>) -> Next
-        ensures { (b : Codes) → result ≡ next_by self.now.limit self.now.silent (move_by b (path_of self.now) self.now.state.me self.now.state.i ahead.entry) }
+    /// What is seen of what it keeps.
+    fn seen(&self) -> Next
+        ensures { (b : Codes) → result ≡ next_by self.now.limit self.now.silent (move_by b (path_of self.now) self.now.state.me self.now.state.i self.now.ahead) }
     {
-        match ahead {
+        match self.ahead {
             Ahead::Ended => Next::Ended,
             Ahead::Undefined => Next::Undefined,
             Ahead::Silent { .. } => self.unless_lost(Next::Silent),
@@ -138,50 +134,7 @@ impl Rank {
         }
     }
 
-    /// Where a step leads that leads to one place.
-    fn leads(&self, ahead: Ahead<'_>) -> Option<Way>
-        ensures { result ≡ way_by self.now.limit self.now.silent self.now.state.i ahead.entry }
-    {
-        match ahead {
-            Ahead::Silent { i, go } => self.quietly(i, go),
-            Ahead::Run { go, .. } => Some(self.acting(Phase::Going, go)),
-            Ahead::Send { go, .. } => Some(self.acting(Phase::Going, go)),
-            Ahead::Recv { go, .. } => Some(self.acting(Phase::Going, go)),
-            Ahead::Leave { go, .. } => Some(self.acting(Phase::Going, go)),
-            Ahead::Join { call, go } => Some(self.acting(Phase::Joined(call), go)),
-            Ahead::Ended => None,
-            Ahead::Undefined => None,
-            Ahead::Choose { .. } => None,
-            Ahead::Probe { .. } => None,
-        }
-    }
-
-    fn acting(&self, phase: Phase, go: Go) -> Way
-        ensures { result ≡ act_way phase self.now.state.i go }
-    {
-        Way {
-            phase,
-            i: self.state.i,
-            silent: 0,
-            go,
-        }
-    }
-
-    fn quietly(&self, i: i32, go: Go) -> Option<Way>
-        ensures { result ≡ quiet_way self.now.limit self.now.silent i go }
-    {
-        if self.silent >= self.limit {
-            return None;
-        }
-        Some(Way {
-            phase: Phase::Going,
-            i,
-            silent: self.silent + 1,
-            go,
-        })
-    }
-
-    /// Keeps what comes next from here, and where that leads.
+    /// Keeps what is next from here.
     fn look(&mut self, tree: &CTree)
         requires tree { IsTree tree.now }
         requires placed { IsPlaced tree.now self.old }
@@ -189,9 +142,7 @@ impl Rank {
         ensures shown { shown tree.now self.new ≡ shown tree.now self.old }
         ensures n { param_of self.new ≡ param_of self.old }
     {
-        let ahead = self.ahead(tree);
-        self.next = self.seen(ahead);
-        self.way = self.leads(ahead);
+        self.ahead = self.find(tree);
     }
 
     /// What the rank does next, as far as it alone decides it. Takes no memory.
@@ -200,16 +151,28 @@ impl Rank {
         requires fits { Fits tree.now self.now }
         ensures { result ≡ next_shown (program_of tree.now.local) (param_of self.now) (shown tree.now self.now) }
     {
-        self.next
+        self.seen()
+    }
+
+    /// The tests of the choice at this place.
+    fn tests<'a>(&self, tree: &'a CTree, depth: usize, at: usize) -> &'a [Test]
+        requires depth { depth ≤ self.now.depth }
+        requires inside { self.now.depth ≤ length self.now.path.items }
+        ensures { result.now ≡ tests_at (body_of tree.now) (take depth (path_of self.now)) at }
+    {
+        tests_at(&tree.local.body, &self.path[..depth], at)
     }
 
     fn reads(&self, tree: &CTree, tag: u32) -> bool
         requires tree { IsTree tree.now }
         requires placed { IsPlaced tree.now self.now }
+        requires moves { move_by (body_of tree.now) (path_of self.now) self.now.state.me self.now.state.i self.now.ahead ≡ move_shown (program_of tree.now.local) (param_of self.now) (shown tree.now self.now) }
+        requires safe { IsSafe self.now.depth (height_all (body_of tree.now)) self.now.ahead }
         ensures { result ≡ takes_by self.now.limit self.now.silent (move_shown (program_of tree.now.local) (param_of self.now) (shown tree.now self.now)) tag }
     {
-        match self.ahead(tree) {
-            Ahead::Probe { tests, .. } => {
+        match self.ahead {
+            Ahead::Probe { depth, at, .. } => {
+                let tests = self.tests(tree, depth, at);
                 self.silent < self.limit
                     && tested(tests, tag, &self.state.me, self.state.i).is_some()
             }
@@ -297,9 +260,12 @@ impl Rank {
         }
     }
 
+    /// The step that it keeps.
     fn step(&mut self, tree: &CTree, input: Input)
         requires tree { IsTree tree.now }
         requires placed { IsPlaced tree.now self.old }
+        requires moves { move_by (body_of tree.now) (path_of self.old) self.old.state.me self.old.state.i self.old.ahead ≡ move_shown (program_of tree.now.local) (param_of self.old) (shown tree.now self.old) }
+        requires safe { IsSafe self.old.depth (height_all (body_of tree.now)) self.old.ahead }
         requires input { IsSome (after self.old.limit self.old.silent input (move_shown (program_of tree.now.local) (param_of self.old) (shown tree.now self.old))) }
         ensures step { after self.old.limit self.old.silent input (move_shown (program_of tree.now.local) (param_of self.old) (shown tree.now self.old)) ≡ Some (shown tree.now self.new) }
         ensures me { self.new.state.me ≡ self.old.state.me }
@@ -308,7 +274,7 @@ impl Rank {
         ensures inside { self.new.depth ≤ length self.new.path.items }
     {
         let i = self.state.i;
-        match self.ahead(tree) {
+        match self.ahead {
             Ahead::Ended => {}
             Ahead::Undefined => {}
             Ahead::Silent { i, go } => self.arrive(Phase::Going, i, self.silent + 1, go),
@@ -323,33 +289,12 @@ impl Rank {
                     self.arrive(Phase::Going, i, 0, Go::Enter { depth, at, part });
                 }
             }
-            Ahead::Probe {
-                depth,
-                at,
-                tests,
-                ..
-            } => {
+            Ahead::Probe { depth, at, .. } => {
                 if let Input::Tag(tag) = input {
+                    let tests = self.tests(tree, depth, at);
                     self.read(tests, tag, depth, at);
                 }
             }
-        }
-    }
-
-    /// The step by the way that was kept, else by a walk.
-    fn go_on(&mut self, tree: &CTree, input: Input)
-        requires tree { IsTree tree.now }
-        requires fits { Fits tree.now self.old }
-        requires input { IsSome (after self.old.limit self.old.silent input (move_shown (program_of tree.now.local) (param_of self.old) (shown tree.now self.old))) }
-        ensures step { after self.old.limit self.old.silent input (move_shown (program_of tree.now.local) (param_of self.old) (shown tree.now self.old)) ≡ Some (shown tree.now self.new) }
-        ensures me { self.new.state.me ≡ self.old.state.me }
-        ensures limit { self.new.limit ≡ self.old.limit }
-        ensures long { length self.new.path.items ≡ length self.old.path.items }
-        ensures inside { self.new.depth ≤ length self.new.path.items }
-    {
-        match self.way {
-            Some(way) => self.arrive(way.phase, way.i, way.silent, way.go),
-            None => self.step(tree, input),
         }
     }
 
@@ -364,7 +309,7 @@ impl Rank {
         ensures fits { Fits tree.now self.new }
         ensures n { param_of self.new ≡ param_of self.old }
     {
-        self.go_on(tree, input);
+        self.step(tree, input);
         self.look(tree);
     }
 }

@@ -2,7 +2,7 @@ use Rattle.std.proofs.Common.{◌<◌, length, ◌∙◌}
 use Rattle.pb_local.specs.Tree.{plain, plain_all}
 use Rattle.pb_ahead.specs.Place.{todo}
 use Rattle.pb_ahead.specs.View.{rank_of}
-use Rattle.pb_ahead.proofs.Arms.{is_code, is_round, code_short, round_short, code_next, ended_next, code_high, code_narrow}
+use Rattle.pb_ahead.proofs.Arms.{is_code, is_round, code_short, round_short, code_next, ended_next, code_high, code_narrow, code_tests}
 use Rattle.pb_ahead.proofs.state.State.ahead.Goals as goal
 
 pub at-requires-clause-inside : goal.at-requires-clause-inside
@@ -21,7 +21,7 @@ returns-in-Nowhere-clause-next c = λ p knows. ended_next p c.args.self.now.me.n
 
 pub returns-in-At-clause-next : goal.returns-in-At-clause-next
 returns-in-At-clause-next c = λ p knows.
-    c.at.ensures.next
+    c.at.ensures.next (code_tests _ _ _ _ _ _ _ (is_code (plain_all c.args.body.now) c.args.path.now c.args.at c.in-At.depth c.in-At.at c.in-At.after (plain c.in-At.stmt.now) c.in-At.ensures))
     ∙ code_next p c.args.places.now c.args.self.now.me c.args.self.now.i (plain_all c.args.body.now) c.args.path.now (todo (plain_all c.args.body.now) c.args.path.now c.args.at) c.in-At.depth c.in-At.at c.in-At.after (plain c.in-At.stmt.now) knows
     (is_code (plain_all c.args.body.now) c.args.path.now c.args.at c.in-At.depth c.in-At.at c.in-At.after (plain c.in-At.stmt.now) c.in-At.ensures)
 

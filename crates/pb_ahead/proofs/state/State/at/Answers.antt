@@ -1,9 +1,10 @@
-use Rattle.std.proofs.Common.{◌≡◌, ◌≤◌, ◌∙◌, length, take, None, rules, arith}
+use Rattle.std.proofs.Common.{◌≡◌, ◌≤◌, ◌∙◌, length, take, sym, None, rules, arith}
 use Rattle.pb_local.specs.Tree.{plain_all}
 use Rattle.pb_ahead.specs.declared.ahead.Go.TheVariants.{Enter, Stay}
 use Rattle.pb_ahead.specs.Place.{looped}
 use Rattle.pb_ahead.specs.View.{goes, back_by}
 use Rattle.pb_ahead.proofs.Arms.{choice_does, choice_few}
+use Rattle.pb_ahead.proofs.Plains.{choice_tests}
 use Rattle.pb_ahead.proofs.state.State.at.Goals as goal
 
 pub overflow_cast-len : goal.overflow_cast-len
@@ -16,8 +17,9 @@ pub returns-in-Again-clause-safe : goal.returns-in-Again-clause-safe
 returns-in-Again-clause-safe c = λ h le. c.back.ensures.room h
 
 pub returns-in-Choice-clause-next : goal.returns-in-Choice-clause-next
-returns-in-Choice-clause-next c =
+returns-in-Choice-clause-next c = λ is.
     c.choice.ensures.next (plain_all c.args.body.now) c.args.path.now
+    (is ∙ choice_tests c.args.stmt.now c.in-Choice.who c.in-Choice.kernel c.in-Choice.relays c.in-Choice.from c.in-Choice.tests c.in-Choice.branches c.in-Choice.is ∙ sym c.deref-in-Choice.ensures.value)
     ∙ choice_does c.args.places.now c.args.self.now.me c.args.self.now.i c.args.stmt.now c.in-Choice.who c.in-Choice.kernel c.in-Choice.relays c.in-Choice.from c.in-Choice.tests c.in-Choice.branches
     (λ k. goes (plain_all c.args.body.now) c.args.path.now (Enter c.args.depth c.args.at k))
     (λ id. back_by (plain_all c.args.body.now) c.args.path.now (looped (plain_all c.args.body.now) (take c.args.depth c.args.path.now) id 0 None))

@@ -1,6 +1,6 @@
 use Rattle.std.proofs.Common.{ap, take}
 use Rattle.pb_machine.proofs.Phases.{going_moves}
-use Rattle.pb_machine.proofs.rank.Rank.ahead.Goals as goal
+use Rattle.pb_machine.proofs.rank.Rank.find.Goals as goal
 
 pub returns-in-Going-clause-next : goal.returns-in-Going-clause-next
 returns-in-Going-clause-next c =
