@@ -1,12 +1,13 @@
 -- One number marked or unmarked.
-use Rattle.std.proofs.Common.{◌≡◌, ◌<◌, ◌≤◌, ◌⊎◌, inl, inr, ℕ, zero, suc, ◌+◌, ◌-◌, List, [], ◌∷◌, ◌++◌, length, take, drop, get_or, ap, ◌∙◌, sym, refl, Bool, true, false, ◌&&◌, nat_eq, nat_lt, if◌then◌else◌, arith, add-one, zero-add, suc-add, length-append}
+use Rattle.std.proofs.Common.{◌≡◌, ◌<◌, ◌≤◌, ◌⊎◌, inl, inr, ℕ, zero, suc, ◌+◌, ◌-◌, List, [], ◌∷◌, ◌++◌, length, take, drop, get_or, set, replicate, ap, ◌∙◌, sym, refl, subst, Bool, true, false, ◌&&◌, nat_eq, nat_lt, if◌then◌else◌, arith, add-one, zero-add, suc-add, length-append}
 use Rattle.std.specs.List.{insert, remove}
-use Rattle.std.proofs.lemmas.Bool.{eq-eqb, cases_lt}
+use Rattle.std.proofs.lemmas.Bool.{eq-eqb, eqb-true, eqb-false, cases_lt}
 use Rattle.std.proofs.Math.Seq.{take-append_seam, drop-append_seam, drop-append-add, get_or-append_seam}
-use Rattle.std.proofs.lemmas.List.{get_or-append-add}
+use Rattle.std.proofs.lemmas.List.{get_or-append-add, get_or-replicate, get_or-set_same, get_or-set_other, get_or_read}
 use Rattle.std.proofs.Math.ListN.{get_or-append}
 use Rattle.std.proofs.lemmas.List.Edits.{length-insert}
 use Rattle.pb_ready.specs.Kept.{kept, put, has, IsPlace, IsRising}
+use Rattle.pb_ready.specs.Listed.{marked}
 
 glue : (xs ys zs : List ℕ) (s : ℕ) (c : Bool) → xs ≡ ys ++ zs → (if c then s ∷ xs else xs) ≡ (if c then s ∷ ys else ys) ++ zs
 glue xs ys zs s true h = ap (λ z. s ∷ z) h
@@ -181,24 +182,47 @@ pub short : (f : ℕ → Bool) (a s : ℕ) → length (kept f a s) ≤ a
 short f zero s = omega arith
 short f (suc a) s = by_short (kept f a (suc s)) s a (f s) (short f a (suc s))
 
-told_by : (f : ℕ → Bool) (xs : List ℕ) (at r m : ℕ) (b : Bool) → f r ≡ b → IsPlace xs r at → xs ≡ kept f r 0 ++ (if b then r ∷ kept f m (suc r) else kept f m (suc r)) → has xs at r ≡ b
-told_by f xs at r m true e p h =
-    let low : (k : ℕ) → k < length (kept f r 0) → get_or (kept f r 0) k 0 < r = λ (k : ℕ) (l : k < length (kept f r 0)). let u = under f r 0 k l in omega (arith, u) in
-    let high : (k : ℕ) → k < length (r ∷ kept f m (suc r)) → r ≤ get_or (r ∷ kept f m (suc r)) k 0 = λ (k : ℕ) (l : k < length (r ∷ kept f m (suc r))). by_over (kept f m (suc r)) r true (λ (j : ℕ) (q : j < length (kept f m (suc r))). over f m (suc r) j q) k l in
-    let here : at ≡ length (kept f r 0) = placed (kept f r 0) (r ∷ kept f m (suc r)) r at (rw h at p) low high in
-    ap (λ z. has z at r) h ∙ there (kept f r 0) (kept f m (suc r)) at r here
-told_by f xs at r m false e p h =
-    let low : (k : ℕ) → k < length (kept f r 0) → get_or (kept f r 0) k 0 < r = λ (k : ℕ) (l : k < length (kept f r 0)). let u = under f r 0 k l in omega (arith, u) in
-    let high : (k : ℕ) → k < length (kept f m (suc r)) → r ≤ get_or (kept f m (suc r)) k 0 = λ (k : ℕ) (l : k < length (kept f m (suc r))). let u = over f m (suc r) k l in omega (arith, u) in
-    let here : at ≡ length (kept f r 0) = placed (kept f r 0) (kept f m (suc r)) r at (rw h at p) low high in
-    ap (λ z. has z at r) h ∙ away (kept f r 0) (kept f m (suc r)) at r here (λ (k : ℕ) (l : k < length (kept f m (suc r))). over f m (suc r) k l)
+behind : (xs ys : List ℕ) (s : ℕ) → ((k : ℕ) → k < length ys → suc s ≤ get_or ys k 0) → s ∷ xs ≡ ys → ⊥
+behind xs [] s high e = absurd cc
+behind xs (y ∷ ys) s high e = let u : suc s ≤ y = high 0 (omega arith) in let q : s ≡ y = cc in omega (arith, u, q)
 
--- a number stands at its place exactly where it has a mark
-pub told : (f : ℕ → Bool) (n : ℕ) (xs : List ℕ) (at r : ℕ) → IsPlace xs r at → r < n → xs ≡ kept f n 0 → has xs at r ≡ f r
-told f n xs at r p lt h =
-    let m : ℕ = n - suc r in
-    let e : n ≡ r + suc m = omega (arith, lt) in
-    told_by f xs at r m (f r) refl p (h ∙ ap (λ z. kept f z 0) e ∙ whole f r m)
+peel : (xs ys : List ℕ) (s : ℕ) (c d : Bool) → ((k : ℕ) → k < length xs → suc s ≤ get_or xs k 0) → ((k : ℕ) → k < length ys → suc s ≤ get_or ys k 0) → (if c then s ∷ xs else xs) ≡ (if d then s ∷ ys else ys) → (c ≡ d) × (xs ≡ ys)
+peel xs ys s true true a b e = (refl, cc)
+peel xs ys s true false a b e = absurd (behind xs ys s b e)
+peel xs ys s false true a b e = absurd (behind ys xs s a (sym e))
+peel xs ys s false false a b e = (refl, e)
+
+tell : (f g : ℕ → Bool) (s k : ℕ) → f s ≡ g s → (suc s ≤ k → f k ≡ g k) → s ≤ k → f k ≡ g k
+tell f g s k here above lo = elim (cases_lt s k) [
+  | inl lt ↦ above (omega (arith, lt))
+  | inr le ↦ let is : s ≡ k = omega (arith, lo, le) in subst (λ (j : ℕ). f j ≡ g j) is here
+]
+
+-- the list tells of each number whether it has a mark
+told : (f g : ℕ → Bool) (n s k : ℕ) → kept f n s ≡ kept g n s → s ≤ k → k < n + s → f k ≡ g k
+told f g zero s k e lo hi = absurd (omega (arith, lo, hi))
+told f g (suc n) s k e lo hi =
+    let p : (f s ≡ g s) × (kept f n (suc s) ≡ kept g n (suc s)) = peel (kept f n (suc s)) (kept g n (suc s)) s (f s) (g s) (λ (j : ℕ) (l : j < length (kept f n (suc s))). over f n (suc s) j l) (λ (j : ℕ) (l : j < length (kept g n (suc s))). over g n (suc s) j l) e in
+    tell f g s k p.0 (λ (l : suc s ≤ k). told f g n (suc s) k p.1 l (omega (arith, hi))) lo
+
+-- what is read at a number's place among the marks
+pub mark_read : (f : ℕ → Bool) (marks : List Bool) (n : ℕ) (xs : List ℕ) (k : ℕ) (b : Bool) → b ≡ get_or marks k b → length marks ≡ n → xs ≡ kept (marked marks) n 0 → k < n → xs ≡ kept f n 0 → b ≡ f k
+mark_read f marks n xs k b at each is lt h =
+    get_or_read marks k b (omega (arith, each, lt)) at false ∙ told (marked marks) f n 0 k (sym is ∙ h) (omega arith) (omega (arith, lt))
+
+-- a mark that stands may be made again
+pub put_again : (f : ℕ → Bool) (n r : ℕ) (b : Bool) → f r ≡ b → kept f n 0 ≡ kept (put f r b) n 0
+put_again f n r b is = same f (put f r b) n 0 (λ (k : ℕ) (l : 0 ≤ k) (u : k < n + 0). by k (nat_eq k r) refl) where
+  by : (k : ℕ) (c : Bool) → nat_eq k r ≡ c → f k ≡ (if nat_eq k r then b else f k)
+  by k true e = rw e (ap f (eqb-true k r e) ∙ is)
+  by k false e = rw e refl
+
+-- the marks after one was set
+pub put_set : (marks : List Bool) (n r : ℕ) (b : Bool) → length marks ≡ n → r < n → kept (put (marked marks) r b) n 0 ≡ kept (marked (set marks r b)) n 0
+put_set marks n r b each lt = same (put (marked marks) r b) (marked (set marks r b)) n 0 (λ (k : ℕ) (l : 0 ≤ k) (u : k < n + 0). by k (nat_eq k r) refl) where
+  by : (k : ℕ) (c : Bool) → nat_eq k r ≡ c → (if nat_eq k r then b else get_or marks k false) ≡ get_or (set marks r b) k false
+  by k true e = rw e (sym (ap (λ j. get_or (set marks r b) j false) (eqb-true k r e) ∙ get_or-set_same marks r b false (omega (arith, each, lt))))
+  by k false e = rw e (sym (get_or-set_other marks r k b false (eqb-false k r e)))
 
 -- where a number is put in, there is room for it
 pub room_left : (f : ℕ → Bool) (n : ℕ) (xs : List ℕ) (at r : ℕ) → IsPlace xs r at → has xs at r ≡ false → r < n → xs ≡ kept f n 0 → length xs < n
@@ -214,3 +238,7 @@ room_left f n xs at r p away lt h =
 pub none_kept : (a s : ℕ) → kept (λ k. false) a s ≡ []
 none_kept zero s = refl
 none_kept (suc a) s = none_kept a (suc s)
+
+-- where no number has a mark
+pub no_marks : (n : ℕ) (marks : List Bool) → marks ≡ replicate n false → [] ≡ kept (marked marks) n 0
+no_marks n marks is = sym (ap (λ m. kept (marked m) n 0) is ∙ same (marked (replicate n false)) (λ k. false) n 0 (λ (k : ℕ) (l : 0 ≤ k) (u : k < n + 0). get_or-replicate n k false false (omega (arith, u))) ∙ none_kept n 0)

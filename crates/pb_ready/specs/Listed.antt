@@ -1,5 +1,5 @@
 -- What is seen of a list of ready numbers.
-use Rattle.std.specs.Prelude.{◌≡◌, ℕ, Bool, List}
+use Rattle.std.specs.Prelude.{◌≡◌, ℕ, Bool, false, List, length, slice_index_or}
 use Rattle.pb_ready.specs.Kept.{kept}
 
 -- the numbers below a total that are listed
@@ -7,10 +7,14 @@ pub record Listed : Type 0 where
   pub total : ℕ
   pub list : List ℕ
 
--- the list has exactly the numbers below the total with some mark, ascending
-pub record IsListed (x : Listed) : Type 0 where
-  pub marks : ℕ → Bool
-  pub exact : x.list ≡ kept marks x.total 0
+-- what the marks say of a number
+abbrev pub marked : List Bool → ℕ → Bool
+marked marks k = slice_index_or marks k false
+
+-- there is a mark for each number below the total, and the list has exactly the numbers with a mark, ascending
+pub record IsListed (marks : List Bool) (x : Listed) : Type 0 where
+  pub each : length marks ≡ x.total
+  pub exact : x.list ≡ kept (marked marks) x.total 0
 
 -- exactly the numbers below the total that f marks
 abbrev pub Lists : Listed → (ℕ → Bool) → Type 0

@@ -1,8 +1,8 @@
-ghost use Rattle.std.specs.Prelude.{◌≡◌, ◌<◌, ◌≤◌, ℕ, Bool, false, [], IfOk};
+ghost use Rattle.std.specs.Prelude.{◌≡◌, ◌<◌, ℕ, Bool, false, IfOk};
 ghost use Rattle.pb_ready.specs.Kept.{put};
-ghost use Rattle.pb_ready.specs.Listed.{Lists, IsListed};
+ghost use Rattle.pb_ready.specs.Listed.{Lists};
 
-use crate::place::{mark, place_of, stands};
+use crate::place::mark;
 use pb_text::NoMemory;
 use std::alloc::Global;
 use std::marker::Model;
@@ -11,6 +11,8 @@ use std::marker::Model;
 #[derive(Drop)]
 pub struct Ready {
     list: Vec<u32>,
+    /// Whether each number is listed.
+    marks: Vec<bool>,
     total: u32,
 }
 
@@ -22,7 +24,7 @@ impl Model for Ready {
 
     ghost view = { λ a. record { total = a.total; list = a.list.items } };
 
-    ghost invariant = { λ a. IsListed (record { total = a.total; list = a.list.items }) × (a.total ≤ vec_capacity a.list) };
+    ghost invariant = { λ a. IsListed a.marks.items (record { total = a.total; list = a.list.items }) × (a.total ≤ vec_capacity a.list) };
 }
 
 impl Ready {
@@ -32,7 +34,8 @@ impl Ready {
         ensures none { IfOk result (λ x. Lists x (λ k. false)) }
     {
         let list = Vec::with_capacity(alloc, total as usize)?;
-        Ok(Ready { list, total })
+        let marks = vec![in alloc; false; total as usize]?;
+        Ok(Ready { list, marks, total })
     }
 
     /// The numbers that are ready, ascending. Takes no memory.
@@ -47,8 +50,7 @@ impl Ready {
         requires { number < self.now.total }
         ensures { (f : ℕ → Bool) → Lists self.now f → result ≡ f number }
     {
-        let at = place_of(&self.list, number);
-        stands(&self.list, at, number)
+        self.marks[number as usize]
     }
 
     /// Whether this number is ready from now on; the others stay as they were. Takes no memory.
@@ -57,6 +59,9 @@ impl Ready {
         ensures total { self.new.total ≡ self.old.total }
         ensures set { (f : ℕ → Bool) → Lists self.old f → Lists self.new (put f number ready) }
     {
-        mark(&mut self.list, self.total, number, ready);
+        if self.marks[number as usize] != ready {
+            self.marks[number as usize] = ready;
+            mark(&mut self.list, self.total, number, ready);
+        }
     }
 }

@@ -14,5 +14,8 @@ fn ready_numbers_ascend(rt: HostRuntime) -> Result<(), Fail> {
     ready.set(2, false);
     assert_eq!(rt; ready.list(), [1, 4].as_slice());
     assert_eq!(rt; ready.has(3), false);
+    ready.set(3, true);
+    assert_eq!(rt; ready.list(), [1, 3, 4].as_slice());
+    assert_eq!(rt; ready.has(3), true);
     Ok(())
 }
