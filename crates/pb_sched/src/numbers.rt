@@ -45,10 +45,26 @@ pub fn number(text: &[u8]) -> Option<(u64, &[u8])>
     }
 }
 
-pub fn push_decimal(out: &mut Vec<u8>, n: u64) -> Result<(), NoMemory>
+/// Appends a number of any length, through a buffer.
+fn push_long(out: &mut Vec<u8>, n: u64) -> Result<(), NoMemory>
     ensures { OnOk result (out.new.items ≡ out.old.items ++ decimal n) }
 {
     let mut buffer = Buffer::new();
     out.extend_from_slice(buffer.format(n).as_bytes())?;
     Ok(())
+}
+
+/// Appends a number. Those of one and two digits come without a buffer, as most ranks are small.
+pub fn push_decimal(out: &mut Vec<u8>, n: u64) -> Result<(), NoMemory>
+    ensures { OnOk result (out.new.items ≡ out.old.items ++ decimal n) }
+{
+    if n < 10 {
+        out.push(b'0' + n as u8)?;
+        return Ok(());
+    }
+    if n < 100 {
+        out.extend_from_slice(&[b'0' + (n / 10) as u8, b'0' + (n % 10) as u8])?;
+        return Ok(());
+    }
+    push_long(out, n)
 }

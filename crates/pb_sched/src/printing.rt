@@ -1,6 +1,6 @@
 //! Printing a schedule.
 
-ghost use Rattle.std.specs.Prelude.{◌≡◌, ◌<◌, ◌≤◌, ◌^◌, ◌++◌, OnOk, IfOk, length};
+ghost use Rattle.std.specs.Prelude.{◌≡◌, ◌<◌, ◌≤◌, ◌^◌, [], ◌∷◌, ◌++◌, OnOk, IfOk, length};
 ghost use Rattle.std.specs.List.{AllByRecursion, flat_map};
 ghost use Rattle.pb_sched.specs.declared.format.Format.TheVariants.{Two};
 ghost use Rattle.pb_sched.specs.Formats.{head_line, seed_line, ending, turn_line, layout, IsTurn};
@@ -21,12 +21,13 @@ fn push_head(out: &mut Vec<u8>, seed: u64) -> Result<(), NoMemory>
     Ok(())
 }
 
-fn ending(mode: Mode) -> &'static [u8]
-    ensures { result.now ≡ ending Two mode }
+/// The letter of a mode.
+fn letter(mode: Mode) -> u8
+    ensures { ending Two mode ≡ 32 ∷ result ∷ 10 ∷ [] }
 {
     match mode {
-        Mode::Eager => b" e\n",
-        Mode::Waiting => b" w\n",
+        Mode::Eager => b'e',
+        Mode::Waiting => b'w',
     }
 }
 
@@ -35,7 +36,7 @@ fn push_turn(out: &mut Vec<u8>, turn: Turn) -> Result<(), NoMemory>
     ensures fits { OnOk result (IsTurn Two turn) }
 {
     push_decimal(out, u64::from(turn.rank))?;
-    out.extend_from_slice(ending(turn.mode))?;
+    out.extend_from_slice(&[b' ', letter(turn.mode), b'\n'])?;
     Ok(())
 }
 

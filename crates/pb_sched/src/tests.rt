@@ -12,10 +12,11 @@ fn fault_of(alloc: Global, bytes: &[u8]) -> Option<ScheduleFault> {
 
 #[test]
 fn reads_what_is_printed(rt: HostRuntime) -> Result<(), Fail> {
-    let text = b"pabble schedule 2\nseed 18446744073709551615\n0 e\n4294967295 w\n";
+    let text =
+        b"pabble schedule 2\nseed 18446744073709551615\n0 e\n9 w\n10 e\n99 w\n100 e\n4294967295 w\n";
     match read_schedule(rt.alloc(), text) {
         Ok(schedule) => {
-            assert_eq!(rt; schedule.turns.len(), 2);
+            assert_eq!(rt; schedule.turns.len(), 6);
             if schedule.turns.len() <= 1_000_000 {
                 let printed = print_schedule(rt.alloc(), &schedule)?;
                 assert_eq!(rt; printed.as_slice(), text.as_slice());
