@@ -42,7 +42,7 @@ impl<A: Fn(u64, u32, u64) -> u32 + Drop> Answers<A> {
         ensures long { IfOk result (λ w. length w.items ≡ count) }
         ensures words { IfOk result (λ w. (k : ℕ) → k < count → A.post self.now.answer self.now.seed rank (first + k) (slice_index w.items k)) }
     {
-        let mut words = Vec::new(alloc);
+        let mut words = Vec::with_capacity(alloc, count as usize)?;
         for k in 0..count {
             words.push(self.word(rank, first + u64::from(k)))?;
         }
