@@ -202,9 +202,9 @@ impl State {
         }
     }
 
-    /// What is next at a statement.
-    fn at(
-        &self,
+    /// Looks at a statement, and keeps what is next.
+    fn look_at(
+        &mut self,
         body: &[Stmt],
         places: &[Formula],
         path: &[Step],
@@ -212,26 +212,33 @@ impl State {
         at: usize,
         after: usize,
         stmt: &Stmt,
-    ) -> Ahead
+    )
         requires inside { depth ≤ length path.now }
         requires narrow { breadth (plain stmt.now) ≤ 64 }
-        ensures next { tests_at (plain_all body.now) (take depth path.now) at ≡ tests_of (plain stmt.now) → move_by (plain_all body.now) path.now self.now.me self.now.i result ≡ move_to places.now self.now.me self.now.i (plain stmt.now) (λ k. goes (plain_all body.now) path.now (Enter depth at k)) (goes (plain_all body.now) path.now (Stay depth after)) (λ id. back_by (plain_all body.now) path.now (looped (plain_all body.now) (take depth path.now) id 0 None)) }
-        ensures safe { (h : ℕ) → depth + height (plain stmt.now) ≤ h → IsSafe (length path.now) h result }
+        ensures next { tests_at (plain_all body.now) (take depth path.now) at ≡ tests_of (plain stmt.now) → move_by (plain_all body.now) path.now self.old.me self.old.i self.new.ahead ≡ move_to places.now self.old.me self.old.i (plain stmt.now) (λ k. goes (plain_all body.now) path.now (Enter depth at k)) (goes (plain_all body.now) path.now (Stay depth after)) (λ id. back_by (plain_all body.now) path.now (looped (plain_all body.now) (take depth path.now) id 0 None)) }
+        ensures safe { (h : ℕ) → depth + height (plain stmt.now) ≤ h → IsSafe (length path.now) h self.new.ahead }
+        ensures me { self.new.me ≡ self.old.me }
+        ensures i { self.new.i ≡ self.old.i }
     {
         let (me, i) = (&self.me, self.i);
         let go = Go::Stay { depth, at: after };
         let part = 0;
         match stmt {
-            Stmt::If { guards, .. } => self.branch(guards.list(), depth, at),
+            Stmt::If { guards, .. } => self.ahead = self.branch(guards.list(), depth, at),
             Stmt::For { low, high, .. } => {
-                self.turn(value(*low, me, i), *high, Go::Enter { depth, at, part }, go)
+                self.ahead = self.turn(
+                    value(*low, me, i),
+                    *high,
+                    Go::Enter { depth, at, part },
+                    go,
+                );
             }
-            Stmt::Own { off } => self.own(*off, go),
-            Stmt::Loop { .. } => Ahead::Silent {
+            Stmt::Own { off } => self.ahead = self.own(*off, go),
+            Stmt::Loop { .. } => self.ahead = Ahead::Silent {
                 i,
                 go: Go::Enter { depth, at, part },
             },
-            Stmt::Again { id } => Ahead::Silent {
+            Stmt::Again { id } => self.ahead = Ahead::Silent {
                 i,
                 go: back(body, path, depth, *id),
             },
@@ -242,7 +249,7 @@ impl State {
                 from,
                 tests,
                 branches,
-            } => self.choice(
+            } => self.ahead = self.choice(
                 places,
                 who,
                 *kernel,
@@ -253,23 +260,31 @@ impl State {
                 depth,
                 at,
             ),
-            Stmt::Send { label, to } => self.send(*label, peer(places, *to, me, i), go),
-            Stmt::Recv { label, from } => self.receive(*label, peer(places, *from, me, i), go),
-            Stmt::Run { kernel } => Ahead::Run {
+            Stmt::Send { label, to } => self.ahead = self.send(
+                *label,
+                peer(places, *to, me, i),
+                go,
+            ),
+            Stmt::Recv { label, from } => self.ahead = self.receive(
+                *label,
+                peer(places, *from, me, i),
+                go,
+            ),
+            Stmt::Run { kernel } => self.ahead = Ahead::Run {
                 kernel: *kernel,
                 go,
             },
-            Stmt::Barrier => Ahead::Join {
+            Stmt::Barrier => self.ahead = Ahead::Join {
                 call: Call::Barrier,
                 go,
             },
             Stmt::Broadcast { label, root } => {
-                self.broadcast(*label, peer(places, *root, me, i), go)
+                self.ahead = self.broadcast(*label, peer(places, *root, me, i), go);
             }
             Stmt::Reduce { label, op, root } => {
-                self.reduce(*label, *op, peer(places, *root, me, i), go)
+                self.ahead = self.reduce(*label, *op, peer(places, *root, me, i), go);
             }
-            Stmt::Allreduce { label, op } => Ahead::Join {
+            Stmt::Allreduce { label, op } => self.ahead = Ahead::Join {
                 call: Call::Allreduce {
                     label: *label,
                     op: *op,
@@ -292,21 +307,25 @@ impl State {
         self.turn_on(high, round, Go::Stay { depth, at: after })
     }
 
-    /// What is next at statement `at` of the block that a path leads to.
-    pub fn ahead(&self, body: &[Stmt], places: &[Formula], path: &[Step], at: usize) -> Ahead
+    /// Looks at statement `at` of the block that a path leads to, and keeps what is next.
+    pub fn look(&mut self, body: &[Stmt], places: &[Formula], path: &[Step], at: usize)
         requires narrow { breadth_all (plain_all body.now) ≤ 64 }
-        ensures next { (p : Program) → Knows p places.now self.now.me → move_by (plain_all body.now) path.now self.now.me self.now.i result ≡ move_from p self.now.me.n (rank_of self.now.me self.now.i (todo (plain_all body.now) path.now at)) (todo (plain_all body.now) path.now at) }
-        ensures safe { IsSafe (length path.now) (height_all (plain_all body.now)) result }
+        ensures next { (p : Program) → Knows p places.now self.old.me → move_by (plain_all body.now) path.now self.old.me self.old.i self.new.ahead ≡ move_from p self.old.me.n (rank_of self.old.me self.old.i (todo (plain_all body.now) path.now at)) (todo (plain_all body.now) path.now at) }
+        ensures safe { IsSafe (length path.now) (height_all (plain_all body.now)) self.new.ahead }
+        ensures me { self.new.me ≡ self.old.me }
+        ensures i { self.new.i ≡ self.old.i }
     {
         match find(body, path, at) {
-            Place::Nowhere => Ahead::Ended,
+            Place::Nowhere => self.ahead = Ahead::Ended,
             Place::At {
                 depth,
                 at,
                 after,
                 stmt,
-            } => self.at(body, places, path, depth, at, after, stmt),
-            Place::Round { depth, after, high } => self.round(path.len(), depth, after, high),
+            } => self.look_at(body, places, path, depth, at, after, stmt),
+            Place::Round { depth, after, high } => {
+                self.ahead = self.round(path.len(), depth, after, high);
+            }
         }
     }
 }

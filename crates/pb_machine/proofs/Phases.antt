@@ -1,5 +1,5 @@
 -- The move of a rank that is seen, by its phase.
-use Rattle.std.proofs.Common.{◌≡◌, List, ap, sym, ◌∙◌, subst}
+use Rattle.std.proofs.Common.{◌≡◌, List, ap, sym, ◌∙◌, refl, subst}
 use Rattle.pb_world.specs.Actions.{Leaves}
 use Rattle.pb_local.specs.declared.stmt.Stmt.{Stmt}
 use Rattle.pb_local.specs.Tree.{Program, program_of, plain_all}
@@ -60,12 +60,15 @@ going_moves tree r body places path x is e1 e2 e3 made fits h =
     subst (λ (z : List Step). move_by (body_of tree) z r.state.me r.state.i x ≡ move_from p r.state.me.n (rank_of r.state.me r.state.i (todo (body_of tree) z r.at)) (todo (body_of tree) z r.at)) e3 by_body
     ∙ going_is tree r is
 
--- a rank that keeps what it found
-pub kept : (tree : CTree) (r : Rank) (x : Ahead) → IsPlaced tree r →
-    move_by (body_of tree) (path_of r) r.state.me r.state.i x ≡ move_shown (program_of tree.local) (param_of r) (shown tree r) →
-    IsSafe r.depth (height_all (body_of tree)) x → Fits tree (record r { ahead = x })
-kept tree r x placed moves safe = record {
-  placed = record { total = placed.total; room = placed.room; inside = placed.inside; limit = placed.limit };
-  moves = moves;
+-- a rank that keeps what it saw
+pub shown_again : (tree : CTree) (r s : Rank) → s ≡ record r { state = s.state } → s.state.me ≡ r.state.me → s.state.i ≡ r.state.i → shown tree s ≡ shown tree r
+shown_again tree r s e me i = ap (shown tree) e ∙ (rw (me, i) refl)
+
+pub kept : (tree : CTree) (r s : Rank) → s ≡ record r { state = s.state } → s.state.me ≡ r.state.me → s.state.i ≡ r.state.i → IsPlaced tree r →
+    move_by (body_of tree) (path_of r) r.state.me r.state.i s.state.ahead ≡ move_shown (program_of tree.local) (param_of r) (shown tree r) →
+    IsSafe r.depth (height_all (body_of tree)) s.state.ahead → Fits tree s
+kept tree r s e me i placed moves safe = subst (λ (z : Rank). Fits tree z) (sym e) (record {
+  placed = record { total = rw me placed.total; room = placed.room; inside = placed.inside; limit = placed.limit };
+  moves = rw (me, i) moves;
   safe = safe;
-}
+})

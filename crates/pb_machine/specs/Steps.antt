@@ -215,5 +215,5 @@ move_shown p n misled = M.undefined
 -- the rank is placed in the tree, and what it keeps is its next step, for which there is room
 pub record Fits (tree : CTree) (r : Rank) : Type 0 where
   pub placed : IsPlaced tree r
-  pub moves : move_by (body_of tree) (path_of r) r.state.me r.state.i r.ahead ≡ move_shown (program_of tree.local) (param_of r) (shown tree r)
-  pub safe : IsSafe r.depth (height_all (body_of tree)) r.ahead
+  pub moves : move_by (body_of tree) (path_of r) r.state.me r.state.i r.state.ahead ≡ move_shown (program_of tree.local) (param_of r) (shown tree r)
+  pub safe : IsSafe r.depth (height_all (body_of tree)) r.state.ahead

@@ -36,8 +36,6 @@ pub struct Rank {
     depth: usize,
     /// The next statement of the innermost block.
     at: usize,
-    /// What is next from here, and where that leads.
-    ahead: Ahead,
 }
 
 impl Rank {
@@ -62,43 +60,20 @@ impl Rank {
         let path = vec![in alloc; Step { at: 0, part: 0 }; height as usize]?;
         let me = me_at(&tree.local.roles, n, rank);
         let mut rank = Rank {
-            state: State { me, i: 0 },
+            state: State {
+                me,
+                i: 0,
+                ahead: Ahead::Undefined,
+            },
             phase: Phase::Going,
             silent: 0,
             limit: 4 * size,
             path,
             depth: 0,
             at: 0,
-            ahead: Ahead::Undefined,
         };
-        rank.look(tree);
+        rank.settle(tree);
         Ok(rank)
-    }
-
-    /// What is next here, found by a walk from the tree's root.
-    #[tactic(auto, using(crate::proofs::Phases::joined_is, crate::proofs::Phases::misled_is, pb_ahead::proofs::Breadths::tree_narrow))]
-    fn find(&self, tree: &CTree) -> Ahead
-        requires tree { IsTree tree.now }
-        requires placed { IsPlaced tree.now self.now }
-        ensures next { move_by (body_of tree.now) (path_of self.now) self.now.state.me self.now.state.i result ≡ move_shown (program_of tree.now.local) (param_of self.now) (shown tree.now self.now) }
-        ensures safe { IsSafe self.now.depth (height_all (body_of tree.now)) result }
-    {
-        match self.phase {
-            Phase::Going => self.state.ahead(
-                &tree.local.body,
-                &tree.places,
-                &self.path[..self.depth],
-                self.at,
-            ),
-            Phase::Joined(call) => Ahead::Leave {
-                call,
-                go: Go::Stay {
-                    depth: self.depth,
-                    at: self.at,
-                },
-            },
-            Phase::Misled => Ahead::Undefined,
-        }
     }
 
     /// The step, unless the rank made as many as it may.
@@ -114,9 +89,9 @@ impl Rank {
 
     /// What is seen of what it keeps.
     fn seen(&self) -> Next
-        ensures { (b : Codes) → result ≡ next_by self.now.limit self.now.silent (move_by b (path_of self.now) self.now.state.me self.now.state.i self.now.ahead) }
+        ensures { (b : Codes) → result ≡ next_by self.now.limit self.now.silent (move_by b (path_of self.now) self.now.state.me self.now.state.i self.now.state.ahead) }
     {
-        match self.ahead {
+        match self.state.ahead {
             Ahead::Ended => Next::Ended,
             Ahead::Undefined => Next::Undefined,
             Ahead::Silent { .. } => self.unless_lost(Next::Silent),
@@ -134,15 +109,44 @@ impl Rank {
         }
     }
 
-    /// Keeps what is next from here.
+    /// Keeps what is next from here, found by a walk from the tree's root.
+    #[tactic(auto, using(crate::proofs::Phases::joined_is, crate::proofs::Phases::misled_is, pb_ahead::proofs::Breadths::tree_narrow))]
     fn look(&mut self, tree: &CTree)
+        requires tree { IsTree tree.now }
+        requires placed { IsPlaced tree.now self.old }
+        ensures moves { move_by (body_of tree.now) (path_of self.old) self.old.state.me self.old.state.i self.new.state.ahead ≡ move_shown (program_of tree.now.local) (param_of self.old) (shown tree.now self.old) }
+        ensures safe { IsSafe self.old.depth (height_all (body_of tree.now)) self.new.state.ahead }
+        ensures me { self.new.state.me ≡ self.old.state.me }
+        ensures i { self.new.state.i ≡ self.old.state.i }
+        ensures others { self.new ≡ record self.old { state = self.new.state } }
+    {
+        match self.phase {
+            Phase::Going => self.state.look(
+                &tree.local.body,
+                &tree.places,
+                &self.path[..self.depth],
+                self.at,
+            ),
+            Phase::Joined(call) => self.state.ahead = Ahead::Leave {
+                call,
+                go: Go::Stay {
+                    depth: self.depth,
+                    at: self.at,
+                },
+            },
+            Phase::Misled => self.state.ahead = Ahead::Undefined,
+        }
+    }
+
+    /// Keeps what is next from here, so that the rank fits the tree.
+    fn settle(&mut self, tree: &CTree)
         requires tree { IsTree tree.now }
         requires placed { IsPlaced tree.now self.old }
         ensures fits { Fits tree.now self.new }
         ensures shown { shown tree.now self.new ≡ shown tree.now self.old }
         ensures n { param_of self.new ≡ param_of self.old }
     {
-        self.ahead = self.find(tree);
+        self.look(tree);
     }
 
     /// What the rank does next, as far as it alone decides it. Takes no memory.
@@ -166,11 +170,11 @@ impl Rank {
     fn reads(&self, tree: &CTree, tag: u32) -> bool
         requires tree { IsTree tree.now }
         requires placed { IsPlaced tree.now self.now }
-        requires moves { move_by (body_of tree.now) (path_of self.now) self.now.state.me self.now.state.i self.now.ahead ≡ move_shown (program_of tree.now.local) (param_of self.now) (shown tree.now self.now) }
-        requires safe { IsSafe self.now.depth (height_all (body_of tree.now)) self.now.ahead }
+        requires moves { move_by (body_of tree.now) (path_of self.now) self.now.state.me self.now.state.i self.now.state.ahead ≡ move_shown (program_of tree.now.local) (param_of self.now) (shown tree.now self.now) }
+        requires safe { IsSafe self.now.depth (height_all (body_of tree.now)) self.now.state.ahead }
         ensures { result ≡ takes_by self.now.limit self.now.silent (move_shown (program_of tree.now.local) (param_of self.now) (shown tree.now self.now)) tag }
     {
-        match self.ahead {
+        match self.state.ahead {
             Ahead::Probe { depth, at, .. } => {
                 let tests = self.tests(tree, depth, at);
                 self.silent < self.limit
@@ -264,8 +268,8 @@ impl Rank {
     fn step(&mut self, tree: &CTree, input: Input)
         requires tree { IsTree tree.now }
         requires placed { IsPlaced tree.now self.old }
-        requires moves { move_by (body_of tree.now) (path_of self.old) self.old.state.me self.old.state.i self.old.ahead ≡ move_shown (program_of tree.now.local) (param_of self.old) (shown tree.now self.old) }
-        requires safe { IsSafe self.old.depth (height_all (body_of tree.now)) self.old.ahead }
+        requires moves { move_by (body_of tree.now) (path_of self.old) self.old.state.me self.old.state.i self.old.state.ahead ≡ move_shown (program_of tree.now.local) (param_of self.old) (shown tree.now self.old) }
+        requires safe { IsSafe self.old.depth (height_all (body_of tree.now)) self.old.state.ahead }
         requires input { IsSome (after self.old.limit self.old.silent input (move_shown (program_of tree.now.local) (param_of self.old) (shown tree.now self.old))) }
         ensures step { after self.old.limit self.old.silent input (move_shown (program_of tree.now.local) (param_of self.old) (shown tree.now self.old)) ≡ Some (shown tree.now self.new) }
         ensures me { self.new.state.me ≡ self.old.state.me }
@@ -274,7 +278,7 @@ impl Rank {
         ensures inside { self.new.depth ≤ length self.new.path.items }
     {
         let i = self.state.i;
-        match self.ahead {
+        match self.state.ahead {
             Ahead::Ended => {}
             Ahead::Undefined => {}
             Ahead::Silent { i, go } => self.arrive(Phase::Going, i, self.silent + 1, go),
@@ -310,6 +314,6 @@ impl Rank {
         ensures n { param_of self.new ≡ param_of self.old }
     {
         self.step(tree, input);
-        self.look(tree);
+        self.settle(tree);
     }
 }

@@ -55,6 +55,7 @@ fn push_long(out: &mut Vec<u8>, n: u64) -> Result<(), NoMemory>
 }
 
 /// Appends a number. Those of one and two digits come without a buffer, as most ranks are small.
+#[inline(always)]
 pub fn push_decimal(out: &mut Vec<u8>, n: u64) -> Result<(), NoMemory>
     ensures { OnOk result (out.new.items ≡ out.old.items ++ decimal n) }
 {

@@ -5,7 +5,7 @@ use Rattle.pb_ahead.specs.Place.{looped}
 use Rattle.pb_ahead.specs.View.{goes, back_by}
 use Rattle.pb_ahead.proofs.Arms.{choice_does, choice_few}
 use Rattle.pb_ahead.proofs.Plains.{choice_tests}
-use Rattle.pb_ahead.proofs.state.State.at.Goals as goal
+use Rattle.pb_ahead.proofs.state.State.look_at.Goals as goal
 
 pub overflow_cast-len : goal.overflow_cast-len
 overflow_cast-len c =
@@ -18,7 +18,7 @@ returns-in-Again-clause-safe c = λ h le. c.back.ensures.room h
 
 pub returns-in-Choice-clause-next : goal.returns-in-Choice-clause-next
 returns-in-Choice-clause-next c = λ is.
-    c.choice.ensures.next (plain_all c.args.body.now) c.args.path.now
+    c.choice-self.ensures.next (plain_all c.args.body.now) c.args.path.now
     (is ∙ choice_tests c.args.stmt.now c.in-Choice.who c.in-Choice.kernel c.in-Choice.relays c.in-Choice.from c.in-Choice.tests c.in-Choice.branches c.in-Choice.is ∙ sym c.deref-in-Choice.ensures.value)
     ∙ choice_does c.args.places.now c.args.self.now.me c.args.self.now.i c.args.stmt.now c.in-Choice.who c.in-Choice.kernel c.in-Choice.relays c.in-Choice.from c.in-Choice.tests c.in-Choice.branches
     (λ k. goes (plain_all c.args.body.now) c.args.path.now (Enter c.args.depth c.args.at k))
