@@ -1,5 +1,5 @@
 -- What is seen of a rank of the program, and its steps, which are those of the definition.
-use Rattle.std.specs.Prelude.{◌≡◌, ◌≤◌, ℕ, suc, ℤ, Bool, true, false, nat_lt, ◌&&◌, if◌then◌else◌, Option, Some, None, IsSome, List, length, take}
+use Rattle.std.specs.Prelude.{◌≡◌, ◌≤◌, ℕ, suc, ℤ, Bool, true, false, nat_lt, ◌&&◌, if◌then◌else◌, Option, Some, None, List, length, take}
 use Rattle.pb_world.specs.Actions.{Action, kind_of, branch_in}
 use Rattle.pb_world.specs.Machine as W
 use Rattle.pb_world.specs.Counted.{Counted}
