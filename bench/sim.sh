@@ -1,5 +1,5 @@
 #!/usr/bin/env bash
-# Events and messages a second of `sim` on a ring, ping-pong, a halo exchange and collectives, at several numbers of ranks:
+# Events and messages a second of `sim` on rings without words and with four, ping-pong, a halo exchange and collectives, at several numbers of ranks:
 # with the schedule alone, and with the log; and the memory that each takes. An entry into a collective counts as a message. Takes
 # the built program's path, else the one that `rt` has built. RUNS may be given; the run with the least processor time counts.
 program=$(readlink -f "${1:-$(dirname "$0")/../crates/pb_cli/out/pb_cli}")
@@ -13,6 +13,8 @@ protocol() {
     "$program" gen "$1" > "$1.c" || exit 1
 }
 
+protocol bare '    A() from W[i:0..N-2] to W[i+1];
+    B() from W[N-1] to W[0];'
 protocol ring '    A(uint32[4]) from W[i:0..N-2] to W[i+1];
     B(uint32[4]) from W[N-1] to W[0];'
 protocol ping '    A(uint32) from W[0] to W[1];
@@ -36,7 +38,7 @@ events() { sed -n 's/^pabble: turns //p' out; }
 
 printf '%-6s %6s | %-32s | %-32s\n' '' '' 'a second, and KB: the schedule' 'the log'
 printf '%-6s %6s | %10s %10s %10s | %10s %10s %10s\n' text ranks events messages KB events messages KB
-for text in ring ping halo joint; do
+for text in bare ring ping halo joint; do
     for ranks in 2 8 100 1000; do
         if [ $text = ping ] && [ $ranks -gt 8 ]; then
             continue
