@@ -1,9 +1,10 @@
 #!/usr/bin/env bash
-# Events and messages a second of `sim` on rings without words and with four, ping-pong, a halo exchange and collectives, at several numbers of ranks:
-# with the schedule alone, and with the log; and the memory that each takes. An entry into a collective counts as a message. Takes
-# the built program's path, else the one that `rt` has built. RUNS may be given; the run with the least processor time counts.
+# Events and messages a second of `sim` on rings without words and with four, ping-pong, a halo exchange and collectives, at several
+# numbers of ranks: with the schedule alone, and with the log; and the memory that each takes. An entry into a collective counts as a
+# message. Takes the built program's path, else the one that `rt` has built. RUNS may be given, 5 else; the median of their
+# processor times counts.
 program=$(readlink -f "${1:-$(dirname "$0")/../crates/pb_cli/out/pb_cli}")
-runs=${RUNS:-3}
+runs=${RUNS:-5}
 folder=$(mktemp -d) || exit 1
 trap 'rm -rf "$folder"' EXIT
 cd "$folder" || exit 1
@@ -24,13 +25,12 @@ protocol halo '    A(int32[64]) from W[i:0..N-2] to W[i+1];
 protocol joint '    allreduce S(int32) with max;
     barrier;'
 
-# The seconds of processor time and the kilobytes of memory of a run.
-best() {
+# The seconds of processor time and the kilobytes of memory of a run: the median.
+middle() {
     for ((run = 0; run < runs; run++)); do
-        /usr/bin/time -o time -f '%U %S %M' "$program" sim "$@" > out
-        tail -n 1 time
-    done | awk '{ time = $1 + $2; if (NR == 1 || time < least) { least = time; memory = $3 } }
-        END { if (least < 0.001) least = 0.001; print least, memory }'
+        seconds=$({ TIMEFORMAT='%3U %3S'; time /usr/bin/time -o time -f '%M' "$program" sim "$@" > out; } 2>&1)
+        echo "$seconds $(tail -n 1 time)"
+    done | awk '{ print $1 + $2, $3 }' | sort -g | sed -n "$((runs / 2 + 1))p"
 }
 
 # The events of the last run, of which its last line tells.
@@ -43,8 +43,8 @@ for text in bare ring ping halo joint; do
         if [ $text = ping ] && [ $ranks -gt 8 ]; then
             continue
         fi
-        schedule=$(best $text.c --n $ranks --schedule)
-        log=$(best $text.c --n $ranks)
+        schedule=$(middle $text.c --n $ranks --schedule)
+        log=$(middle $text.c --n $ranks)
         messages=$(grep -c -E '^[0-9]+ (send|enter) ' out)
         echo "$text $ranks $schedule $log $(events) $messages"
     done
