@@ -9,7 +9,7 @@ use crate::stand::Stand;
 use crate::state::State;
 use pb_chan::Channels;
 use pb_join::Joins;
-use pb_machine::{CTree, NoMemory, Rank};
+use pb_machine::{CTree, NoMemory, Rank, Sizes};
 use pb_text::Mode;
 use std::alloc::Global;
 
@@ -22,9 +22,10 @@ fn starts(alloc: Global, tree: &CTree, n: i64, total: u32) -> Result<Vec<Rank>, 
     requires few { total ≤ 1024 }
     ensures { IfOk result (λ v. AreStarts tree.now n total v.items) }
 {
+    let sizes = Sizes::of(tree);
     let mut ranks = Vec::new(alloc);
     for rank in 0..total {
-        ranks.push(Rank::new(alloc, tree, n, rank)?)?;
+        ranks.push(Rank::sized(alloc, tree, sizes, n, rank)?)?;
     }
     Ok(ranks)
 }

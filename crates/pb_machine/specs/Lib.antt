@@ -1,4 +1,5 @@
 pub mod Acts
 pub mod Seats
+pub mod Sizes
 pub mod Steps
 pub mod Sample

@@ -11,13 +11,14 @@ ghost use Rattle.pb_ahead.specs.Numbers.{tested};
 ghost use Rattle.pb_ahead.specs.Place.{todo, tests_at};
 ghost use Rattle.pb_ahead.specs.View.{goes, move_by, rank_of, told_to};
 ghost use Rattle.pb_ahead.specs.Safe.{IsRoom, IsSafe, IsIn};
+ghost use Rattle.pb_machine.specs.Sizes.{AreSizes};
 ghost use Rattle.pb_machine.specs.Steps.{going, misled, body_of, path_of, joined, shown_in, shown, param_of, IsPlaced, Fits, next_shown, takes_shown, goes_with, IsStepOf, unless_lost, next_by, takes_by, after, counted_as, read_as, move_shown};
 ghost use Rattle.pb_ahead.specs.declared.ahead.Go.TheVariants.{Enter};
 
 use crate::act::{Act, Input, Next, entry};
 use crate::phase::Phase;
 use crate::seats::me_at;
-use crate::sizes::{MOST, height, size};
+use crate::sizes::{MOST, Sizes};
 use pb_ahead::{Ahead, Go, State, Step, tested, tests_at};
 use pb_ctree::{CTree, NoMemory, Test};
 use std::alloc::Global;
@@ -51,8 +52,28 @@ impl Rank {
         ensures n { IfOk result (λ r. param_of r ≡ n) }
         ensures start { IfOk result (λ r. shown tree.now r ≡ going (text_start (program_of tree.now.local) n rank)) }
     {
-        let size = size(&tree.local.body);
-        let height = height(&tree.local.body);
+        Rank::sized(alloc, tree, Sizes::of(tree), n, rank)
+    }
+
+    /// The same where the sizes of the tree are known. Its time is linear in the height of the tree.
+    pub fn sized(
+        alloc: Global,
+        tree: &CTree,
+        sizes: Sizes,
+        n: i64,
+        rank: u32,
+    ) -> Result<Rank, NoMemory>
+        requires tree { IsTree tree.now }
+        requires sizes { AreSizes tree.now sizes }
+        requires some { pos 0 ≤ℤ n }
+        requires range { IsInRange tree.now.local.range (count_of n) }
+        requires there { rank < total tree.now.local.roles.items n }
+        requires few { total tree.now.local.roles.items n ≤ 2000000000 }
+        ensures fits { IfOk result (λ r. Fits tree.now r) }
+        ensures n { IfOk result (λ r. param_of r ≡ n) }
+        ensures start { IfOk result (λ r. shown tree.now r ≡ going (text_start (program_of tree.now.local) n rank)) }
+    {
+        let Sizes { size, height } = sizes;
         // memory holds no tree of so many statements
         if size >= MOST || height >= MOST {
             return Err(NoMemory);

@@ -1,11 +1,31 @@
 ghost use Rattle.std.specs.Prelude.{◌≡◌, ◌<◌, ◌^◌, ◌+◌};
 ghost use Rattle.pb_local.specs.Tree.{plain, plain_all, size, size_all};
 ghost use Rattle.pb_ahead.specs.Heights.{height, height_all};
+ghost use Rattle.pb_machine.specs.Sizes.{AreSizes};
 
-use pb_ctree::Stmt;
+use pb_ctree::{CTree, Stmt};
 
 /// Counts below this are exact.
 pub const MOST: u64 = 1 << 60;
+
+/// How many statements a tree has, and how deep they stand; exact where it is below 2^60.
+#[derive(Clone, Copy, Debug)]
+pub struct Sizes {
+    pub size: u64,
+    pub height: u64,
+}
+
+impl Sizes {
+    /// The sizes of a tree. Its time is linear in the tree. Takes no memory.
+    pub fn of(tree: &CTree) -> Sizes
+        ensures { AreSizes tree.now result }
+    {
+        Sizes {
+            size: size(&tree.local.body),
+            height: height(&tree.local.body),
+        }
+    }
+}
 
 fn sum(a: u64, b: u64) -> u64
     ensures { result < 2 ^ 60 → result ≡ a + b }

@@ -7,8 +7,8 @@ pub loop-rank-preserved : goal.loop-rank-preserved
 loop-rank-preserved c =
     let f : SFits w64 c.args.n = search rules in
     simp to_z-of_z (subst (AreStarts c.args.tree.now c.args.n (c.loop-rank.rank + 1)) (sym c.in_ok-push.ensures.items)
-    (one_start c.args.tree.now c.args.n c.loop-rank.rank c.loop-rank.ranks.items c.in_ok-new.field-0 (simp to_z-of_z at c.loop-rank.invariant)
-    (at_start c.args.tree.now c.args.n c.loop-rank.rank c.in_ok-new.field-0 c.in_ok-new.ensures.fits (simp to_z-of_z at c.in_ok-new.ensures.n) (simp to_z-of_z at c.in_ok-new.ensures.start))))
+    (one_start c.args.tree.now c.args.n c.loop-rank.rank c.loop-rank.ranks.items c.in_ok-sized.field-0 (simp to_z-of_z at c.loop-rank.invariant)
+    (at_start c.args.tree.now c.args.n c.loop-rank.rank c.in_ok-sized.field-0 c.in_ok-sized.ensures.fits (simp to_z-of_z at c.in_ok-sized.ensures.n) (simp to_z-of_z at c.in_ok-sized.ensures.start))))
 
 pub returns : goal.returns
 returns c =

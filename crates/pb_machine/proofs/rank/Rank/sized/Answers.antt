@@ -2,7 +2,7 @@ use Rattle.std.proofs.Common.{◌≡◌, sym, subst, to_z, of_z, w64, ℤ}
 use Rattle.std.proofs.lemmas.Int.{to_z-of_z}
 use Rattle.pb_machine.specs.Seats.{IsModest}
 use Rattle.pb_machine.proofs.Ranges.{modest}
-use Rattle.pb_machine.proofs.rank.Rank.new.Goals as goal
+use Rattle.pb_machine.proofs.rank.Rank.sized.Goals as goal
 
 pub me_at-me-requires-clause-modest : goal.me_at-me-requires-clause-modest
 me_at-me-requires-clause-modest c =
