@@ -9,11 +9,11 @@ use Rattle.pb_affine.specs.declared.lin.Base.TheVariants.{Fixed, Param, Var}
 use Rattle.pb_affine.specs.Values.{base_value}
 use Rattle.std.proofs.lemmas.Bool.Decides.{nat_tests}
 use Rattle.std.proofs.lemmas.List.{at_drop_more}
-use Rattle.pb_area.specs.declared.area.Area.{Area}
-use Rattle.pb_area.specs.Areas.{has, have}
-use Rattle.pb_first.specs.declared.firsts.Entry.{Entry}
-use Rattle.pb_first.specs.declared.firsts.Source.{Source}
-use Rattle.pb_first.specs.Firsts.{is_small_kind, is_small_off, are_small}
+use Rattle.pb_part_areas.specs.declared.area.Area.{Area}
+use Rattle.pb_part_areas.specs.Areas.{has, have}
+use Rattle.pb_part_firsts.specs.declared.firsts.Entry.{Entry}
+use Rattle.pb_part_firsts.specs.declared.firsts.Source.{Source}
+use Rattle.pb_part_firsts.specs.Firsts.{is_small_kind, is_small_off, are_small}
 use Rattle.pb_choice.specs.Clashes.{AddsWhere, AreWhere, agrees, forks, same_base, IsAgreement}
 
 or_false : (b : Bool) → b ≡ b || false

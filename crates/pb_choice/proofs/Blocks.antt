@@ -2,19 +2,19 @@
 use Rattle.std.proofs.Common.{◌≡◌, ◌<◌, ◌≤◌, ◌+◌, ℕ, ℤ, true, false, Option, List, map, drop, get_or, length, refl, sym, ap, ◌∙◌, subst, drop_of_length-le}
 use Rattle.std.proofs.lemmas.Bool.{false≢true}
 use Rattle.pb_affine.specs.declared.range.NRange.{NRange}
-use Rattle.pb_core.specs.declared.protocol.CoreRole.{CoreRole}
-use Rattle.pb_core.specs.declared.tree.CoreBlock.{CoreBlock, out-CoreBlock}
-use Rattle.pb_core.specs.declared.tree.CoreStmt.{CoreStmt}
-use Rattle.pb_core.specs.Tree.{Mark, StmtTree, message, foreach, loop, again, choice, run, barrier, broadcast, reduce, allreduce, BlockTree, more}
-use Rattle.pb_core.specs.Plain.{plain_block, plain_stmt, block_of}
-use Rattle.pb_core.specs.Run.{Env}
-use Rattle.pb_core.specs.Sound.{Rows, is_bound, is_block}
+use Rattle.pb_core_language.specs.declared.protocol.CoreRole.{CoreRole}
+use Rattle.pb_core_language.specs.declared.tree.CoreBlock.{CoreBlock, out-CoreBlock}
+use Rattle.pb_core_language.specs.declared.tree.CoreStmt.{CoreStmt}
+use Rattle.pb_core_language.specs.Tree.{Mark, StmtTree, message, foreach, loop, again, choice, run, barrier, broadcast, reduce, allreduce, BlockTree, more}
+use Rattle.pb_core_language.specs.Plain.{plain_block, plain_stmt, block_of}
+use Rattle.pb_core_language.specs.Run.{Env}
+use Rattle.pb_core_language.specs.Sound.{Rows, is_bound, is_block}
 use Rattle.std.proofs.lemmas.Bool.{and_parts}
-use Rattle.pb_area.specs.declared.area.Area.{Area}
-use Rattle.pb_part.specs.declared.held.Held.{Held}
-use Rattle.pb_part.specs.Loops.{ids_of}
-use Rattle.pb_flat.specs.GoesOn.{is_again}
-use Rattle.pb_flat.proofs.SoundOnes.{sound_items}
+use Rattle.pb_part_areas.specs.declared.area.Area.{Area}
+use Rattle.pb_part_takers.specs.declared.held.Held.{Held}
+use Rattle.pb_part_takers.specs.Loops.{ids_of}
+use Rattle.pb_core_flat.specs.GoesOn.{is_again}
+use Rattle.pb_core_flat.proofs.SoundOnes.{sound_items}
 use Rattle.pb_choice.specs.declared.found.Found.{Found}
 use Rattle.pb_choice.specs.Flaws.{IsFlaw, no_flaws, of_block, of_stmt}
 use Rattle.pb_choice.specs.Found.{Improves}

@@ -1,16 +1,16 @@
 -- Who takes part in the body of a loop.
 use Rattle.std.proofs.Common.{◌≡◌, ℕ, ℤ, pos, true, false, ◌||◌, Option, List, [], ◌∷◌, sym, ap, ap₂, ◌∙◌, subst}
 use Rattle.pb_affine.specs.declared.range.NRange.{NRange}
-use Rattle.pb_core.specs.Tree.{Mark, StmtTree, loop, BlockTree}
-use Rattle.pb_core.specs.Flat.{stop, takes_part}
-use Rattle.pb_core.specs.FlatOf.{flat_block}
-use Rattle.pb_core.specs.Sound.{is_block}
-use Rattle.pb_area.specs.declared.area.Area.{Area}
-use Rattle.pb_area.specs.Areas.{have}
-use Rattle.pb_flat.specs.Seated.{rank}
-use Rattle.pb_part.specs.declared.held.Held.{Held}
-use Rattle.pb_part.specs.Loops.{ids_of, held_of}
-use Rattle.pb_part.specs.Pieces.{IsAdded, block_piece}
+use Rattle.pb_core_language.specs.Tree.{Mark, StmtTree, loop, BlockTree}
+use Rattle.pb_core_language.specs.Flat.{stop, takes_part}
+use Rattle.pb_core_language.specs.FlatOf.{flat_block}
+use Rattle.pb_core_language.specs.Sound.{is_block}
+use Rattle.pb_part_areas.specs.declared.area.Area.{Area}
+use Rattle.pb_part_areas.specs.Areas.{have}
+use Rattle.pb_core_flat.specs.Seated.{rank}
+use Rattle.pb_part_takers.specs.declared.held.Held.{Held}
+use Rattle.pb_part_takers.specs.Loops.{ids_of, held_of}
+use Rattle.pb_part_takers.specs.Pieces.{IsAdded, block_piece}
 use Rattle.pb_choice.specs.declared.found.Found.{Found}
 use Rattle.pb_choice.specs.Flaws.{IsFlaw, lone_at, of_block, of_stmt, in_body, env_in, is_deserted}
 use Rattle.pb_choice.specs.Found.{Improves}

@@ -1,18 +1,18 @@
 -- The first breach in the branches of a choice, a branch at a time.
 use Rattle.std.proofs.Common.{◌≡◌, ◌<◌, ◌≤◌, ◌+◌, ℕ, ℤ, Bool, true, false, ◌&&◌, Option, List, [], ◌++◌, map, drop, get_or, length, refl, sym, ap, ◌∙◌, subst, drop_of_length-le}
 use Rattle.pb_affine.specs.declared.range.NRange.{NRange}
-use Rattle.pb_core.specs.declared.protocol.CoreRole.{CoreRole}
-use Rattle.pb_core.specs.declared.tree.CoreBlock.{CoreBlock}
-use Rattle.pb_core.specs.declared.tree.CoreEnd.{CoreEnd}
-use Rattle.pb_core.specs.Tree.{Mark, StmtTree, choice, BranchTrees, branch}
-use Rattle.pb_core.specs.Plain.{plain_block, branches_of}
-use Rattle.pb_core.specs.Outcomes.{Outcome}
-use Rattle.pb_core.specs.Run.{Env}
-use Rattle.pb_core.specs.Sound.{Rows}
-use Rattle.pb_area.specs.declared.area.Area.{Area}
-use Rattle.pb_part.specs.declared.held.Held.{Held}
-use Rattle.pb_first.specs.declared.firsts.Entry.{Entry}
-use Rattle.pb_part.specs.Loops.{ids_of}
+use Rattle.pb_core_language.specs.declared.protocol.CoreRole.{CoreRole}
+use Rattle.pb_core_language.specs.declared.tree.CoreBlock.{CoreBlock}
+use Rattle.pb_core_language.specs.declared.tree.CoreEnd.{CoreEnd}
+use Rattle.pb_core_language.specs.Tree.{Mark, StmtTree, choice, BranchTrees, branch}
+use Rattle.pb_core_language.specs.Plain.{plain_block, branches_of}
+use Rattle.pb_core_language.specs.Outcomes.{Outcome}
+use Rattle.pb_core_language.specs.Run.{Env}
+use Rattle.pb_core_language.specs.Sound.{Rows}
+use Rattle.pb_part_areas.specs.declared.area.Area.{Area}
+use Rattle.pb_part_takers.specs.declared.held.Held.{Held}
+use Rattle.pb_part_firsts.specs.declared.firsts.Entry.{Entry}
+use Rattle.pb_part_takers.specs.Loops.{ids_of}
 use Rattle.pb_choice.specs.declared.found.Found.{Found}
 use Rattle.pb_choice.specs.Flaws.{IsFlaw, no_flaws, both, of_rules, of_block, of_stmt, of_branches, is_told, found_in, misses}
 use Rattle.pb_choice.specs.Found.{Improves}

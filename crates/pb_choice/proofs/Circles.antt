@@ -1,12 +1,12 @@
 -- Whether a part has a continue of a loop around, a statement at a time.
 use Rattle.std.proofs.Common.{◌≡◌, ◌<◌, ◌≤◌, ◌+◌, ◌-◌, ℕ, suc, ◌==◌, Bool, true, false, not, ◌&&◌, ◌||◌, nat_eq, List, ◌∷◌, map, drop, get_or, length, sym, ap, ◌∙◌, subst, drop_of_length-le, arith}
 use Rattle.std.proofs.lemmas.Bool.Decides.{nat_tests}
-use Rattle.pb_core.specs.declared.tree.CoreBlock.{CoreBlock, out-CoreBlock}
-use Rattle.pb_core.specs.declared.tree.CoreStmt.{CoreStmt}
-use Rattle.pb_core.specs.Tree.{Mark, StmtTree, loop, again, BlockTree}
-use Rattle.pb_core.specs.FlatOf.{between}
-use Rattle.pb_core.specs.Plain.{plain_block, plain_stmt, block_of, branches_of}
-use Rattle.pb_flat.specs.GoesOn.{is_again, has_again, have_again, some_have_again}
+use Rattle.pb_core_language.specs.declared.tree.CoreBlock.{CoreBlock, out-CoreBlock}
+use Rattle.pb_core_language.specs.declared.tree.CoreStmt.{CoreStmt}
+use Rattle.pb_core_language.specs.Tree.{Mark, StmtTree, loop, again, BlockTree}
+use Rattle.pb_core_language.specs.FlatOf.{between}
+use Rattle.pb_core_language.specs.Plain.{plain_block, plain_stmt, block_of, branches_of}
+use Rattle.pb_core_flat.specs.GoesOn.{is_again, has_again, have_again, some_have_again}
 use Rattle.pb_choice.specs.Rounds.{Rounds}
 use Rattle.pb_choice.proofs.Plains.{block_is, drop_is}
 

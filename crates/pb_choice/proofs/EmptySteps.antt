@@ -10,8 +10,8 @@ use Rattle.pb_affine.specs.declared.lin.Base.{Base}
 use Rattle.pb_affine.specs.declared.lin.Base.TheVariants.{Fixed, Param, Var}
 use Rattle.pb_affine.specs.declared.range.NRange.{NRange}
 use Rattle.pb_affine.specs.Values.{base_value, is_up_to}
-use Rattle.pb_area.specs.declared.area.Area.{Area}
-use Rattle.pb_area.specs.Areas.{at, is_before}
+use Rattle.pb_part_areas.specs.declared.area.Area.{Area}
+use Rattle.pb_part_areas.specs.Areas.{at, is_before}
 use Rattle.pb_choice.specs.Empties.{is_open, any_open, is_within, gap_of, is_until, is_end, reached, sooner, IsEmptyAt, IsEmptyIf, Tried, TriedIf, TriedEnds, IsFirstEmpty, IsNeverEmpty}
 
 le_sooner : (b n c : ℤ) → int_le b c ≡ true → int_le (if int_lt n b then n else b) c ≡ true

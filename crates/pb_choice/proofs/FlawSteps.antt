@@ -2,8 +2,8 @@
 use Rattle.std.proofs.Common.{◌≡◌, ◌⊎◌, inl, inr, ℕ, ℤ, Option, List, [], ◌++◌, sym, subst}
 use Rattle.std.specs.Prelude.{Contains}
 use Rattle.pb_affine.specs.declared.range.NRange.{NRange}
-use Rattle.pb_core.specs.declared.protocol.CoreRole.{CoreRole}
-use Rattle.pb_core.specs.Verdict.{Broken}
+use Rattle.pb_core_language.specs.declared.protocol.CoreRole.{CoreRole}
+use Rattle.pb_core_language.specs.Verdict.{Broken}
 use Rattle.pb_rules.proofs.Lists.{has, contains, has_cases, has_left, has_right}
 use Rattle.pb_choice.specs.declared.found.Found.{Found}
 use Rattle.pb_choice.specs.declared.rule.ChoiceRule.{ChoiceRule}

@@ -1,7 +1,7 @@
 -- The first of some breaches and of others.
 use Rattle.std.proofs.Common.{◌≡◌, ◌⊎◌, inl, inr, false, Option, Some, None, if◌then◌else◌, refl, sym, ◌∙◌, subst}
 use Rattle.std.proofs.lemmas.Bool.{cases_Bool}
-use Rattle.pb_core.specs.Verdict.{Broken, is_before}
+use Rattle.pb_core_language.specs.Verdict.{Broken, is_before}
 use Rattle.pb_rules.proofs.Order.{turns}
 use Rattle.pb_choice.specs.declared.found.Found.{Found}
 use Rattle.pb_choice.specs.Found.{broken_of, earlier, IsNamedBroken, IsNamedIf, IsNotBefore, IsOne, Improves}

@@ -8,16 +8,16 @@ use Rattle.pb_affine.specs.Values.{is_up_to}
 use Rattle.pb_cases.specs.Breakpoints.{IsInRange}
 use Rattle.pb_cases.specs.Regions.{IsFirst, IsNowhere}
 use Rattle.pb_cases.specs.declared.bad.Bad.{Bad}
-use Rattle.pb_core.specs.declared.protocol.CoreRole.{CoreRole}
-use Rattle.pb_core.specs.Tree.{Mark}
-use Rattle.pb_core.specs.Rules.{ranked}
-use Rattle.pb_core.specs.Verdict.{Broken, IsIn, IsUpTo, is_before, is_before_seat}
+use Rattle.pb_core_language.specs.declared.protocol.CoreRole.{CoreRole}
+use Rattle.pb_core_language.specs.Tree.{Mark}
+use Rattle.pb_core_language.specs.Rules.{ranked}
+use Rattle.pb_core_language.specs.Verdict.{Broken, IsIn, IsUpTo, is_before, is_before_seat}
 use Rattle.pb_rules.proofs.Lists.{Has, has, contains}
 use Rattle.pb_rules.proofs.Order.{not_before}
-use Rattle.pb_area.specs.declared.area.Area.{Area}
-use Rattle.pb_area.specs.Areas.{have}
-use Rattle.pb_first.specs.Takers.{IsWhole}
-use Rattle.pb_flat.specs.Seated.{is_rank}
+use Rattle.pb_part_areas.specs.declared.area.Area.{Area}
+use Rattle.pb_part_areas.specs.Areas.{have}
+use Rattle.pb_part_firsts.specs.Takers.{IsWhole}
+use Rattle.pb_core_flat.specs.Seated.{is_rank}
 use Rattle.pb_choice.specs.declared.found.Found.{Found}
 use Rattle.pb_choice.specs.declared.found.Mark as F
 use Rattle.pb_choice.specs.declared.rule.ChoiceRule.{ChoiceRule}

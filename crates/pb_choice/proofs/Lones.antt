@@ -6,28 +6,28 @@ use Rattle.std.proofs.lemmas.Bool.Decides.{nat_tests}
 use Rattle.std.proofs.lemmas.Int.{ints}
 use Rattle.pb_affine.specs.declared.range.NRange.{NRange}
 use Rattle.pb_affine.specs.Values.{is_up_to}
-use Rattle.pb_core.specs.declared.protocol.CoreRole.{CoreRole}
-use Rattle.pb_core.specs.Ranks.{seats, seat_at, total}
-use Rattle.pb_core.specs.Tree.{Mark, BlockTree}
-use Rattle.pb_core.specs.Flat.{stop}
-use Rattle.pb_core.specs.FlatOf.{flat_block}
-use Rattle.pb_core.specs.Rules.{some_below, holds_again, nobody}
-use Rattle.pb_core.specs.Sound.{Rows}
-use Rattle.pb_core.specs.Verdict.{Broken, IsIn, is_before_seat}
-use Rattle.pb_core.specs.Ranks.{Seat}
+use Rattle.pb_core_language.specs.declared.protocol.CoreRole.{CoreRole}
+use Rattle.pb_core_language.specs.Ranks.{seats, seat_at, total}
+use Rattle.pb_core_language.specs.Tree.{Mark, BlockTree}
+use Rattle.pb_core_language.specs.Flat.{stop}
+use Rattle.pb_core_language.specs.FlatOf.{flat_block}
+use Rattle.pb_core_language.specs.Rules.{some_below, holds_again, nobody}
+use Rattle.pb_core_language.specs.Sound.{Rows}
+use Rattle.pb_core_language.specs.Verdict.{Broken, IsIn, is_before_seat}
+use Rattle.pb_core_language.specs.Ranks.{Seat}
 use Rattle.pb_rules.proofs.Lists.{has, contains}
 use Rattle.pb_rules.proofs.Order.{not_before}
-use Rattle.pb_area.specs.declared.area.Area.{Area}
-use Rattle.pb_area.specs.Areas as A
-use Rattle.pb_area.specs.Areas.{at, have}
-use Rattle.pb_flat.specs.Seated.{rank, is_rank}
-use Rattle.pb_flat.specs.GoesOn.{have_again}
-use Rattle.pb_flat.proofs.Below.{some_below_is}
-use Rattle.pb_flat.proofs.BreachesAdd.{holds_again_is}
-use Rattle.pb_flat.proofs.Seats.{seat_of_rank, rank_of_seat}
-use Rattle.pb_part.specs.declared.held.Held.{Held}
-use Rattle.pb_part.specs.Loops.{ids_of}
-use Rattle.pb_first.specs.Takers.{IsWhole}
+use Rattle.pb_part_areas.specs.declared.area.Area.{Area}
+use Rattle.pb_part_areas.specs.Areas as A
+use Rattle.pb_part_areas.specs.Areas.{at, have}
+use Rattle.pb_core_flat.specs.Seated.{rank, is_rank}
+use Rattle.pb_core_flat.specs.GoesOn.{have_again}
+use Rattle.pb_core_flat.proofs.Below.{some_below_is}
+use Rattle.pb_core_flat.proofs.BreachesAdd.{holds_again_is}
+use Rattle.pb_core_flat.proofs.Seats.{seat_of_rank, rank_of_seat}
+use Rattle.pb_part_takers.specs.declared.held.Held.{Held}
+use Rattle.pb_part_takers.specs.Loops.{ids_of}
+use Rattle.pb_part_firsts.specs.Takers.{IsWhole}
 use Rattle.pb_choice.specs.declared.found.Found.{Found}
 use Rattle.pb_choice.specs.declared.found.Mark as F
 use Rattle.pb_choice.specs.Empties.{is_open, any_open, is_within, IsFirstEmpty, IsNeverEmpty}

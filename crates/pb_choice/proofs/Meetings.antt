@@ -8,10 +8,10 @@ use Rattle.pb_affine.specs.declared.lin.Base.{Base}
 use Rattle.pb_affine.specs.declared.lin.Base.TheVariants.{Fixed, Param, Var}
 use Rattle.pb_affine.specs.declared.lin.Lin.{Lin}
 use Rattle.pb_affine.specs.Values.{value, base_value}
-use Rattle.pb_area.specs.declared.area.Area.{Area}
-use Rattle.pb_area.specs.Areas.{has, at, is_before}
-use Rattle.pb_first.specs.declared.firsts.Source.{Source}
-use Rattle.pb_first.specs.Firsts.{is_small_off}
+use Rattle.pb_part_areas.specs.declared.area.Area.{Area}
+use Rattle.pb_part_areas.specs.Areas.{has, at, is_before}
+use Rattle.pb_part_firsts.specs.declared.firsts.Source.{Source}
+use Rattle.pb_part_firsts.specs.Firsts.{is_small_off}
 use Rattle.pb_choice.specs.Clashes.{IsMeeting, IsAgreement, IsLittle, IsNumber, IsNoNumber}
 
 value_is : (l : Lin) (b : Base) (n x : ℤ) → l.base ≡ b → value l n x ≡ l.off +ℤ base_value b n x

@@ -6,18 +6,18 @@ use Rattle.std.proofs.lemmas.Bool.{and_parts, and_from, or_cases, or_left, or_ri
 use Rattle.std.proofs.lemmas.Bool.Decides.{nat_tests}
 use Rattle.std.proofs.lemmas.Int.{ints}
 use Rattle.pb_affine.specs.Values.{value}
-use Rattle.pb_core.specs.declared.protocol.CoreRole.{CoreRole}
-use Rattle.pb_core.specs.Outcomes.{Outcome, receives, other_first, again_first}
-use Rattle.pb_core.specs.Ranks.{Seat, seats, total, number_in}
-use Rattle.pb_area.specs.Areas.{has}
-use Rattle.pb_flat.specs.Seated.{rank}
-use Rattle.pb_flat.specs.OutcomeSets.{outcome_eq}
-use Rattle.pb_flat.proofs.Seats.{same_number, is_below}
-use Rattle.pb_first.specs.declared.firsts.Entry.{Entry}
-use Rattle.pb_first.specs.declared.firsts.Kind.{Kind}
-use Rattle.pb_first.specs.declared.firsts.Kind.TheVariants.{Receive, Other, Again}
-use Rattle.pb_first.specs.declared.firsts.Source.{Source}
-use Rattle.pb_first.specs.Firsts.{outcome_of, finds}
+use Rattle.pb_core_language.specs.declared.protocol.CoreRole.{CoreRole}
+use Rattle.pb_core_language.specs.Outcomes.{Outcome, receives, other_first, again_first}
+use Rattle.pb_core_language.specs.Ranks.{Seat, seats, total, number_in}
+use Rattle.pb_part_areas.specs.Areas.{has}
+use Rattle.pb_core_flat.specs.Seated.{rank}
+use Rattle.pb_core_flat.specs.OutcomeSets.{outcome_eq}
+use Rattle.pb_core_flat.proofs.Seats.{same_number, is_below}
+use Rattle.pb_part_firsts.specs.declared.firsts.Entry.{Entry}
+use Rattle.pb_part_firsts.specs.declared.firsts.Kind.{Kind}
+use Rattle.pb_part_firsts.specs.declared.firsts.Kind.TheVariants.{Receive, Other, Again}
+use Rattle.pb_part_firsts.specs.declared.firsts.Source.{Source}
+use Rattle.pb_part_firsts.specs.Firsts.{outcome_of, finds}
 use Rattle.pb_choice.specs.Clashes.{is_receive, is_strange, strange, is_label, same_label, clash, clash_any, clashes, agrees, is_from_other, are_apart, fork, fork_any, forks}
 
 module _ (roles : List CoreRole) (n : ℤ) (role : ℕ) (x : ℤ) where

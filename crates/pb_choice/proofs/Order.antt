@@ -4,8 +4,8 @@ use Rattle.std.specs.Prelude.{int_lt}
 use Rattle.std.specs.Ordering.{int_eq}
 use Rattle.std.proofs.lemmas.Bool.{true≢false, or_parts, and_cases, ltb-false, eq-eqb}
 use Rattle.std.proofs.lemmas.Int.{ints}
-use Rattle.pb_core.specs.Ranks.{Seat}
-use Rattle.pb_core.specs.Verdict.{Broken, is_before, is_before_seat}
+use Rattle.pb_core_language.specs.Ranks.{Seat}
+use Rattle.pb_core_language.specs.Verdict.{Broken, is_before, is_before_seat}
 use Rattle.pb_choice.specs.Found.{IsNamed, IsNamedBroken}
 use Rattle.pb_rules.proofs.Order.{join, join_int}
 

@@ -1,13 +1,13 @@
 -- The ends of a part of a protocol, one statement at a time.
 use Rattle.std.proofs.Common.{◌≡◌, ℕ, ℤ, true, List, [], ◌∷◌, ◌++◌, refl, sym, ap, ◌∙◌, append_assoc, append-nil}
 use Rattle.std.proofs.lemmas.Bool.{false≢true}
-use Rattle.pb_core.specs.declared.protocol.CoreRole.{CoreRole}
-use Rattle.pb_core.specs.Tree.{Mark, StmtTree, message, foreach, loop, again, choice, run, barrier, broadcast, reduce, allreduce}
-use Rattle.pb_core.specs.Flat.{Asked, Origin, Block, stop}
-use Rattle.pb_core.specs.FlatOf.{from_none, from_one, from_two, flat_stmt, flat_block, flat_branches}
-use Rattle.pb_core.specs.Rules.{each_origin, each_origin_among}
-use Rattle.pb_flat.specs.GoesOn.{goes_on}
-use Rattle.pb_flat.proofs.Adding.{Adds, is_single, stmt_adds}
+use Rattle.pb_core_language.specs.declared.protocol.CoreRole.{CoreRole}
+use Rattle.pb_core_language.specs.Tree.{Mark, StmtTree, message, foreach, loop, again, choice, run, barrier, broadcast, reduce, allreduce}
+use Rattle.pb_core_language.specs.Flat.{Asked, Origin, Block, stop}
+use Rattle.pb_core_language.specs.FlatOf.{from_none, from_one, from_two, flat_stmt, flat_block, flat_branches}
+use Rattle.pb_core_language.specs.Rules.{each_origin, each_origin_among}
+use Rattle.pb_core_flat.specs.GoesOn.{goes_on}
+use Rattle.pb_core_flat.proofs.Adding.{Adds, is_single, stmt_adds}
 
 append_first : {A : Type 0} (xs ys : List A) → xs ++ ys ≡ (xs ++ []) ++ ys
 append_first xs ys = ap (λ z. z ++ ys) (sym (append-nil xs))

@@ -2,14 +2,14 @@
 use Rattle.std.proofs.Common.{◌≡◌, ◌<◌, ◌+◌, ℕ, List, ◌∷◌, map, drop, get_or, length, ap, sym, ◌∙◌, Vec}
 use Rattle.std.proofs.lemmas.List.{at_drop_more}
 use Rattle.std.specs.declared.alloc.Global.{Global}
-use Rattle.pb_core.specs.declared.tree.CoreEnd.{CoreEnd}
-use Rattle.pb_core.specs.declared.tree.CoreBlock.{CoreBlock, out-CoreBlock, fold_out-CoreBlock}
-use Rattle.pb_core.specs.declared.tree.CoreStmt.{CoreStmt, fold_out-CoreStmt}
-use Rattle.pb_core.specs.declared.tree.CoreKind.{fold-roll-CoreKind}
-use Rattle.pb_core.specs.declared.tree.CoreKind.TheVariants.{Again, Choice, Loop, rolls-Again, rolls-Choice, rolls-Loop}
-use Rattle.pb_core.specs.declared.tree.CoreKind.TheOpen as Layer
-use Rattle.pb_core.specs.Tree.{StmtTree, loop, again, choice}
-use Rattle.pb_core.specs.Plain.{MarkedBlock, MarkedStmt, plain_block, plain_stmt, plain_kind, block_of, branches_of, kind_layer, block_layer, stmt_layer}
+use Rattle.pb_core_language.specs.declared.tree.CoreEnd.{CoreEnd}
+use Rattle.pb_core_language.specs.declared.tree.CoreBlock.{CoreBlock, out-CoreBlock, fold_out-CoreBlock}
+use Rattle.pb_core_language.specs.declared.tree.CoreStmt.{CoreStmt, fold_out-CoreStmt}
+use Rattle.pb_core_language.specs.declared.tree.CoreKind.{fold-roll-CoreKind}
+use Rattle.pb_core_language.specs.declared.tree.CoreKind.TheVariants.{Again, Choice, Loop, rolls-Again, rolls-Choice, rolls-Loop}
+use Rattle.pb_core_language.specs.declared.tree.CoreKind.TheOpen as Layer
+use Rattle.pb_core_language.specs.Tree.{StmtTree, loop, again, choice}
+use Rattle.pb_core_language.specs.Plain.{MarkedBlock, MarkedStmt, plain_block, plain_stmt, plain_kind, block_of, branches_of, kind_layer, block_layer, stmt_layer}
 
 pub mark_is : (s : CoreStmt) → (plain_stmt s).mark ≡ record { number = s.number; place = s.place }
 mark_is s = ap (λ a. a.mark) (fold_out-CoreStmt StmtTree MarkedBlock MarkedStmt kind_layer block_layer stmt_layer s)

@@ -4,19 +4,19 @@ use Rattle.std.proofs.lemmas.Bool.{and_parts, and_from, or_cases, or_left, or_ri
 use Rattle.std.proofs.lemmas.Bool.Decides.{nat_tests}
 use Rattle.std.proofs.lemmas.Int.{ints}
 use Rattle.pb_affine.specs.declared.range.NRange.{NRange}
-use Rattle.pb_core.specs.declared.protocol.CoreRole.{CoreRole}
-use Rattle.pb_core.specs.Outcomes.{Outcome, nothing_first, receives, other_first, again_first, only_receives, comes_from_one, labels_of, none_shared}
-use Rattle.pb_core.specs.Tree.{Mark}
-use Rattle.pb_core.specs.Verdict.{IsIn}
-use Rattle.pb_area.specs.declared.area.Area.{Area}
-use Rattle.pb_area.specs.Areas.{has, have}
-use Rattle.pb_flat.specs.Seated.{is_rank}
-use Rattle.pb_flat.specs.OutcomeSets.{outcome_eq, is_outcome}
-use Rattle.pb_flat.proofs.OutcomeSets.{is_append}
-use Rattle.pb_flat.proofs.OutcomeTests.{only_receives_is, from_one_is, label_is, none_shared_is}
-use Rattle.pb_first.specs.declared.firsts.Entry.{Entry}
-use Rattle.pb_first.specs.Takers.{IsWhole}
-use Rattle.pb_first.specs.Firsts.{outcome_of, finds, are_small, is_small_kind}
+use Rattle.pb_core_language.specs.declared.protocol.CoreRole.{CoreRole}
+use Rattle.pb_core_language.specs.Outcomes.{Outcome, nothing_first, receives, other_first, again_first, only_receives, comes_from_one, labels_of, none_shared}
+use Rattle.pb_core_language.specs.Tree.{Mark}
+use Rattle.pb_core_language.specs.Verdict.{IsIn}
+use Rattle.pb_part_areas.specs.declared.area.Area.{Area}
+use Rattle.pb_part_areas.specs.Areas.{has, have}
+use Rattle.pb_core_flat.specs.Seated.{is_rank}
+use Rattle.pb_core_flat.specs.OutcomeSets.{outcome_eq, is_outcome}
+use Rattle.pb_core_flat.proofs.OutcomeSets.{is_append}
+use Rattle.pb_core_flat.proofs.OutcomeTests.{only_receives_is, from_one_is, label_is, none_shared_is}
+use Rattle.pb_part_firsts.specs.declared.firsts.Entry.{Entry}
+use Rattle.pb_part_firsts.specs.Takers.{IsWhole}
+use Rattle.pb_part_firsts.specs.Firsts.{outcome_of, finds, are_small, is_small_kind}
 use Rattle.pb_choice.specs.declared.found.Found.{Found}
 use Rattle.pb_choice.specs.declared.rule.ChoiceRule.TheVariants.{OnlyReceives, OneSource, OwnLabels}
 use Rattle.pb_choice.specs.Clashes.{strange, clashes, forks, AreSplit}

@@ -3,19 +3,19 @@ use Rattle.std.proofs.Common.{◌≡◌, ◌<◌, ◌+◌, ◌*◌, ◌⊎◌, �
 use Rattle.std.specs.Prelude.{filter, if◌then◌else◌}
 use Rattle.std.proofs.lemmas.Bool.{and_parts, or_cases, false≢true, eqb-true}
 use Rattle.pb_affine.specs.Values.{value, range}
-use Rattle.pb_core.specs.declared.protocol.CoreRole.{CoreRole}
-use Rattle.pb_core.specs.declared.tree.CoreEnd.{CoreEnd}
-use Rattle.pb_core.specs.Ranks.{seats, total}
-use Rattle.pb_core.specs.Tree as T
-use Rattle.pb_core.specs.Tree.{Mark, StmtTree, foreach, loop, run, barrier, broadcast, reduce, allreduce, BlockTree, nothing, more, BranchTrees}
-use Rattle.pb_core.specs.Flat.{Asked, Origin, Block, stop, nth, takes_part, takes_part_among}
-use Rattle.pb_core.specs.Flat as F
-use Rattle.pb_core.specs.FlatOf.{asked, seat, from_none, from_one, from_two, for_each, between, rank_of, flat_stmt, flat_block, flat_branches}
-use Rattle.pb_core.specs.Rules.{is_seat, strays, each_origin, each_origin_among}
-use Rattle.pb_core.specs.Outcomes.{Outcome, nothing_first, receives, other_first, again_first, or_then, firsts, firsts_among}
-use Rattle.pb_flat.specs.OutcomeSets.{outcome_eq, is_outcome}
-use Rattle.pb_flat.proofs.OutcomeSets.{either_outcome, is_append}
-use Rattle.pb_flat.proofs.Seats.{seat_of_rank}
+use Rattle.pb_core_language.specs.declared.protocol.CoreRole.{CoreRole}
+use Rattle.pb_core_language.specs.declared.tree.CoreEnd.{CoreEnd}
+use Rattle.pb_core_language.specs.Ranks.{seats, total}
+use Rattle.pb_core_language.specs.Tree as T
+use Rattle.pb_core_language.specs.Tree.{Mark, StmtTree, foreach, loop, run, barrier, broadcast, reduce, allreduce, BlockTree, nothing, more, BranchTrees}
+use Rattle.pb_core_language.specs.Flat.{Asked, Origin, Block, stop, nth, takes_part, takes_part_among}
+use Rattle.pb_core_language.specs.Flat as F
+use Rattle.pb_core_language.specs.FlatOf.{asked, seat, from_none, from_one, from_two, for_each, between, rank_of, flat_stmt, flat_block, flat_branches}
+use Rattle.pb_core_language.specs.Rules.{is_seat, strays, each_origin, each_origin_among}
+use Rattle.pb_core_language.specs.Outcomes.{Outcome, nothing_first, receives, other_first, again_first, or_then, firsts, firsts_among}
+use Rattle.pb_core_flat.specs.OutcomeSets.{outcome_eq, is_outcome}
+use Rattle.pb_core_flat.proofs.OutcomeSets.{either_outcome, is_append}
+use Rattle.pb_core_flat.proofs.Seats.{seat_of_rank}
 use Rattle.pb_choice.proofs.Origins.{none_left, none_right}
 
 none_is : {B : Type 0} (z : B) (zs : List B) → z ∷ zs ≡ [] → ⊥

@@ -4,24 +4,24 @@ use Rattle.std.proofs.lemmas.Bool.{and_parts}
 use Rattle.std.proofs.lemmas.Bool.Decides.{nat_tests}
 use Rattle.std.proofs.lemmas.Int.{ints}
 use Rattle.pb_affine.specs.declared.range.NRange.{NRange}
-use Rattle.pb_core.specs.declared.protocol.CoreRole.{CoreRole}
-use Rattle.pb_core.specs.declared.tree.CoreBlock.{CoreBlock}
-use Rattle.pb_core.specs.declared.tree.CoreEnd.{CoreEnd}
-use Rattle.pb_core.specs.Tree.{BranchTrees, branch}
-use Rattle.pb_core.specs.Plain.{plain_block, branches_of}
-use Rattle.pb_core.specs.Flat.{stop, takes_part, takes_part_among}
-use Rattle.pb_core.specs.FlatOf.{rank_of, flat_block, flat_branches}
-use Rattle.pb_core.specs.Run.{Env, at_rank}
-use Rattle.pb_core.specs.Sound.{Rows, is_over_n, is_small, is_end}
-use Rattle.pb_core.specs.Verdict.{IsIn}
-use Rattle.pb_area.specs.declared.area.Area.{Area}
-use Rattle.pb_area.specs.Areas.{has, have}
-use Rattle.pb_flat.specs.Seated.{rank, is_rank}
-use Rattle.pb_flat.proofs.Seats.{end_is_at}
-use Rattle.pb_part.specs.declared.held.Held.{Held}
-use Rattle.pb_part.specs.Loops.{ids_of}
-use Rattle.pb_part.specs.Pieces.{IsAdded, block_piece}
-use Rattle.pb_part.specs.Ends.{IsEndArea}
+use Rattle.pb_core_language.specs.declared.protocol.CoreRole.{CoreRole}
+use Rattle.pb_core_language.specs.declared.tree.CoreBlock.{CoreBlock}
+use Rattle.pb_core_language.specs.declared.tree.CoreEnd.{CoreEnd}
+use Rattle.pb_core_language.specs.Tree.{BranchTrees, branch}
+use Rattle.pb_core_language.specs.Plain.{plain_block, branches_of}
+use Rattle.pb_core_language.specs.Flat.{stop, takes_part, takes_part_among}
+use Rattle.pb_core_language.specs.FlatOf.{rank_of, flat_block, flat_branches}
+use Rattle.pb_core_language.specs.Run.{Env, at_rank}
+use Rattle.pb_core_language.specs.Sound.{Rows, is_over_n, is_small, is_end}
+use Rattle.pb_core_language.specs.Verdict.{IsIn}
+use Rattle.pb_part_areas.specs.declared.area.Area.{Area}
+use Rattle.pb_part_areas.specs.Areas.{has, have}
+use Rattle.pb_core_flat.specs.Seated.{rank, is_rank}
+use Rattle.pb_core_flat.proofs.Seats.{end_is_at}
+use Rattle.pb_part_takers.specs.declared.held.Held.{Held}
+use Rattle.pb_part_takers.specs.Loops.{ids_of}
+use Rattle.pb_part_takers.specs.Pieces.{IsAdded, block_piece}
+use Rattle.pb_part_takers.specs.Ends.{IsEndArea}
 use Rattle.pb_choice.specs.Scenes.{Stands, IsFair, AreFair}
 use Rattle.pb_choice.specs.Told.{AreTold, AreAmong}
 use Rattle.pb_choice.proofs.Fairs.{fair_branches, fair_branch, fair_others}

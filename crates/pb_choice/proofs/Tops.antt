@@ -3,22 +3,22 @@ use Rattle.std.proofs.Common.{◌≡◌, ◌≤◌, inl, inr, ℕ, ℤ, true, fa
 use Rattle.std.specs.Prelude.{Contains}
 use Rattle.std.proofs.lemmas.Bool.{and_parts}
 use Rattle.std.proofs.lemmas.Bool.Decides.{nat_tests}
-use Rattle.pb_core.specs.declared.protocol.CoreRole.{CoreRole}
-use Rattle.pb_core.specs.Ranks.{seat_at}
-use Rattle.pb_core.specs.Plain.{Protocol}
-use Rattle.pb_core.specs.Flat.{Asked}
-use Rattle.pb_core.specs.Rules.{empty_roles, each_origin, strays, loners, Breach, nobody, somebody, ranked, misfits, misfitting, flat_at, total_at, ranks_at, broken_6, broken_7, broken_8, broken_9, broken_10, broken_11, broken_12, deserted, breaches}
-use Rattle.pb_core.specs.Sound.{is_range, are_roles, is_block, rows_of, is_sound}
-use Rattle.pb_core.specs.Verdict.{Broken, IsIn, IsBroken}
+use Rattle.pb_core_language.specs.declared.protocol.CoreRole.{CoreRole}
+use Rattle.pb_core_language.specs.Ranks.{seat_at}
+use Rattle.pb_core_language.specs.Plain.{Protocol}
+use Rattle.pb_core_language.specs.Flat.{Asked}
+use Rattle.pb_core_language.specs.Rules.{empty_roles, each_origin, strays, loners, Breach, nobody, somebody, ranked, misfits, misfitting, flat_at, total_at, ranks_at, broken_6, broken_7, broken_8, broken_9, broken_10, broken_11, broken_12, deserted, breaches}
+use Rattle.pb_core_language.specs.Sound.{is_range, are_roles, is_block, rows_of, is_sound}
+use Rattle.pb_core_language.specs.Verdict.{Broken, IsIn, IsBroken}
 use Rattle.pb_rules.specs.Verdict.{KeepsIndex}
 use Rattle.pb_rules.proofs.Lists.{Has, has, contains, has_cases, has_left, has_right, has_map, map_has}
-use Rattle.pb_flat.specs.Seated.{rank, is_rank}
-use Rattle.pb_flat.proofs.Below.{over_below_is}
-use Rattle.pb_flat.proofs.Seats.{seat_of_rank, rank_of_seat}
-use Rattle.pb_area.specs.declared.area.Area.{Area}
-use Rattle.pb_area.specs.Areas.{have}
+use Rattle.pb_core_flat.specs.Seated.{rank, is_rank}
+use Rattle.pb_core_flat.proofs.Below.{over_below_is}
+use Rattle.pb_core_flat.proofs.Seats.{seat_of_rank, rank_of_seat}
+use Rattle.pb_part_areas.specs.declared.area.Area.{Area}
+use Rattle.pb_part_areas.specs.Areas.{have}
 use Rattle.pb_cases.specs.Breakpoints.{IsInRange}
-use Rattle.pb_part.specs.declared.held.Held.{Held}
+use Rattle.pb_part_takers.specs.declared.held.Held.{Held}
 use Rattle.pb_choice.specs.declared.found.Found.{Found}
 use Rattle.pb_choice.specs.declared.rule.ChoiceRule.{ChoiceRule}
 use Rattle.pb_choice.specs.declared.rule.ChoiceRule.TheVariants.{OnlyReceives, OneSource, OwnLabels}

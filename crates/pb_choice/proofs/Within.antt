@@ -1,23 +1,23 @@
 -- A branch of a choice, with what the ranks that are told find in it.
 use Rattle.std.proofs.Common.{◌≡◌, ℕ, ℤ, pos, Bool, true, false, ◌&&◌, ◌||◌, Option, List, [], refl, ap, ap₂, ◌∙◌, subst}
 use Rattle.pb_affine.specs.declared.range.NRange.{NRange}
-use Rattle.pb_core.specs.declared.protocol.CoreRole.{CoreRole}
-use Rattle.pb_core.specs.Tree.{Mark, BlockTree}
-use Rattle.pb_core.specs.Flat.{stop}
-use Rattle.pb_core.specs.FlatOf.{flat_block}
-use Rattle.pb_core.specs.Outcomes.{nothing_first, firsts}
-use Rattle.pb_core.specs.Run.{Env, at_rank}
-use Rattle.pb_core.specs.Sound.{Rows, is_block}
-use Rattle.pb_core.specs.Verdict.{IsIn}
-use Rattle.pb_area.specs.declared.area.Area.{Area}
-use Rattle.pb_area.specs.Areas.{have}
-use Rattle.pb_flat.specs.Seated.{rank, is_rank}
-use Rattle.pb_flat.specs.OutcomeSets.{is_outcome}
-use Rattle.pb_part.specs.declared.held.Held.{Held}
-use Rattle.pb_first.specs.declared.firsts.Entry.{Entry}
-use Rattle.pb_first.specs.Takers.{IsWhole}
-use Rattle.pb_part.specs.Loops.{ids_of}
-use Rattle.pb_first.specs.Firsts.{Gives, first_in, finds, are_small}
+use Rattle.pb_core_language.specs.declared.protocol.CoreRole.{CoreRole}
+use Rattle.pb_core_language.specs.Tree.{Mark, BlockTree}
+use Rattle.pb_core_language.specs.Flat.{stop}
+use Rattle.pb_core_language.specs.FlatOf.{flat_block}
+use Rattle.pb_core_language.specs.Outcomes.{nothing_first, firsts}
+use Rattle.pb_core_language.specs.Run.{Env, at_rank}
+use Rattle.pb_core_language.specs.Sound.{Rows, is_block}
+use Rattle.pb_core_language.specs.Verdict.{IsIn}
+use Rattle.pb_part_areas.specs.declared.area.Area.{Area}
+use Rattle.pb_part_areas.specs.Areas.{have}
+use Rattle.pb_core_flat.specs.Seated.{rank, is_rank}
+use Rattle.pb_core_flat.specs.OutcomeSets.{is_outcome}
+use Rattle.pb_part_takers.specs.declared.held.Held.{Held}
+use Rattle.pb_part_firsts.specs.declared.firsts.Entry.{Entry}
+use Rattle.pb_part_firsts.specs.Takers.{IsWhole}
+use Rattle.pb_part_takers.specs.Loops.{ids_of}
+use Rattle.pb_part_firsts.specs.Firsts.{Gives, first_in, finds, are_small}
 use Rattle.pb_choice.specs.declared.found.Found.{Found}
 use Rattle.pb_choice.specs.Flaws.{both, of_rules, of_block, found_in, misses}
 use Rattle.pb_choice.specs.Scenes.{Stands, IsFair, Are}

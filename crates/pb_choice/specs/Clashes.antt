@@ -6,13 +6,13 @@ use Rattle.pb_affine.specs.declared.lin.Base.{Base}
 use Rattle.pb_affine.specs.declared.lin.Base.TheVariants.{Fixed, Param, Var}
 use Rattle.pb_affine.specs.declared.lin.Lin.{Lin}
 use Rattle.pb_affine.specs.Values.{value}
-use Rattle.pb_area.specs.declared.area.Area.{Area}
-use Rattle.pb_area.specs.Areas.{has, have}
-use Rattle.pb_first.specs.declared.firsts.Entry.{Entry}
-use Rattle.pb_first.specs.declared.firsts.Kind.{Kind}
-use Rattle.pb_first.specs.declared.firsts.Kind.TheVariants.{Receive, Other, Again}
-use Rattle.pb_first.specs.declared.firsts.Source.{Source}
-use Rattle.pb_first.specs.Firsts.{is_small_off}
+use Rattle.pb_part_areas.specs.declared.area.Area.{Area}
+use Rattle.pb_part_areas.specs.Areas.{has, have}
+use Rattle.pb_part_firsts.specs.declared.firsts.Entry.{Entry}
+use Rattle.pb_part_firsts.specs.declared.firsts.Kind.{Kind}
+use Rattle.pb_part_firsts.specs.declared.firsts.Kind.TheVariants.{Receive, Other, Again}
+use Rattle.pb_part_firsts.specs.declared.firsts.Source.{Source}
+use Rattle.pb_part_firsts.specs.Firsts.{is_small_off}
 
 abbrev pub is_receive : Kind → Bool
 is_receive (Receive s l) = true

@@ -1,17 +1,17 @@
 -- The places at which the rules 9 to 12 are broken in a part of a protocol, for every N of the range.
 use Rattle.std.specs.Prelude.{◌≡◌, ℕ, ℤ, pos, ◌==◌, Bool, true, false, not, ◌&&◌, if◌then◌else◌, List, [], ◌∷◌, ◌++◌, Contains}
 use Rattle.pb_affine.specs.declared.range.NRange.{NRange}
-use Rattle.pb_core.specs.declared.protocol.CoreRole.{CoreRole}
-use Rattle.pb_core.specs.declared.tree.CoreEnd.{CoreEnd}
-use Rattle.pb_core.specs.Ranks.{total}
-use Rattle.pb_core.specs.Tree.{Mark, StmtTree, BlockTree, BranchTrees}
-use Rattle.pb_core.specs.Flat.{Block, stop, takes_part, takes_part_among}
-use Rattle.pb_core.specs.FlatOf.{rank_of, flat_stmt, flat_block, flat_branches}
-use Rattle.pb_core.specs.Run.{Env, at_rank}
-use Rattle.pb_core.specs.Outcomes.{Outcome, firsts}
-use Rattle.pb_core.specs.Rules.{some_below, holds_again, deserted, deserted_among, misfits, misfits_among, receives_only, keeps_source, keeps_labels, nobody, ranked}
-use Rattle.pb_core.specs.Verdict.{IsIn, Broken}
-use Rattle.pb_flat.specs.Seated.{rank, is_rank}
+use Rattle.pb_core_language.specs.declared.protocol.CoreRole.{CoreRole}
+use Rattle.pb_core_language.specs.declared.tree.CoreEnd.{CoreEnd}
+use Rattle.pb_core_language.specs.Ranks.{total}
+use Rattle.pb_core_language.specs.Tree.{Mark, StmtTree, BlockTree, BranchTrees}
+use Rattle.pb_core_language.specs.Flat.{Block, stop, takes_part, takes_part_among}
+use Rattle.pb_core_language.specs.FlatOf.{rank_of, flat_stmt, flat_block, flat_branches}
+use Rattle.pb_core_language.specs.Run.{Env, at_rank}
+use Rattle.pb_core_language.specs.Outcomes.{Outcome, firsts}
+use Rattle.pb_core_language.specs.Rules.{some_below, holds_again, deserted, deserted_among, misfits, misfits_among, receives_only, keeps_source, keeps_labels, nobody, ranked}
+use Rattle.pb_core_language.specs.Verdict.{IsIn, Broken}
+use Rattle.pb_core_flat.specs.Seated.{rank, is_rank}
 use Rattle.pb_choice.specs.declared.rule.ChoiceRule.{ChoiceRule}
 use Rattle.pb_choice.specs.declared.rule.ChoiceRule.TheVariants.{OnlyReceives, OneSource, OwnLabels}
 

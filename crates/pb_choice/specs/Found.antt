@@ -1,9 +1,9 @@
 -- The first breach so far.
 use Rattle.std.specs.Prelude.{◌≡◌, ◌⊎◌, ℕ, ℤ, false, Option, Some, None, if◌then◌else◌}
-use Rattle.pb_core.specs.Ranks.{Seat}
-use Rattle.pb_core.specs.Tree.{Mark}
-use Rattle.pb_core.specs.Rules.{Breach}
-use Rattle.pb_core.specs.Verdict.{Broken, is_before}
+use Rattle.pb_core_language.specs.Ranks.{Seat}
+use Rattle.pb_core_language.specs.Tree.{Mark}
+use Rattle.pb_core_language.specs.Rules.{Breach}
+use Rattle.pb_core_language.specs.Verdict.{Broken, is_before}
 use Rattle.pb_rules.specs.Verdict.{seat_if}
 use Rattle.pb_choice.specs.declared.found.Found.{Found}
 use Rattle.pb_choice.specs.declared.found.Mark as F

@@ -1,6 +1,6 @@
 -- Statements at which none of the rules 9 to 12 is broken.
 use Rattle.std.specs.Prelude.{Bool, true, false}
-use Rattle.pb_core.specs.Tree.{StmtTree, message, foreach, loop, again, choice, run, barrier, broadcast, reduce, allreduce}
+use Rattle.pb_core_language.specs.Tree.{StmtTree, message, foreach, loop, again, choice, run, barrier, broadcast, reduce, allreduce}
 
 -- neither a loop nor a choice
 abbrev pub is_plain : StmtTree → Bool

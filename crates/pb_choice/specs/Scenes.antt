@@ -1,21 +1,21 @@
 -- What is known where a part of a protocol stands.
 use Rattle.std.specs.Prelude.{◌≡◌, ℕ, ℤ, pos, Bool, true, false, List, []}
 use Rattle.pb_affine.specs.declared.range.NRange.{NRange}
-use Rattle.pb_core.specs.declared.protocol.CoreRole.{CoreRole}
-use Rattle.pb_core.specs.Ranks.{seats}
-use Rattle.pb_core.specs.Tree.{Mark, StmtTree, BlockTree, BranchTrees}
-use Rattle.pb_core.specs.Flat.{stop}
-use Rattle.pb_core.specs.FlatOf.{flat_stmt, flat_block, flat_branches}
-use Rattle.pb_core.specs.Run.{Env, at_rank}
-use Rattle.pb_core.specs.Rules.{strays, each_origin, each_origin_among}
-use Rattle.pb_core.specs.Sound.{Rows, is_stmt, is_block, are_branches}
-use Rattle.pb_core.specs.Verdict.{IsIn}
-use Rattle.pb_area.specs.declared.area.Area.{Area}
-use Rattle.pb_area.specs.Areas.{have}
-use Rattle.pb_part.specs.declared.held.Held.{Held}
-use Rattle.pb_part.specs.Loops.{held_of}
-use Rattle.pb_first.specs.Takers.{IsWhole}
-use Rattle.pb_flat.specs.Seated.{rank, is_rank}
+use Rattle.pb_core_language.specs.declared.protocol.CoreRole.{CoreRole}
+use Rattle.pb_core_language.specs.Ranks.{seats}
+use Rattle.pb_core_language.specs.Tree.{Mark, StmtTree, BlockTree, BranchTrees}
+use Rattle.pb_core_language.specs.Flat.{stop}
+use Rattle.pb_core_language.specs.FlatOf.{flat_stmt, flat_block, flat_branches}
+use Rattle.pb_core_language.specs.Run.{Env, at_rank}
+use Rattle.pb_core_language.specs.Rules.{strays, each_origin, each_origin_among}
+use Rattle.pb_core_language.specs.Sound.{Rows, is_stmt, is_block, are_branches}
+use Rattle.pb_core_language.specs.Verdict.{IsIn}
+use Rattle.pb_part_areas.specs.declared.area.Area.{Area}
+use Rattle.pb_part_areas.specs.Areas.{have}
+use Rattle.pb_part_takers.specs.declared.held.Held.{Held}
+use Rattle.pb_part_takers.specs.Loops.{held_of}
+use Rattle.pb_part_firsts.specs.Takers.{IsWhole}
+use Rattle.pb_core_flat.specs.Seated.{rank, is_rank}
 
 -- the areas have all ranks, and those of the loops around have who takes part in these
 pub record Stands (range : NRange) (roles : List CoreRole) (env : ℤ → Env) (whole : List Area) (held : List Held) : Type 0 where

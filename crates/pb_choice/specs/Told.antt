@@ -1,17 +1,17 @@
 -- Who is told of a choice.
 use Rattle.std.specs.Prelude.{ℕ, ℤ, pos, List}
 use Rattle.pb_affine.specs.declared.range.NRange.{NRange}
-use Rattle.pb_core.specs.declared.protocol.CoreRole.{CoreRole}
-use Rattle.pb_core.specs.declared.tree.CoreEnd.{CoreEnd}
-use Rattle.pb_core.specs.Tree.{Mark, choice, BranchTrees}
-use Rattle.pb_core.specs.Run.{Env, at_rank}
-use Rattle.pb_core.specs.Flat.{takes_part_among}
-use Rattle.pb_core.specs.FlatOf.{flat_branches}
-use Rattle.pb_core.specs.Sound.{Rows}
-use Rattle.pb_flat.specs.Seated.{rank}
-use Rattle.pb_area.specs.declared.area.Area.{Area}
-use Rattle.pb_part.specs.declared.held.Held.{Held}
-use Rattle.pb_part.specs.Loops.{ids_of}
+use Rattle.pb_core_language.specs.declared.protocol.CoreRole.{CoreRole}
+use Rattle.pb_core_language.specs.declared.tree.CoreEnd.{CoreEnd}
+use Rattle.pb_core_language.specs.Tree.{Mark, choice, BranchTrees}
+use Rattle.pb_core_language.specs.Run.{Env, at_rank}
+use Rattle.pb_core_language.specs.Flat.{takes_part_among}
+use Rattle.pb_core_language.specs.FlatOf.{flat_branches}
+use Rattle.pb_core_language.specs.Sound.{Rows}
+use Rattle.pb_core_flat.specs.Seated.{rank}
+use Rattle.pb_part_areas.specs.declared.area.Area.{Area}
+use Rattle.pb_part_takers.specs.declared.held.Held.{Held}
+use Rattle.pb_part_takers.specs.Loops.{ids_of}
 use Rattle.pb_choice.specs.Flaws.{is_told}
 use Rattle.pb_choice.specs.Scenes.{Stands, IsFairStmt, AreFair, Are}
 

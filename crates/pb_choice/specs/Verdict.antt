@@ -1,9 +1,9 @@
 -- What is said of a protocol whose rules 9 to 12 are decided.
 use Rattle.std.specs.Prelude.{◌≡◌, ℕ, ◌≤◌, ℤ, Option, Some, None}
 use Rattle.pb_text.specs.declared.place.Place.{Place}
-use Rattle.pb_core.specs.Plain.{Protocol}
-use Rattle.pb_core.specs.Verdict as V
-use Rattle.pb_core.specs.Verdict.{IsBroken, IsFirstBroken, KeepsAll}
+use Rattle.pb_core_language.specs.Plain.{Protocol}
+use Rattle.pb_core_language.specs.Verdict as V
+use Rattle.pb_core_language.specs.Verdict.{IsBroken, IsFirstBroken, KeepsAll}
 use Rattle.pb_rules.specs.declared.fault.At.{At}
 use Rattle.pb_rules.specs.declared.fault.RuleFault.{RuleFault}
 use Rattle.pb_rules.specs.declared.fault.RuleFault.TheVariants.{Broken, TooManyCases, NoMemory}

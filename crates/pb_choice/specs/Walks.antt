@@ -1,21 +1,21 @@
 -- What the parts of the walk answer: the first of the best so far and the breaches of a part.
 use Rattle.std.specs.Prelude.{◌≡◌, ◌<◌, ℕ, ℤ, Bool, true, false, not, ◌&&◌, Option, List, [], ◌∷◌, ◌++◌}
 use Rattle.pb_affine.specs.declared.range.NRange.{NRange}
-use Rattle.pb_core.specs.declared.protocol.CoreRole.{CoreRole}
-use Rattle.pb_core.specs.Ranks.{total}
-use Rattle.pb_core.specs.Tree.{Mark, StmtTree, BlockTree, BranchTrees}
-use Rattle.pb_core.specs.Run.{Env}
-use Rattle.pb_core.specs.Outcomes.{Outcome, nothing_first, receives, comes_from_one}
-use Rattle.pb_core.specs.Sound.{Rows}
-use Rattle.pb_core.specs.Verdict.{IsIn}
-use Rattle.pb_area.specs.declared.area.Area.{Area}
-use Rattle.pb_flat.specs.Seated.{rank, is_rank}
-use Rattle.pb_flat.specs.OutcomeSets.{is_nothing, is_outcome}
-use Rattle.pb_part.specs.declared.held.Held.{Held}
-use Rattle.pb_first.specs.declared.firsts.Entry.{Entry}
-use Rattle.pb_part.specs.Loops.{ids_of}
-use Rattle.pb_first.specs.Takers.{IsWhole}
-use Rattle.pb_first.specs.Firsts.{finds, are_small}
+use Rattle.pb_core_language.specs.declared.protocol.CoreRole.{CoreRole}
+use Rattle.pb_core_language.specs.Ranks.{total}
+use Rattle.pb_core_language.specs.Tree.{Mark, StmtTree, BlockTree, BranchTrees}
+use Rattle.pb_core_language.specs.Run.{Env}
+use Rattle.pb_core_language.specs.Outcomes.{Outcome, nothing_first, receives, comes_from_one}
+use Rattle.pb_core_language.specs.Sound.{Rows}
+use Rattle.pb_core_language.specs.Verdict.{IsIn}
+use Rattle.pb_part_areas.specs.declared.area.Area.{Area}
+use Rattle.pb_core_flat.specs.Seated.{rank, is_rank}
+use Rattle.pb_core_flat.specs.OutcomeSets.{is_nothing, is_outcome}
+use Rattle.pb_part_takers.specs.declared.held.Held.{Held}
+use Rattle.pb_part_firsts.specs.declared.firsts.Entry.{Entry}
+use Rattle.pb_part_takers.specs.Loops.{ids_of}
+use Rattle.pb_part_firsts.specs.Takers.{IsWhole}
+use Rattle.pb_part_firsts.specs.Firsts.{finds, are_small}
 use Rattle.pb_choice.specs.declared.found.Found.{Found}
 use Rattle.pb_choice.specs.Flaws.{IsFlaw, lone_at, of_rules, of_block, of_stmt, of_branches, is_deserted, in_body, found_in, misses, both}
 use Rattle.pb_choice.specs.Found.{Improves}

@@ -1,13 +1,13 @@
 ghost use Rattle.std.specs.Prelude.{◌≡◌, ℕ, ℤ, pos, ◌≤ℤ◌, ◌-ℤ◌, ◌+ℤ◌, ◌&&◌, true, false, MatchOption};
 ghost use Rattle.std.specs.Ordering.{int_eq};
 ghost use Rattle.pb_affine.specs.Values.{value};
-ghost use Rattle.pb_area.specs.Areas.{has, at};
-ghost use Rattle.pb_first.specs.Firsts.{is_small_off};
+ghost use Rattle.pb_part_areas.specs.Areas.{has, at};
+ghost use Rattle.pb_part_firsts.specs.Firsts.{is_small_off};
 ghost use Rattle.pb_choice.specs.Clashes.{IsMeeting, IsAgreement, IsLittle, IsNumber, IsNoNumber};
 
 use pb_affine::{Base, Lin};
-use pb_area::Area;
-use pb_first::Source;
+use pb_part_areas::Area;
+use pb_part_firsts::Source;
 
 /// The part of the area at which two sources are one rank.
 pub fn agreement(area: Area, a: Source, b: Source) -> Area

@@ -1,13 +1,13 @@
 ghost use Rattle.std.specs.Prelude.{◌≡◌, ℕ, ℤ, ◌&&◌, ◌||◌, true, not, IfOk, OnOk};
-ghost use Rattle.pb_area.specs.Areas.{has, have};
-ghost use Rattle.pb_first.specs.Firsts.{is_small_kind, is_small_off, are_small};
+ghost use Rattle.pb_part_areas.specs.Areas.{has, have};
+ghost use Rattle.pb_part_firsts.specs.Firsts.{is_small_kind, is_small_off, are_small};
 ghost use Rattle.pb_choice.specs.Clashes.{AddsWhere, agrees, clash, clash_any, clashes, fork, fork_any, forks, is_strange, same_label, strange};
 
 use crate::agree::agreement;
 use crate::told::copy_of;
 use pb_affine::Base;
-use pb_area::{Area, add_all, common, one, push, without};
-use pb_first::{Entry, Kind, Source};
+use pb_part_areas::{Area, add_all, common, one, push, without};
+use pb_part_firsts::{Entry, Kind, Source};
 use pb_text::NoMemory;
 use std::alloc::Global;
 

@@ -1,6 +1,6 @@
 ghost use Rattle.std.specs.Prelude.{◌≡◌, ◌++◌, ℕ, ℤ, ◌&&◌, ◌||◌, true, not, IfOk, OnOk};
-ghost use Rattle.pb_area.specs.Areas.{have};
-ghost use Rattle.pb_first.specs.Firsts.{are_small};
+ghost use Rattle.pb_part_areas.specs.Areas.{have};
+ghost use Rattle.pb_part_firsts.specs.Firsts.{are_small};
 ghost use Rattle.pb_choice.specs.Clashes.{AreSplit};
 ghost use Rattle.pb_choice.specs.Found.{mark_of};
 ghost use Rattle.pb_choice.specs.Walks.{FirstOf};
@@ -11,8 +11,8 @@ use crate::least::told_kept;
 use crate::past::Past;
 use crate::rule::ChoiceRule;
 use crate::setting::Setting;
-use pb_area::{Area, add_all, without};
-use pb_first::Entry;
+use pb_part_areas::{Area, add_all, without};
+use pb_part_firsts::Entry;
 use pb_text::NoMemory;
 use std::alloc::Global;
 

@@ -1,10 +1,10 @@
 ghost use Rattle.std.specs.Prelude.{◌≡◌, ℤ, pos, MatchOption};
 ghost use Rattle.pb_affine.specs.Values.{is_up_to};
-ghost use Rattle.pb_area.specs.Areas.{at, is_before};
+ghost use Rattle.pb_part_areas.specs.Areas.{at, is_before};
 ghost use Rattle.pb_choice.specs.Empties.{IsFirstEmpty, IsNeverEmpty, IsShortN, Tried, TriedEnds, TriedIf, any_open, gap_of, is_open, is_within, sooner};
 
 use pb_affine::{Base, Lin, NRange};
-use pb_area::Area;
+use pb_part_areas::Area;
 
 /// A number that may be an N.
 #[derive(Clone, Copy)]

@@ -1,15 +1,15 @@
 ghost use Rattle.std.specs.Prelude.{◌≡◌, true, IfOk, OnOk, IfErr};
-ghost use Rattle.pb_core.specs.Plain.{plain};
-ghost use Rattle.pb_core.specs.Sound.{is_sound};
-ghost use Rattle.pb_core.specs.Verdict.{KeepsAll};
+ghost use Rattle.pb_core_language.specs.Plain.{plain};
+ghost use Rattle.pb_core_language.specs.Sound.{is_sound};
+ghost use Rattle.pb_core_language.specs.Verdict.{KeepsAll};
 ghost use Rattle.pb_rules.specs.Verdict.{KeepsIndex, HasFewCases};
 ghost use Rattle.pb_choice.specs.Verdict.{IsFlowFault, IsAnswer};
 
 use crate::found::Found;
 use crate::setting::Setting;
 use crate::walk::block_kept;
-use pb_core::Core;
-use pb_part::areas_of_roles;
+use pb_core_language::Core;
+use pb_part_takers::areas_of_roles;
 use pb_rules::RuleFault;
 use pb_text::NoMemory;
 use std::alloc::Global;

@@ -1,6 +1,6 @@
 ghost use Rattle.std.specs.Prelude.{◌≡◌};
 
-use pb_core::Place;
+use pb_core_language::Place;
 use pb_rules::At;
 
 /// The number and the place of a statement or a block.
@@ -20,7 +20,7 @@ pub struct Found {
 }
 
 impl Found {
-    ghost use Rattle.pb_core.specs.Verdict.{is_before};
+    ghost use Rattle.pb_core_language.specs.Verdict.{is_before};
     ghost use Rattle.pb_choice.specs.Found.{broken_of, earlier_of};
 
     /// By rule, then by place, then by N, then by role and index.
@@ -43,7 +43,7 @@ impl Found {
 
 ghost use Rattle.std.specs.Prelude.{◌||◌, ◌&&◌, int_lt};
 ghost use Rattle.std.specs.Ordering.{int_eq};
-ghost use Rattle.pb_core.specs.Verdict.{is_before_seat};
+ghost use Rattle.pb_core_language.specs.Verdict.{is_before_seat};
 ghost use Rattle.pb_rules.specs.Verdict.{seat_if};
 ghost use Rattle.pb_choice.specs.Found.{earlier};
 

@@ -1,6 +1,6 @@
 ghost use Rattle.std.specs.Prelude.{◌≡◌, ℕ, ℤ, Bool, List, Some, IfOk};
-ghost use Rattle.pb_core.specs.declared.protocol.CoreRole.{CoreRole};
-ghost use Rattle.pb_first.specs.Takers.{IsWhole};
+ghost use Rattle.pb_core_language.specs.declared.protocol.CoreRole.{CoreRole};
+ghost use Rattle.pb_part_firsts.specs.Takers.{IsWhole};
 ghost use Rattle.pb_choice.specs.Flaws.{IsFlaw, flaw_at, number_of};
 ghost use Rattle.pb_choice.specs.Found.{Improves, mark_of};
 ghost use Rattle.pb_choice.specs.Scenes.{Are};
@@ -8,8 +8,8 @@ ghost use Rattle.pb_choice.specs.Scenes.{Are};
 use crate::found::{Found, Mark, earlier};
 use crate::rule::ChoiceRule;
 use crate::setting::Setting;
-use pb_area::{Area, common, first_of};
 use pb_cases::Bad;
+use pb_part_areas::{Area, common, first_of};
 use pb_rules::At;
 use pb_text::NoMemory;
 use std::alloc::Global;

@@ -21,5 +21,5 @@ mod walk;
 
 pub use agree::agreement;
 pub use flow::check_flow;
-pub use pb_core::Core;
+pub use pb_core_language::Core;
 pub use pb_rules::{At, RuleFault};

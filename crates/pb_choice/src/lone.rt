@@ -1,5 +1,5 @@
 ghost use Rattle.std.specs.Prelude.{◌≡◌, IfOk};
-ghost use Rattle.pb_core.specs.Plain.{plain_block};
+ghost use Rattle.pb_core_language.specs.Plain.{plain_block};
 ghost use Rattle.pb_choice.specs.Found.{mark_of, lone_if};
 ghost use Rattle.pb_choice.specs.Walks.{AreInBody, FirstLone};
 
@@ -7,9 +7,9 @@ use crate::empty::first_empty;
 use crate::found::{Found, Mark, earlier};
 use crate::round::comes_round;
 use crate::setting::Setting;
-use pb_area::{Area, common};
-use pb_core::CoreBlock;
-use pb_part::{Held, takers_in, with_loop};
+use pb_core_language::CoreBlock;
+use pb_part_areas::{Area, common};
+use pb_part_takers::{Held, takers_in, with_loop};
 use pb_text::NoMemory;
 use std::alloc::Global;
 

@@ -1,5 +1,5 @@
-use pb_area::Area;
-use pb_first::Entry;
+use pb_part_areas::Area;
+use pb_part_firsts::Entry;
 use std::alloc::Global;
 
 /// What was found first in the branches so far: the receives, and the ranks that receive from more than one rank.

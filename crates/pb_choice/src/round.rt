@@ -1,13 +1,13 @@
 ghost use Rattle.std.specs.Prelude.{◌≡◌, ◌+◌, ◌≤◌, ◌∷◌, ◌==◌, ℕ, length, map, IfOk};
-ghost use Rattle.pb_core.specs.FlatOf.{between};
-ghost use Rattle.pb_core.specs.Plain.{plain_block, plain_stmt, branches_of};
-ghost use Rattle.pb_flat.specs.GoesOn.{has_again, have_again, some_have_again};
-ghost use Rattle.pb_part.specs.Loops.{ids_of};
+ghost use Rattle.pb_core_language.specs.FlatOf.{between};
+ghost use Rattle.pb_core_language.specs.Plain.{plain_block, plain_stmt, branches_of};
+ghost use Rattle.pb_core_flat.specs.GoesOn.{has_again, have_again, some_have_again};
+ghost use Rattle.pb_part_takers.specs.Loops.{ids_of};
 ghost use Rattle.pb_choice.specs.Rounds.{Rounds};
 
 use crate::walk::is_again;
-use pb_core::{CoreBlock, CoreKind, CoreStmt};
-use pb_part::Held;
+use pb_core_language::{CoreBlock, CoreKind, CoreStmt};
+use pb_part_takers::Held;
 use pb_text::NoMemory;
 use std::alloc::Global;
 

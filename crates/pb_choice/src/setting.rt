@@ -1,5 +1,5 @@
 use pb_affine::NRange;
-use pb_area::Area;
+use pb_part_areas::Area;
 
 /// The range of N, and the areas of all ranks.
 #[derive(Clone, Copy)]

@@ -4,9 +4,9 @@ use crate::found::Found;
 use crate::setting::Setting;
 use crate::walk::block_kept;
 use pb_affine::{Base, Lin, NRange};
-use pb_area::{Area, first_of};
-use pb_core::{CoreBlock, CoreEnd, CoreKind, CoreStmt, Place};
-use pb_first::{Entry, Kind, Source};
+use pb_core_language::{CoreBlock, CoreEnd, CoreKind, CoreStmt, Place};
+use pb_part_areas::{Area, first_of};
+use pb_part_firsts::{Entry, Kind, Source};
 use std::alloc::Global;
 use std::test::Fail;
 

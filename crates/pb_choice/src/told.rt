@@ -1,12 +1,12 @@
 ghost use Rattle.std.specs.Prelude.{◌≡◌, ℕ, ℤ, IfOk, map};
-ghost use Rattle.pb_area.specs.Areas.{have};
-ghost use Rattle.pb_core.specs.Plain.{plain_block, branches_of};
+ghost use Rattle.pb_part_areas.specs.Areas.{have};
+ghost use Rattle.pb_core_language.specs.Plain.{plain_block, branches_of};
 ghost use Rattle.pb_choice.specs.Told.{AreTold, AreAmong};
 
 use crate::setting::Setting;
-use pb_area::{Area, add_all, common, one, without};
-use pb_core::{CoreBlock, CoreEnd};
-use pb_part::{Held, end_area, takers_in};
+use pb_core_language::{CoreBlock, CoreEnd};
+use pb_part_areas::{Area, add_all, common, one, without};
+use pb_part_takers::{Held, end_area, takers_in};
 use pb_text::NoMemory;
 use std::alloc::Global;
 

@@ -1,10 +1,10 @@
 ghost use Rattle.std.specs.Prelude.{◌≡◌, true, IfOk, List, map};
 ghost use Rattle.pb_affine.specs.declared.range.NRange.{NRange};
-ghost use Rattle.pb_area.specs.declared.area.Area.{Area};
-ghost use Rattle.pb_part.specs.declared.held.Held.{Held};
+ghost use Rattle.pb_part_areas.specs.declared.area.Area.{Area};
+ghost use Rattle.pb_part_takers.specs.declared.held.Held.{Held};
 ghost use Rattle.pb_choice.specs.Plainly.{is_plain};
-ghost use Rattle.pb_core.specs.Plain.{plain_block, plain_stmt, branches_of};
-ghost use Rattle.pb_flat.specs.GoesOn.{is_again};
+ghost use Rattle.pb_core_language.specs.Plain.{plain_block, plain_stmt, branches_of};
+ghost use Rattle.pb_core_flat.specs.GoesOn.{is_again};
 ghost use Rattle.pb_choice.specs.Found.{mark_of};
 ghost use Rattle.pb_choice.specs.Walks.{FirstIn, FirstAt, FirstAmong, FirstWithin};
 
@@ -14,10 +14,10 @@ use crate::lone::{body_takers, lone_kept};
 use crate::past::Past;
 use crate::setting::Setting;
 use crate::told::{copy_of, told_of};
-use pb_area::Area;
-use pb_core::{CoreBlock, CoreKind, CoreStmt};
-use pb_first::firsts_in;
-use pb_part::{Held, with_loop};
+use pb_core_language::{CoreBlock, CoreKind, CoreStmt};
+use pb_part_areas::Area;
+use pb_part_firsts::firsts_in;
+use pb_part_takers::{Held, with_loop};
 use pb_text::NoMemory;
 use std::alloc::Global;
 

@@ -1,14 +1,14 @@
 -- From what is made of a file's bytes, or the verdict on them, to the reply.
 use Rattle.std.proofs.Common.{◌≢◌, ℕ, ◌≤◌, inr, List, length, Option, None, Some, refl, subst}
 use Rattle.pb_io.specs.Files.{File, IsContent}
-use Rattle.pb_core.specs.Plain.{Protocol}
+use Rattle.pb_core_language.specs.Plain.{Protocol}
 use Rattle.pb_lex.specs.declared.error.LexError.TheVariants as E
-use Rattle.pb_lines.specs.Lines.{line_of, status_of}
-use Rattle.pb_lines.specs.declared.refusal.Refusal.{Refusal}
-use Rattle.pb_lines.specs.declared.refusal.Refusal.TheVariants as refusal
-use Rattle.pb_lines.specs.declared.status.Status.{Status}
-use Rattle.pb_lines.specs.declared.status.Status.TheVariants as S
-use Rattle.pb_lines.specs.declared.status.Status.TheVariants.{Done}
+use Rattle.pb_cli_status.specs.Lines.{line_of, status_of}
+use Rattle.pb_cli_status.specs.declared.refusal.Refusal.{Refusal}
+use Rattle.pb_cli_status.specs.declared.refusal.Refusal.TheVariants as refusal
+use Rattle.pb_cli_status.specs.declared.status.Status.{Status}
+use Rattle.pb_cli_status.specs.declared.status.Status.TheVariants as S
+use Rattle.pb_cli_status.specs.declared.status.Status.TheVariants.{Done}
 use Rattle.pb_ctree.specs.declared.tree.CTree.{CTree}
 use Rattle.pb_ctree.specs.Trees.{IsTree}
 use Rattle.pb_compile.specs.Compiled.{IsCompiled}

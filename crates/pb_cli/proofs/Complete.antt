@@ -2,40 +2,40 @@
 use Rattle.std.proofs.Common.{◌≡◌, ◌≢◌, ℕ, ◌<◌, ◌≤◌, pos, inl, inr, List, [], ◌∷◌, map, length, Option, None, Some, refl, sym, ap, subst, ◌∙◌, arith}
 use Rattle.std.specs.Prelude.{Contains, ◌^◌}
 use Rattle.pb_io.specs.Files.{File, content_of}
-use Rattle.pb_core.specs.Plain.{Protocol}
+use Rattle.pb_core_language.specs.Plain.{Protocol}
 use Rattle.pb_local.specs.Tree.{Program, program_of}
 use Rattle.pb_local.specs.Ranks.{total}
 use Rattle.pb_ctree.specs.declared.tree.CTree.{CTree}
-use Rattle.pb_words.specs.Request.{Request, check, gen, project, sim, replay, run}
-use Rattle.pb_words.specs.declared.options.Options.{Options}
-use Rattle.pb_words.specs.declared.options.Shown.{Shown}
-use Rattle.pb_words.specs.declared.options.Shown.TheVariants.{Log}
-use Rattle.pb_words.specs.declared.options.Modes.{Modes}
-use Rattle.pb_lines.specs.Lines as L
-use Rattle.pb_lines.specs.declared.refusal.Refusal.{Refusal}
-use Rattle.pb_lines.specs.declared.refusal.Refusal.TheVariants as refusal
-use Rattle.pb_lines.specs.declared.status.Status.{Status}
-use Rattle.pb_lines.specs.declared.status.Status.TheVariants as S
+use Rattle.pb_cli_words.specs.Request.{Request, check, gen, project, sim, replay, run}
+use Rattle.pb_cli_words.specs.declared.options.Options.{Options}
+use Rattle.pb_cli_words.specs.declared.options.Shown.{Shown}
+use Rattle.pb_cli_words.specs.declared.options.Shown.TheVariants.{Log}
+use Rattle.pb_cli_words.specs.declared.options.Modes.{Modes}
+use Rattle.pb_cli_status.specs.Lines as L
+use Rattle.pb_cli_status.specs.declared.refusal.Refusal.{Refusal}
+use Rattle.pb_cli_status.specs.declared.refusal.Refusal.TheVariants as refusal
+use Rattle.pb_cli_status.specs.declared.status.Status.{Status}
+use Rattle.pb_cli_status.specs.declared.status.Status.TheVariants as S
 use Rattle.pb_compile.specs.Verdict.{IsAcceptedAs, IsVerdict}
 use Rattle.pb_compile.specs.declared.verdict.Verdict.{Verdict}
 use Rattle.pb_sched.specs.Outcomes.{IsSchedule}
 use Rattle.pb_sched.specs.declared.schedule.Turn.{Turn}
 use Rattle.pb_sim.specs.Made.{IsNumber}
-use Rattle.pb_play.specs.Plans.{Source, drawn, given, pair_of}
-use Rattle.pb_play.specs.declared.ending.Ending.TheVariants as E
-use Rattle.pb_simulate.specs.Commands as T
-use Rattle.pb_simulate.specs.Sources.{IsTextOf, IsNoText, IsNoSchedule}
-use Rattle.pb_simulate.specs.Replies as R
-use Rattle.pb_simulate.specs.Replies.{Starts}
+use Rattle.pb_sim_play.specs.Plans.{Source, drawn, given, pair_of}
+use Rattle.pb_sim_play.specs.declared.ending.Ending.TheVariants as E
+use Rattle.pb_cli_simulate.specs.Commands as T
+use Rattle.pb_cli_simulate.specs.Sources.{IsTextOf, IsNoText, IsNoSchedule}
+use Rattle.pb_cli_simulate.specs.Replies as R
+use Rattle.pb_cli_simulate.specs.Replies.{Starts}
 use Rattle.pb_cli.specs.declared.answer.Wanted.TheVariants as W
 use Rattle.pb_cli.specs.Reply.{IsFileReply, IsUsage, Makes, Says, SaysOf, most_bytes, refusal_of}
 use Rattle.pb_cli.specs.Run.{MayRun, IsRunReply, SaysRun, SaysRunReply}
 use Rattle.pb_cli.specs.Program.{SaysReply}
 use Rattle.pb_cli.specs.Complete.{Comes, Completes, IsComplete}
-use Rattle.pb_exact.proofs.Files.{accepted_has_no_fault, one_meaning}
-use Rattle.pb_exact.proofs.Texts.{text_has_no_fault, one_text_tree}
-use Rattle.pb_exact.proofs.Schedules.{schedule_has_no_fault}
-use Rattle.pb_exact.proofs.Draws.{drawn_has_a_step}
+use Rattle.pb_cli_laws.proofs.Files.{accepted_has_no_fault, one_meaning}
+use Rattle.pb_cli_laws.proofs.Texts.{text_has_no_fault, one_text_tree}
+use Rattle.pb_cli_laws.proofs.Schedules.{schedule_has_no_fault}
+use Rattle.pb_cli_laws.proofs.Draws.{drawn_has_a_step}
 
 -- ---- statuses
 

@@ -1,12 +1,12 @@
 -- A status and a text that belong together, and were said, are a reply.
 use Rattle.std.proofs.Common.{ℕ, List, Option, Some, None, Result, Ok, Err, refl, inl}
 use Rattle.pb_io.specs.Files.{File}
-use Rattle.pb_words.specs.Request.{Request, check, gen, project, sim, replay, run}
-use Rattle.pb_lines.specs.Lines.{line_of, status_of}
-use Rattle.pb_lines.specs.declared.refusal.Refusal.{Refusal}
-use Rattle.pb_lines.specs.declared.refusal.Refusal.TheVariants as refusal
-use Rattle.pb_lines.specs.declared.status.Status.{Status}
-use Rattle.pb_lines.specs.declared.status.Status.TheVariants.{Done, NoMemory}
+use Rattle.pb_cli_words.specs.Request.{Request, check, gen, project, sim, replay, run}
+use Rattle.pb_cli_status.specs.Lines.{line_of, status_of}
+use Rattle.pb_cli_status.specs.declared.refusal.Refusal.{Refusal}
+use Rattle.pb_cli_status.specs.declared.refusal.Refusal.TheVariants as refusal
+use Rattle.pb_cli_status.specs.declared.status.Status.{Status}
+use Rattle.pb_cli_status.specs.declared.status.Status.TheVariants.{Done, NoMemory}
 use Rattle.pb_cli.specs.Program.{SaysReply}
 use Rattle.pb_cli.specs.Reply.{Answers, Says, SaysOf, bytes_of}
 use Rattle.pb_cli.specs.declared.answer.Answer.{Answer}

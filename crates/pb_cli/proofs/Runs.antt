@@ -8,28 +8,28 @@ use Rattle.pb_world.specs.Family.{Family}
 use Rattle.pb_world.specs.Theorem.{AllRanks, IsWhole}
 use Rattle.pb_world.specs.World as W
 use Rattle.pb_world.specs.World.{World, Reached}
-use Rattle.pb_core.specs.Plain.{Protocol}
-use Rattle.pb_core.specs.Ranks.{total}
-use Rattle.pb_core.specs.Verdict as V
-use Rattle.pb_core.specs.Verdict.{IsIn}
+use Rattle.pb_core_language.specs.Plain.{Protocol}
+use Rattle.pb_core_language.specs.Ranks.{total}
+use Rattle.pb_core_language.specs.Verdict as V
+use Rattle.pb_core_language.specs.Verdict.{IsIn}
 use Rattle.pb_local.specs.Family.{family}
 use Rattle.pb_local.specs.Tree.{program_of}
 use Rattle.pb_local.specs.WellMade as L
 use Rattle.pb_local.specs.WellMade.{IsInRange}
 use Rattle.pb_ctree.specs.declared.tree.CTree.{CTree}
 use Rattle.pb_shape.specs.Theorem.{sequence_of}
-use Rattle.pb_follow.proofs.Starts.{total_same}
+use Rattle.pb_shape_follow.proofs.Starts.{total_same}
 use Rattle.pb_compile.specs.Compiled.{IsCompiled}
-use Rattle.pb_event.specs.States.{program}
-use Rattle.pb_event.specs.Worlds.{world_of}
-use Rattle.pb_words.specs.declared.options.Modes.{Modes}
-use Rattle.pb_words.specs.declared.options.Options.{Options}
-use Rattle.pb_words.specs.declared.options.Shown.{Shown}
-use Rattle.pb_lines.specs.Lines.{line_of, status_of}
-use Rattle.pb_lines.specs.declared.refusal.Refusal.{Refusal}
-use Rattle.pb_lines.specs.declared.refusal.Refusal.TheVariants as refusal
-use Rattle.pb_lines.specs.declared.status.Status.{Status}
-use Rattle.pb_lines.specs.declared.status.Status.TheVariants as S
+use Rattle.pb_sim_world.specs.States.{program}
+use Rattle.pb_sim_world.specs.Worlds.{world_of}
+use Rattle.pb_cli_words.specs.declared.options.Modes.{Modes}
+use Rattle.pb_cli_words.specs.declared.options.Options.{Options}
+use Rattle.pb_cli_words.specs.declared.options.Shown.{Shown}
+use Rattle.pb_cli_status.specs.Lines.{line_of, status_of}
+use Rattle.pb_cli_status.specs.declared.refusal.Refusal.{Refusal}
+use Rattle.pb_cli_status.specs.declared.refusal.Refusal.TheVariants as refusal
+use Rattle.pb_cli_status.specs.declared.status.Status.{Status}
+use Rattle.pb_cli_status.specs.declared.status.Status.TheVariants as S
 use Rattle.pb_sim.specs.declared.seen.Seen.{Seen}
 use Rattle.pb_sim.specs.declared.standing.Cause.{Cause}
 use Rattle.pb_sim.specs.declared.standing.Standing.TheVariants as T
@@ -38,12 +38,12 @@ use Rattle.pb_sim.specs.Made.{IsNumber, HasStep}
 use Rattle.pb_sim.specs.Scheduled as R
 use Rattle.pb_sim.specs.Scheduled.{Turn, ScheduledRun}
 use Rattle.pb_sim.specs.Standing.{IsGoing}
-use Rattle.pb_play.specs.Plans.{drawn, May}
-use Rattle.pb_play.specs.Plays.{IsPlay}
-use Rattle.pb_play.specs.Endings.{Ran, Stands, IsUnready}
-use Rattle.pb_simulate.specs.Replies as A
-use Rattle.pb_simulate.specs.Replies.{Starts}
-use Rattle.pb_exact.proofs.Draws.{drawn_has_a_step}
+use Rattle.pb_sim_play.specs.Plans.{drawn, May}
+use Rattle.pb_sim_play.specs.Plays.{IsPlay}
+use Rattle.pb_sim_play.specs.Endings.{Ran, Stands, IsUnready}
+use Rattle.pb_cli_simulate.specs.Replies as A
+use Rattle.pb_cli_simulate.specs.Replies.{Starts}
+use Rattle.pb_cli_laws.proofs.Draws.{drawn_has_a_step}
 use Rattle.pb_cli.specs.Reply.{Says}
 use Rattle.pb_cli.specs.Run.{MayRun, ranks_of, Begins, IsRunReply, SaysRunReply, IsFileRefusal, IsTreeOf, SaysRun}
 

@@ -2,17 +2,17 @@
 -- a fault rose. A simulation may be stuck, make all its events, or pass the limit on words in flight.
 use Rattle.std.specs.Prelude.{◌≢◌, ℕ, ◌≤◌, List, [], ◌∷◌, length, Contains, Option, Some, None}
 use Rattle.pb_io.specs.Files.{File}
-use Rattle.pb_core.specs.Plain.{Protocol}
+use Rattle.pb_core_language.specs.Plain.{Protocol}
 use Rattle.pb_ctree.specs.declared.tree.CTree.{CTree}
-use Rattle.pb_words.specs.Request.{Request, check, gen, project, sim, replay, run}
-use Rattle.pb_lines.specs.declared.status.Status.{Status}
-use Rattle.pb_lines.specs.declared.status.Status.TheVariants as S
+use Rattle.pb_cli_words.specs.Request.{Request, check, gen, project, sim, replay, run}
+use Rattle.pb_cli_status.specs.declared.status.Status.{Status}
+use Rattle.pb_cli_status.specs.declared.status.Status.TheVariants as S
 use Rattle.pb_compile.specs.Verdict.{IsAcceptedAs}
 use Rattle.pb_sched.specs.Outcomes.{IsSchedule}
 use Rattle.pb_sched.specs.declared.schedule.Turn.{Turn}
-use Rattle.pb_simulate.specs.Commands as T
-use Rattle.pb_simulate.specs.Sources.{IsTextOf}
-use Rattle.pb_simulate.specs.Replies.{Starts}
+use Rattle.pb_cli_simulate.specs.Commands as T
+use Rattle.pb_cli_simulate.specs.Sources.{IsTextOf}
+use Rattle.pb_cli_simulate.specs.Replies.{Starts}
 use Rattle.pb_cli.specs.Reply.{OnFile, most_bytes}
 use Rattle.pb_cli.specs.Run.{MayRun}
 

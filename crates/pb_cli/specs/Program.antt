@@ -1,9 +1,9 @@
 -- What the program answers to the words after its name.
 use Rattle.std.specs.Prelude.{ℕ, List, Option, Some, None}
 use Rattle.pb_io.specs.Files.{File}
-use Rattle.pb_words.specs.Request.{Request, check, gen, project, sim, replay, run}
-use Rattle.pb_simulate.specs.Commands.{SaysSim, SaysReplay}
-use Rattle.pb_lines.specs.declared.status.Status.{Status}
+use Rattle.pb_cli_words.specs.Request.{Request, check, gen, project, sim, replay, run}
+use Rattle.pb_cli_simulate.specs.Commands.{SaysSim, SaysReplay}
+use Rattle.pb_cli_status.specs.declared.status.Status.{Status}
 use Rattle.pb_cli.specs.declared.answer.Wanted.TheVariants as W
 use Rattle.pb_cli.specs.Reply.{IsFileReply, IsUsage, Makes, SaysOf}
 use Rattle.pb_cli.specs.Run.{SaysRun}

@@ -6,12 +6,12 @@ use Rattle.pb_lex.specs.declared.error.LexError.{LexError}
 use Rattle.pb_lex.specs.declared.error.LexError.TheVariants as E
 use Rattle.pb_io.specs.Files.{File, content_of, IsSureOf}
 use Rattle.pb_io.specs.Sinks.{AppendsFront}
-use Rattle.pb_words.specs.Request.{Request, check, gen, project, sim, replay, run}
-use Rattle.pb_lines.specs.Lines.{accepted_line, line_of, status_of}
-use Rattle.pb_lines.specs.declared.refusal.Refusal.{Refusal}
-use Rattle.pb_lines.specs.declared.refusal.Refusal.TheVariants as refusal
-use Rattle.pb_lines.specs.declared.status.Status.{Status}
-use Rattle.pb_lines.specs.declared.status.Status.TheVariants as S
+use Rattle.pb_cli_words.specs.Request.{Request, check, gen, project, sim, replay, run}
+use Rattle.pb_cli_status.specs.Lines.{accepted_line, line_of, status_of}
+use Rattle.pb_cli_status.specs.declared.refusal.Refusal.{Refusal}
+use Rattle.pb_cli_status.specs.declared.refusal.Refusal.TheVariants as refusal
+use Rattle.pb_cli_status.specs.declared.status.Status.{Status}
+use Rattle.pb_cli_status.specs.declared.status.Status.TheVariants as S
 use Rattle.pb_compile.specs.Compiled.{IsGenerated, IsLaidOut}
 use Rattle.pb_compile.specs.Verdict.{IsKept, IsVerdict, OnTree}
 use Rattle.pb_compile.specs.declared.verdict.Verdict.{Verdict}

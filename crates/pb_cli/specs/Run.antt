@@ -6,28 +6,28 @@ use Rattle.pb_world.specs.Actions.{Action, answers_of, Covers}
 use Rattle.pb_world.specs.Counted.{Counted}
 use Rattle.pb_world.specs.Family.{Family}
 use Rattle.pb_world.specs.Theorem.{IsWhole}
-use Rattle.pb_core.specs.Plain.{Protocol}
-use Rattle.pb_core.specs.Ranks.{total}
-use Rattle.pb_core.specs.Verdict.{IsIn}
+use Rattle.pb_core_language.specs.Plain.{Protocol}
+use Rattle.pb_core_language.specs.Ranks.{total}
+use Rattle.pb_core_language.specs.Verdict.{IsIn}
 use Rattle.pb_local.specs.Family.{family}
 use Rattle.pb_local.specs.Machine as M
 use Rattle.pb_local.specs.Tree.{program_of}
 use Rattle.pb_ctree.specs.declared.tree.CTree.{CTree}
 use Rattle.pb_shape.specs.Theorem.{sequence_of}
 use Rattle.pb_compile.specs.Compiled.{IsCompiled}
-use Rattle.pb_event.specs.Worlds.{world_of}
-use Rattle.pb_words.specs.declared.options.Options.{Options}
-use Rattle.pb_words.specs.declared.options.Shown.{Shown}
-use Rattle.pb_lines.specs.Lines.{line_of}
-use Rattle.pb_lines.specs.declared.refusal.Refusal.TheVariants as refusal
-use Rattle.pb_lines.specs.declared.status.Status.{Status}
-use Rattle.pb_lines.specs.declared.status.Status.TheVariants as S
+use Rattle.pb_sim_world.specs.Worlds.{world_of}
+use Rattle.pb_cli_words.specs.declared.options.Options.{Options}
+use Rattle.pb_cli_words.specs.declared.options.Shown.{Shown}
+use Rattle.pb_cli_status.specs.Lines.{line_of}
+use Rattle.pb_cli_status.specs.declared.refusal.Refusal.TheVariants as refusal
+use Rattle.pb_cli_status.specs.declared.status.Status.{Status}
+use Rattle.pb_cli_status.specs.declared.status.Status.TheVariants as S
 use Rattle.pb_sim.specs.declared.seen.Seen.{Seen}
 use Rattle.pb_sim.specs.Scheduled.{Turn}
 use Rattle.pb_sim.specs.Standing.{IsGoing}
-use Rattle.pb_play.specs.Plans.{Source, drawn}
-use Rattle.pb_play.specs.Endings.{Ran, IsFull, text_of, part_of}
-use Rattle.pb_simulate.specs.Endings.{ended_line}
+use Rattle.pb_sim_play.specs.Plans.{Source, drawn}
+use Rattle.pb_sim_play.specs.Endings.{Ran, IsFull, text_of, part_of}
+use Rattle.pb_cli_simulate.specs.Endings.{ended_line}
 use Rattle.pb_cli.specs.Reply.{IsFileReply, SaysOf, most_bytes}
 
 -- the protocol can be simulated for this N: a number of its range, with at most 1,024 ranks

@@ -2,7 +2,7 @@ ghost use Rattle.std.specs.Prelude.{◌≡◌, Some, map};
 ghost use Rattle.std.specs.String.{string_bytes};
 ghost use Rattle.pb_io.specs.Faults.{Rose};
 ghost use Rattle.pb_io.specs.Files.{IsSureOf};
-ghost use Rattle.pb_words.specs.Request.{AsksForFew, request, request_of};
+ghost use Rattle.pb_cli_words.specs.Request.{AsksForFew, request, request_of};
 ghost use Rattle.pb_cli.specs.Complete.{IsComplete};
 ghost use Rattle.pb_cli.specs.Program.{SaysReply};
 ghost use Rattle.pb_cli.specs.Reply.{IsFileReply, IsSureOfForm, Makes, SaysOf};
@@ -11,10 +11,10 @@ use crate::answer::Wanted;
 use crate::file::file_answer;
 use crate::running::run;
 use crate::saying::{refuse, say};
+use pb_cli_simulate::{replay, sim};
+use pb_cli_status::{Refusal, Status};
+use pb_cli_words::{Command, NoMemory, command_in};
 use pb_io::{Folder, Sink};
-use pb_lines::{Refusal, Status};
-use pb_simulate::{replay, sim};
-use pb_words::{Command, NoMemory, command_in};
 use std::alloc::Global;
 
 /// Does what the words after the program's name say, and writes the answer or one status line.

@@ -3,16 +3,16 @@
 ghost use Rattle.std.specs.Prelude.{◌≤◌, length, IfOk, IfErr, IsErrOf};
 ghost use Rattle.pb_io.specs.Faults.{Rose};
 ghost use Rattle.pb_io.specs.Files.{IsContent, IsSureOf};
-ghost use Rattle.pb_lines.specs.Lines.{line_of, status_of};
+ghost use Rattle.pb_cli_status.specs.Lines.{line_of, status_of};
 ghost use Rattle.pb_compile.specs.Verdict.{IsVerdict};
 ghost use Rattle.pb_cli.specs.Reply.{Answers, IsFileReply, Makes, bytes_of, most_bytes};
 ghost use Rattle.pb_cli.specs.Run.{IsFileRefusal};
 
 use crate::answer::{Answer, Wanted};
 use crate::refusing::refusal_of;
+use pb_cli_status::Refusal;
 use pb_compile::{Verdict, accept, generate, lay_out};
 use pb_io::{Folder, InFault, read_all};
-use pb_lines::Refusal;
 use std::alloc::Global;
 
 /// The greatest number of bytes of a protocol file.

@@ -14,8 +14,8 @@ mod saying;
 mod tests;
 
 use call::pabble;
+use pb_cli_status::Refusal;
 use pb_io::{HostFolder, HostSink};
-use pb_lines::Refusal;
 use pb_text::NoMemory;
 use rand_core::Rng;
 use rand_pcg::Pcg32;

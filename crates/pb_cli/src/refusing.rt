@@ -3,8 +3,8 @@
 ghost use Rattle.std.specs.Prelude.{◌≡◌};
 ghost use Rattle.pb_cli.specs.Reply.{error_refusal, refusal_of, seat};
 
+use pb_cli_status::Refusal;
 use pb_compile::{LexError, Verdict};
-use pb_lines::Refusal;
 use pb_text::{Name, Quantity};
 
 /// The refusal that tells a verdict.

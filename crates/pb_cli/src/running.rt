@@ -4,17 +4,17 @@ ghost use Rattle.std.specs.Prelude.{◌≡◌, ◌≤◌, IfOk, IfErr, IsErrOf};
 ghost use Rattle.pb_io.specs.Faults.{Rose};
 ghost use Rattle.pb_io.specs.Files.{IsSureOf};
 ghost use Rattle.pb_ctree.specs.Trees.{IsTree};
-ghost use Rattle.pb_lines.specs.Lines.{line_of, status_of};
+ghost use Rattle.pb_cli_status.specs.Lines.{line_of, status_of};
 ghost use Rattle.pb_cli.specs.Run.{IsFileRefusal, IsTreeOf, SaysRun};
 
 use crate::file::bytes_in;
 use crate::refusing::refusal_of;
 use crate::saying::refuse;
+use pb_cli_simulate::simulate_tree;
+use pb_cli_status::{Refusal, Status};
+use pb_cli_words::Options;
 use pb_compile::{CTree, compile};
 use pb_io::{Folder, Sink};
-use pb_lines::{Refusal, Status};
-use pb_simulate::simulate_tree;
-use pb_words::Options;
 use std::alloc::Global;
 
 /// The C tree of the protocol in a file, or why there is none.

@@ -2,12 +2,12 @@
 
 ghost use Rattle.std.specs.Prelude.{◌≡◌, IsErrOf};
 ghost use Rattle.pb_io.specs.Faults.{Rose};
-ghost use Rattle.pb_lines.specs.Lines.{line_of, status_of};
+ghost use Rattle.pb_cli_status.specs.Lines.{line_of, status_of};
 ghost use Rattle.pb_cli.specs.Reply.{Answers, Says};
 
 use crate::answer::Answer;
+use pb_cli_status::{Refusal, Status};
 use pb_io::{OutFault, Sink, write_all};
-use pb_lines::{Refusal, Status};
 
 /// Writes an answer, or the status line of a refusal, and tells the status.
 pub fn say<O: Sink>(out: &mut O, answer: Result<Answer, Refusal>) -> Status

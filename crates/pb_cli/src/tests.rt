@@ -2,8 +2,8 @@ ghost use Rattle.std.specs.Prelude.{◌≡◌};
 
 use crate::call::pabble;
 use crate::word;
+use pb_cli_status::Status;
 use pb_io::{MemFile, MemFolder, MemSink, SureFolder, SureSink};
-use pb_lines::Status;
 use std::alloc::{AllocError, Global};
 use std::test::Fail;
 

@@ -1,14 +1,14 @@
 -- What an accepted file's meaning keeps.
 use Rattle.std.proofs.Common.{◌≡◌, ℕ, true, List, sym, subst}
-use Rattle.pb_core.specs.Meaning.{meaning}
-use Rattle.pb_core.specs.Plain.{Protocol}
-use Rattle.pb_core.specs.Sound.{is_sound}
-use Rattle.pb_core.specs.Verdict.{KeepsAll}
+use Rattle.pb_core_language.specs.Meaning.{meaning}
+use Rattle.pb_core_language.specs.Plain.{Protocol}
+use Rattle.pb_core_language.specs.Sound.{is_sound}
+use Rattle.pb_core_language.specs.Verdict.{KeepsAll}
 use Rattle.pb_rules.specs.Verdict.{HasFewCases}
-use Rattle.pb_endpoint.specs.Core.{IsProper}
+use Rattle.pb_core_endpoint.specs.Core.{IsProper}
 use Rattle.pb_shape.specs.Tabled.{IsTabled}
-use Rattle.pb_parsed.proofs.Sound.{parsed_is_sound}
-use Rattle.pb_accepted.specs.Laws.{FileIsProper, FileIsTabled}
+use Rattle.pb_parse_laws.proofs.Sound.{parsed_is_sound}
+use Rattle.pb_compile_laws.specs.Laws.{FileIsProper, FileIsTabled}
 use Rattle.pb_compile.specs.Verdict.{IsAcceptedAs}
 
 module _ (bytes : List ℕ) (p : Protocol) (is : IsAcceptedAs bytes p) where

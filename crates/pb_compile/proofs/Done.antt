@@ -1,14 +1,14 @@
 -- A tree of the projection of an accepted file does the protocol.
 use Rattle.std.proofs.Common.{◌≡◌, ◌≤◌, ℕ, ◌+◌, ◌*◌, true, List, refl, sym, subst, arith}
-use Rattle.pb_core.specs.Meaning.{meaning}
-use Rattle.pb_core.specs.Plain.{Protocol}
-use Rattle.pb_core.specs.Rules.{breaches}
+use Rattle.pb_core_language.specs.Meaning.{meaning}
+use Rattle.pb_core_language.specs.Plain.{Protocol}
+use Rattle.pb_core_language.specs.Rules.{breaches}
 use Rattle.pb_local.specs.Tree.{program_of, size_all}
 use Rattle.pb_ctree.specs.declared.tree.CTree.{CTree}
 use Rattle.pb_shape.specs.Sizes.{room_all, braces_all, depth_all}
-use Rattle.pb_endpoint.proofs.FileDone.{no_breach}
-use Rattle.pb_accepted.specs.Laws.{FileIsProper, FileIsTabled, FileIsSmall}
-use Rattle.pb_ranks.specs.Ranks.{TextRanks}
+use Rattle.pb_core_endpoint.proofs.FileDone.{no_breach}
+use Rattle.pb_compile_laws.specs.Laws.{FileIsProper, FileIsTabled, FileIsSmall}
+use Rattle.pb_shape_ranks.specs.Ranks.{TextRanks}
 use Rattle.pb_compile.specs.Verdict.{IsAcceptedAs}
 use Rattle.pb_compile.specs.Compiled.{IsProjected, IsSmall, DoesProtocol, IsCompiled}
 use Rattle.pb_compile.proofs.Accepted.{of_file, sound_of, keeps_of, proper_of}

@@ -8,24 +8,24 @@ use Rattle.pb_syntax.specs.Tree.{PlainFile}
 use Rattle.pb_parse.specs.Parsed.{IsParsedText, IsTextFault}
 use Rattle.pb_parse.specs.declared.fault.ParseFault.{ParseFault}
 use Rattle.pb_parse.specs.declared.fault.ParseFault.TheVariants as P
-use Rattle.pb_core.specs.declared.fault.LowerFault.{LowerFault}
-use Rattle.pb_core.specs.declared.fault.LowerFault.TheVariants as F
-use Rattle.pb_core.specs.declared.protocol.CoreRole.{CoreRole}
-use Rattle.pb_core.specs.FileRules.{broken}
-use Rattle.pb_core.specs.Meaning.{meaning}
-use Rattle.pb_core.specs.Plain.{Protocol}
-use Rattle.pb_core.specs.Sound.{is_sound}
-use Rattle.pb_core.specs.Verdict.{Broken, KeepsAll}
-use Rattle.pb_file_rules.specs.Lowering as L
-use Rattle.pb_file_rules.specs.Lowering.{IsCountable}
+use Rattle.pb_core_language.specs.declared.fault.LowerFault.{LowerFault}
+use Rattle.pb_core_language.specs.declared.fault.LowerFault.TheVariants as F
+use Rattle.pb_core_language.specs.declared.protocol.CoreRole.{CoreRole}
+use Rattle.pb_core_language.specs.FileRules.{broken}
+use Rattle.pb_core_language.specs.Meaning.{meaning}
+use Rattle.pb_core_language.specs.Plain.{Protocol}
+use Rattle.pb_core_language.specs.Sound.{is_sound}
+use Rattle.pb_core_language.specs.Verdict.{Broken, KeepsAll}
+use Rattle.pb_core_file_rules.specs.Lowering as L
+use Rattle.pb_core_file_rules.specs.Lowering.{IsCountable}
 use Rattle.pb_rules.specs.Verdict as R
 use Rattle.pb_rules.specs.Verdict.{seat_if}
 use Rattle.pb_rules.specs.declared.fault.At.{At}
 use Rattle.pb_rules.specs.declared.fault.RuleFault.{RuleFault}
 use Rattle.pb_rules.specs.declared.fault.RuleFault.TheVariants as G
 use Rattle.pb_choice.specs.Verdict.{IsFlowFault}
-use Rattle.pb_parsed.proofs.Countable.{parsed_is_countable}
-use Rattle.pb_parsed.proofs.Sound.{parsed_is_sound}
+use Rattle.pb_parse_laws.proofs.Countable.{parsed_is_countable}
+use Rattle.pb_parse_laws.proofs.Sound.{parsed_is_sound}
 use Rattle.pb_compile.specs.Verdict.{IsKept, IsTold, IsVerdict, IsVerdictOfCore, IsVerdictOfTree, of_parse, of_lower, of_rule, role_of, index_of, role_at, index_at}
 use Rattle.pb_compile.specs.declared.verdict.Verdict.{Verdict}
 use Rattle.pb_compile.specs.declared.verdict.Verdict.TheVariants as V

@@ -1,8 +1,8 @@
 -- What the compiler makes of an accepted file.
 use Rattle.std.specs.Prelude.{◌≡◌, ◌≤◌, ℕ, ℤ, List, []}
-use Rattle.pb_core.specs.Plain.{Protocol}
-use Rattle.pb_core.specs.Ranks.{total}
-use Rattle.pb_core.specs.Verdict.{IsIn}
+use Rattle.pb_core_language.specs.Plain.{Protocol}
+use Rattle.pb_core_language.specs.Ranks.{total}
+use Rattle.pb_core_language.specs.Verdict.{IsIn}
 use Rattle.pb_local.specs.Layout.{layout}
 use Rattle.pb_local.specs.Tree.{program_of, size_all}
 use Rattle.pb_ctree.specs.declared.tree.CTree.{CTree}

@@ -7,18 +7,18 @@ use Rattle.pb_syntax.specs.Tree.{PlainFile}
 use Rattle.pb_parse.specs.Parsed.{IsTextFault}
 use Rattle.pb_parse.specs.declared.fault.ParseFault.{ParseFault}
 use Rattle.pb_parse.specs.declared.fault.ParseFault.TheVariants as P
-use Rattle.pb_parsed.specs.Laws.{IsTreeOf}
+use Rattle.pb_parse_laws.specs.Laws.{IsTreeOf}
 use Rattle.pb_cases.specs.Breakpoints.{HasTooMany}
-use Rattle.pb_core.specs.declared.fault.LowerFault.{LowerFault}
-use Rattle.pb_core.specs.declared.fault.LowerFault.TheVariants as L
-use Rattle.pb_core.specs.declared.protocol.CoreRole.{CoreRole}
-use Rattle.pb_core.specs.Ranks.{Seat}
-use Rattle.pb_core.specs.Cuts.{cuts}
-use Rattle.pb_core.specs.FileRules.{broken}
-use Rattle.pb_core.specs.Meaning.{meaning}
-use Rattle.pb_core.specs.Plain.{Protocol}
-use Rattle.pb_core.specs.Verdict as V
-use Rattle.pb_core.specs.Verdict.{IsFirstBroken, IsRefused, IsRefusedAt, IsAccepted}
+use Rattle.pb_core_language.specs.declared.fault.LowerFault.{LowerFault}
+use Rattle.pb_core_language.specs.declared.fault.LowerFault.TheVariants as L
+use Rattle.pb_core_language.specs.declared.protocol.CoreRole.{CoreRole}
+use Rattle.pb_core_language.specs.Ranks.{Seat}
+use Rattle.pb_core_language.specs.Cuts.{cuts}
+use Rattle.pb_core_language.specs.FileRules.{broken}
+use Rattle.pb_core_language.specs.Meaning.{meaning}
+use Rattle.pb_core_language.specs.Plain.{Protocol}
+use Rattle.pb_core_language.specs.Verdict as V
+use Rattle.pb_core_language.specs.Verdict.{IsFirstBroken, IsRefused, IsRefusedAt, IsAccepted}
 use Rattle.pb_rules.specs.Verdict.{HasFewCases}
 use Rattle.pb_rules.specs.declared.fault.At.{At}
 use Rattle.pb_rules.specs.declared.fault.RuleFault.{RuleFault}

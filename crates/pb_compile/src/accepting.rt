@@ -1,18 +1,18 @@
 ghost use Rattle.std.specs.Prelude.{◌≡◌, ◌≤◌, true, None, OnOk, IfOk, IfErr, length};
 ghost use Rattle.pb_syntax.specs.Plain.{plain_file};
-ghost use Rattle.pb_core.specs.FileRules.{broken};
-ghost use Rattle.pb_core.specs.Meaning.{meaning};
-ghost use Rattle.pb_core.specs.Plain.{plain};
-ghost use Rattle.pb_core.specs.Sound.{is_sound};
-ghost use Rattle.pb_core.specs.Verdict.{KeepsAll};
-ghost use Rattle.pb_file_rules.specs.Lowering.{IsCountable};
+ghost use Rattle.pb_core_language.specs.FileRules.{broken};
+ghost use Rattle.pb_core_language.specs.Meaning.{meaning};
+ghost use Rattle.pb_core_language.specs.Plain.{plain};
+ghost use Rattle.pb_core_language.specs.Sound.{is_sound};
+ghost use Rattle.pb_core_language.specs.Verdict.{KeepsAll};
+ghost use Rattle.pb_core_file_rules.specs.Lowering.{IsCountable};
 ghost use Rattle.pb_rules.specs.Verdict.{KeepsIndex, HasFewCases};
 ghost use Rattle.pb_compile.specs.Verdict.{IsAcceptedAs, IsKept, IsVerdict, IsVerdictOfCore, IsVerdictOfTree, of_parse, of_lower, of_rule, role_at, index_at};
 
 use crate::verdict::Verdict;
 use pb_choice::check_flow;
-use pb_core::{CoreRole, LowerFault};
-use pb_lower::{Core, lower};
+use pb_core::{Core, lower};
+use pb_core_language::{CoreRole, LowerFault};
 use pb_parse::{ParseFault, parse};
 use pb_rules::{At, RuleFault, check_index};
 use pb_syntax::FileTree;

@@ -1,9 +1,9 @@
 ghost use Rattle.std.specs.Prelude.{◌≡◌, ◌≤◌, ◌+◌, ◌*◌, true, IfOk, IfErr, length};
-ghost use Rattle.pb_core.specs.Plain.{plain};
-ghost use Rattle.pb_core.specs.Sound.{is_sound};
-ghost use Rattle.pb_core.specs.Verdict.{KeepsAll};
+ghost use Rattle.pb_core_language.specs.Plain.{plain};
+ghost use Rattle.pb_core_language.specs.Sound.{is_sound};
+ghost use Rattle.pb_core_language.specs.Verdict.{KeepsAll};
 ghost use Rattle.pb_rules.specs.Verdict.{HasFewCases};
-ghost use Rattle.pb_endpoint.specs.Core.{IsProper};
+ghost use Rattle.pb_core_endpoint.specs.Core.{IsProper};
 ghost use Rattle.pb_local.specs.Tree.{program_of, size_all};
 ghost use Rattle.pb_shape.specs.Sizes.{room_all, braces_all, depth_all};
 ghost use Rattle.pb_shape.specs.Tabled.{IsTabled};
@@ -12,12 +12,12 @@ ghost use Rattle.pb_compile.specs.Compiled.{IsCompiled, IsProjected};
 
 use crate::accepting::accept;
 use crate::verdict::Verdict;
-use pb_accepted::{file_is_proper, file_is_small, file_is_tabled};
-use pb_core::Core;
+use pb_compile_laws::{file_is_proper, file_is_small, file_is_tabled};
+use pb_core_language::Core;
 use pb_ctree::{CTree, emit};
 use pb_local::NoMemory;
 use pb_project::project;
-use pb_ranks::text_ranks;
+use pb_shape_ranks::text_ranks;
 use std::alloc::Global;
 
 /// An accepted protocol with its C tree.

@@ -8,7 +8,7 @@ mod verdict;
 
 pub use accepting::accept;
 pub use compiling::{Compiled, compile};
-pub use pb_core::Core;
+pub use pb_core_language::Core;
 pub use pb_ctree::CTree;
 pub use pb_parse::LexError;
 pub use pb_text::{Name, Place, Quantity};

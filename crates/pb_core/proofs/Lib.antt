@@ -1,6 +1,3 @@
-mod Bools
-mod Numbers
-mod LeastSets
-mod RunLaws
-mod Rows
-mod FileRows
+pub mod Built
+pub mod Few
+pub mod Faults

@@ -1,15 +1,17 @@
-//! The core of a protocol: the tree with names as numbers and a bound message as a loop of one message, and what it
-//! means at each N.
+//! Gives a protocol file its meaning: the core, with names as numbers and a bound message as a loop of one message; or
+//! the first of the rules 1 to 5 that it breaks.
 #![tactic(auto)]
 
-mod fault;
-mod laws;
-mod protocol;
-mod tree;
+mod assemble;
+mod build;
+mod ends;
+mod loops;
+mod lowering;
+mod tables;
 
-pub use fault::LowerFault;
-pub use laws::{ranks_are_numbered, receives_match, runs_extend, takers_are_least};
-pub use pb_affine::{Base, Lin, NRange};
-pub use pb_syntax::{CoreKernel, CoreLabel, KernelKind, Name, Op, Payload, Place};
-pub use protocol::{Core, CoreRole};
-pub use tree::{CoreBlock, CoreEnd, CoreKind, CoreStmt};
+pub use lowering::lower;
+pub use pb_core_language::{
+    Base, Core, CoreBlock, CoreEnd, CoreKernel, CoreKind, CoreLabel, CoreRole, CoreStmt,
+    KernelKind, Lin, LowerFault, NRange, Name, Op, Payload, Place,
+};
+pub use pb_syntax::FileTree;

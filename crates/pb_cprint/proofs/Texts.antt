@@ -13,7 +13,7 @@ use Rattle.pb_ctree.specs.Rules.{is_offset, is_guard, are_guards, is_peer, is_la
 use Rattle.pb_ctree.specs.Small.{outgoing, incoming, payload_of}
 use Rattle.pb_ctree.specs.Spelling.{if_wordy, relay_lines, probe_lines, next_tests, test_lines, abort_lines, isnt_there, told_lines, branch_open, spelled, spelled_all, spelled_other, spelled_parts}
 use Rattle.pb_ctree.specs.Texts.{text_of}
-use Rattle.pb_cline.specs.Printed.{bytes}
+use Rattle.pb_cprint_lines.specs.Printed.{bytes}
 use Rattle.pb_cprint.specs.Written.{wordy, relay_written, last_relay, first_relay, first_test, test_written, abort_written, choice_open, relays_written, probes_written, tests_written, told_open, tests_all, told_end, told_some, told_written, choice_written, branch_item, is_last, send_written, recv_written, broadcast_written, reduce_written, allreduce_written, written, written_all, written_other, written_parts}
 
 pub text_append : (p : Program) (xs ys : List Line) → text_of p (xs ++ ys) ≡ text_of p xs ++ text_of p ys

@@ -9,7 +9,7 @@ use Rattle.pb_local.specs.Tree.{Code, when, for_each, own, loop, again, choice, 
 use Rattle.pb_ctree.specs.Lines.{Item, close, else_open, if_open, else_if_open, for_open, own_is, loop_open, goto, makes, root_makes, takes, root_takes, mpi_send, mpi_recv, mpi_barrier, mpi_bcast, mpi_reduce, mpi_allreduce, calls, chooses, probe, test_open, else_test_open, picks, aborts, pick_open, else_pick_open}
 use Rattle.pb_ctree.specs.Rules.{is_wordy}
 use Rattle.pb_ctree.specs.Small.{outgoing, incoming}
-use Rattle.pb_cline.specs.Printed.{bytes}
+use Rattle.pb_cprint_lines.specs.Printed.{bytes}
 
 abbrev pub wordy : Program → ℕ → List ℕ → List ℕ
 wordy p label text = if is_wordy p label then text else []

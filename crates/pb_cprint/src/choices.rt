@@ -4,7 +4,7 @@ ghost use Rattle.std.specs.Prelude.{◌≡◌, ◌++◌, ◌+◌, ◌<◌, ◌^�
 ghost use Rattle.pb_local.specs.Tree.{program_of};
 ghost use Rattle.pb_cprint.specs.Written.{relay_written, last_relay, first_relay, relays_written, probes_written, first_test, test_written, tests_written, tests_all, abort_written, told_open, told_end, told_some, told_written, choice_open, choice_written};
 
-use pb_cline::{
+use pb_cprint_lines::{
     push_chooses, push_else_if, push_else_test_line, push_if, push_picks, push_probe,
     push_test_line, push_word,
 };

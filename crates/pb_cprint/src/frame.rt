@@ -7,7 +7,7 @@ ghost use Rattle.pb_ctree.specs.Small.{sum_text};
 ghost use Rattle.pb_ctree.specs.Trees.{sum_of};
 ghost use Rattle.pb_cprint.specs.Framed.{protocol_line, range_line, role_line, label_line, place_head, place_line, make_line, take_line, kernel_line, make_marker, take_marker, kernel_marker, n_single, n_divided, test_size, rank_line, role_is, index_is};
 
-use pb_cline::{push_count, push_decimal, push_lin, push_signed};
+use pb_cprint_lines::{push_count, push_decimal, push_lin, push_signed};
 use pb_ctree::{
     CoreKernel, CoreLabel, Formula, KernelKind, Local, NRange, Name, NoMemory, Payload, Role,
 };

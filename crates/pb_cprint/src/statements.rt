@@ -3,11 +3,11 @@
 ghost use Rattle.std.specs.Prelude.{◌≡◌, ◌++◌, ◌+◌, ◌≤◌, ◌<◌, ◌^◌, OnOk, length, map, drop};
 ghost use Rattle.pb_local.specs.Tree.{parts_of, plain, plain_all, program_of};
 ghost use Rattle.pb_ctree.specs.Small.{outgoing, incoming};
-ghost use Rattle.pb_cline.specs.Printed.{bytes};
+ghost use Rattle.pb_cprint_lines.specs.Printed.{bytes};
 ghost use Rattle.pb_cprint.specs.Written.{branch_item, send_written, recv_written, broadcast_written, reduce_written, allreduce_written, written, written_all, written_other, part_written, is_last};
 
 use crate::choices::push_choice;
-use pb_cline::{
+use pb_cprint_lines::{
     push_calls, push_else_pick, push_for, push_goto, push_if, push_loop, push_makes,
     push_mpi_allreduce, push_mpi_bcast, push_mpi_recv, push_mpi_reduce, push_mpi_send, push_own,
     push_pick, push_root_makes, push_root_takes, push_takes, push_takes_sent, push_word,

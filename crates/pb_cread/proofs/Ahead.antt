@@ -7,9 +7,9 @@ use Rattle.pb_local.specs.declared.tables.Role.{Role}
 use Rattle.pb_ctree.specs.Bodies.{is_marker, lines_of}
 use Rattle.pb_ctree.specs.Lines.{line, raw}
 use Rattle.pb_ctree.specs.Rules.{has_size}
-use Rattle.pb_cframe.specs.Ahead.{Shown, sure, show, Rest, Known, known, kernels_from, labels_from, roles_from, ruled, ahead_at, ahead, whole_at, whole, in_functions}
-use Rattle.pb_cframe.specs.Reading.{Phase, at_protocol, at_range, at_roles, at_labels, in_body, at_kernels, at_statements, Read, State, end_text, step_at, is_statements, done_at, is_done}
-use Rattle.pb_crow.specs.Spelled.{names_of_roles, names_of_labels, names_of_kernels, tables}
+use Rattle.pb_cread_frame.specs.Ahead.{Shown, sure, show, Rest, Known, known, kernels_from, labels_from, roles_from, ruled, ahead_at, ahead, whole_at, whole, in_functions}
+use Rattle.pb_cread_frame.specs.Reading.{Phase, at_protocol, at_range, at_roles, at_labels, in_body, at_kernels, at_statements, Read, State, end_text, step_at, is_statements, done_at, is_done}
+use Rattle.pb_cread_rows.specs.Spelled.{names_of_roles, names_of_labels, names_of_kernels, tables}
 
 abbrev pub HasLine : List Shown → Type 0
 HasLine [] = ⊥

@@ -9,7 +9,7 @@ use Rattle.pb_ctree.specs.Frame.{words, body_lines, function_lines, prelude_line
 use Rattle.pb_ctree.specs.Functions.{has_words, kernel_function, label_functions, labels_functions}
 use Rattle.pb_ctree.specs.Lines.{Line, line, raw}
 use Rattle.pb_ctree.specs.Rules.{is_kernel_row}
-use Rattle.pb_cframe.specs.Ahead.{lines_text, spelled_body, kernel_bodies, words_bodies}
+use Rattle.pb_cread_frame.specs.Ahead.{lines_text, spelled_body, kernel_bodies, words_bodies}
 
 lines_again : (body : List ℕ) → lines_of (spelled_body body) ≡ lines_of body
 lines_again [] = refl

@@ -21,10 +21,10 @@ use Rattle.pb_local.specs.Pieces as P
 use Rattle.pb_local.specs.Ranks as R
 use Rattle.pb_local.specs.Tables.{role_at, label_at, kernel_at}
 use Rattle.pb_local.specs.Tree.{Program}
-use Rattle.pb_citem.specs.Head.{HasHead}
+use Rattle.pb_cread_lines.specs.Head.{HasHead}
 use Rattle.pb_ctree.specs.Lines.{Item, raw, close, else_open, if_open, else_if_open, for_open, own_is, loop_open, goto, makes, root_makes, takes, root_takes, mpi_send, mpi_recv, mpi_barrier, mpi_bcast, mpi_reduce, mpi_allreduce, calls, chooses, probe, test_open, else_test_open, picks, aborts, pick_open, else_pick_open, test_text, item_text}
 use Rattle.pb_ctree.specs.Small.{offset_text, based_text, lin_text, index_text, from_text, to_text, guard_text, others_text, cond_text, peer_text, root_text, sum_text, Side, outgoing, incoming, buffer_text, type_text, count_of, payload_of, words_text, call_text, op_text, reduced_text}
-use Rattle.pb_crow.proofs.Again.{and_left, and_right}
+use Rattle.pb_cread_rows.proofs.Again.{and_left, and_right}
 
 -- no line feed is there
 abbrev pub clean : List ℕ → Bool

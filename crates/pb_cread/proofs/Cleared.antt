@@ -25,16 +25,16 @@ use Rattle.pb_ctree.specs.Lines.{Item, raw, close, else_open, if_open, else_if_o
 use Rattle.pb_ctree.specs.Small.{lin_text, sum_text}
 use Rattle.pb_ctree.specs.Rules.{has_size, is_single, is_kernel_row}
 use Rattle.pb_ctree.specs.Texts.{line_bytes, line_text, text_of, Spells, Starts, all_kept}
-use Rattle.pb_citem.specs.Head.{HasHead}
-use Rattle.pb_made.proofs.Texts.{well_made_kept}
-use Rattle.pb_cframe.specs.Frames.{main_start, frame_lines, behind_frame}
-use Rattle.pb_cframe.specs.Rows.{is_nothing, is_line, bare}
-use Rattle.pb_cframe.proofs.Framed.{text_is}
-use Rattle.pb_cmain.specs.Fronts.{Are, main_lines}
-use Rattle.pb_cmain.specs.Laws.{place_of}
-use Rattle.pb_cmain.specs.Reading as M
-use Rattle.pb_cmain.proofs.Laws.{reads_statements}
-use Rattle.pb_crow.proofs.Again.{and_left, and_right}
+use Rattle.pb_cread_lines.specs.Head.{HasHead}
+use Rattle.pb_ctree_laws.proofs.Texts.{well_made_kept}
+use Rattle.pb_cread_frame.specs.Frames.{main_start, frame_lines, behind_frame}
+use Rattle.pb_cread_frame.specs.Rows.{is_nothing, is_line, bare}
+use Rattle.pb_cread_frame.proofs.Framed.{text_is}
+use Rattle.pb_cread_statements.specs.Fronts.{Are, main_lines}
+use Rattle.pb_cread_statements.specs.Laws.{place_of}
+use Rattle.pb_cread_statements.specs.Reading as M
+use Rattle.pb_cread_statements.proofs.Laws.{reads_statements}
+use Rattle.pb_cread_rows.proofs.Again.{and_left, and_right}
 use Rattle.pb_cread.specs.Rows as W
 use Rattle.pb_cread.proofs.Clean.{clean, both, number, signed, lin, sum, name, Named, named, IsStated, item, indented}
 use Rattle.pb_cread.proofs.Good.{same_first_line}

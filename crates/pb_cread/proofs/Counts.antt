@@ -3,10 +3,10 @@ use Rattle.std.proofs.Common.{◌≡◌, ℕ, zero, suc, ◌+◌, ◌-◌, ◌�
 use Rattle.pb_local.specs.Tree.{Codes, Program}
 use Rattle.pb_local.specs.WellMade.{outermost}
 use Rattle.pb_ctree.specs.Lines.{Line}
-use Rattle.pb_cmain.specs.Marks.{counted, opens, closes, marks_all, begun_in}
-use Rattle.pb_cmain.specs.Fronts.{Begins, main_lines, opened_in, closed_in}
-use Rattle.pb_cmain.specs.Reading.{State, Place, nothing_read, read, open_braces}
-use Rattle.pb_cmain.proofs.Laws.{reads_fronts, counts_braces}
+use Rattle.pb_cread_statements.specs.Marks.{counted, opens, closes, marks_all, begun_in}
+use Rattle.pb_cread_statements.specs.Fronts.{Begins, main_lines, opened_in, closed_in}
+use Rattle.pb_cread_statements.specs.Reading.{State, Place, nothing_read, read, open_braces}
+use Rattle.pb_cread_statements.proofs.Laws.{reads_fronts, counts_braces}
 use Rattle.pb_cread.specs.Limits.{opened, closed, open_behind, begun_behind, IsWithin}
 use Rattle.pb_cread.specs.Reached.{with_body}
 use Rattle.pb_cread.proofs.Tables.{spelled_same, marks_same}

@@ -3,12 +3,12 @@ use Rattle.std.proofs.Common.{◌≡◌, ℕ, Bool, true, false, cond, List, Som
 use Rattle.std.specs.Prelude.{IfOk}
 use Rattle.pb_local.specs.Tree.{Program}
 use Rattle.pb_ctree.specs.Lines.{Item}
-use Rattle.pb_citem.specs.Fits.{FitsNumber, Fits}
-use Rattle.pb_citem.specs.Head.{HasHead}
-use Rattle.pb_citem.specs.Reading.{IsLine, IsNoLine, IsOnlyLine}
-use Rattle.pb_cmain.specs.Labels.{relabelled}
-use Rattle.pb_cmain.specs.Reading.{State, goes_on}
-use Rattle.pb_cmain.proofs.Relabelled.{is_line, only_one}
+use Rattle.pb_cread_lines.specs.Fits.{FitsNumber, Fits}
+use Rattle.pb_cread_lines.specs.Head.{HasHead}
+use Rattle.pb_cread_lines.specs.Reading.{IsLine, IsNoLine, IsOnlyLine}
+use Rattle.pb_cread_statements.specs.Labels.{relabelled}
+use Rattle.pb_cread_statements.specs.Reading.{State, goes_on}
+use Rattle.pb_cread_statements.proofs.Relabelled.{is_line, only_one}
 use Rattle.pb_cread.specs.Reached.{Judged}
 
 same_line_of : (p : Program) (s u : State) (line : List ℕ) (depth : ℕ) (a b : Item) → a ≡ relabelled p s.wanted b → IsOnlyLine p line depth b → HasHead p → (d : ℕ) (i : Item) → FitsNumber d → Fits p i → IsLine p line d i → goes_on p s d i ≡ Some u → (d ≡ depth) × (i ≡ a)

@@ -10,19 +10,19 @@ use Rattle.pb_local.specs.WellMade.{outermost}
 use Rattle.pb_ctree.specs.Frame.{words, end_lines, text_lines}
 use Rattle.pb_ctree.specs.Lines.{Line}
 use Rattle.pb_ctree.specs.Texts.{Starts, line_text, text}
-use Rattle.pb_citem.specs.Head.{HasHead}
-use Rattle.pb_cframe.specs.Ahead.{Shown}
-use Rattle.pb_cframe.specs.Frames.{frame_lines, behind_frame, rest_of, shown_of}
-use Rattle.pb_cframe.specs.Laws as K
-use Rattle.pb_cframe.specs.Reading.{Read, State, is_done, start_with, same_line}
-use Rattle.pb_cframe.specs.Rows.{is_line, bare}
-use Rattle.pb_cframe.proofs.Folds.{starts_texts}
-use Rattle.pb_cframe.proofs.Framed.{text_is}
-use Rattle.pb_cframe.proofs.Shapes.{line_is, map_both}
-use Rattle.pb_cframe.proofs.Turns.{same_refl, same_is}
-use Rattle.pb_cmain.specs.Fronts.{Begins, Are, main_lines}
-use Rattle.pb_cmain.specs.Reading as M
-use Rattle.pb_cmain.proofs.Laws.{are_lines, reads_statements}
+use Rattle.pb_cread_lines.specs.Head.{HasHead}
+use Rattle.pb_cread_frame.specs.Ahead.{Shown}
+use Rattle.pb_cread_frame.specs.Frames.{frame_lines, behind_frame, rest_of, shown_of}
+use Rattle.pb_cread_frame.specs.Laws as K
+use Rattle.pb_cread_frame.specs.Reading.{Read, State, is_done, start_with, same_line}
+use Rattle.pb_cread_frame.specs.Rows.{is_line, bare}
+use Rattle.pb_cread_frame.proofs.Folds.{starts_texts}
+use Rattle.pb_cread_frame.proofs.Framed.{text_is}
+use Rattle.pb_cread_frame.proofs.Shapes.{line_is, map_both}
+use Rattle.pb_cread_frame.proofs.Turns.{same_refl, same_is}
+use Rattle.pb_cread_statements.specs.Fronts.{Begins, Are, main_lines}
+use Rattle.pb_cread_statements.specs.Reading as M
+use Rattle.pb_cread_statements.proofs.Laws.{are_lines, reads_statements}
 use Rattle.pb_cread.specs.Faults.{Spell, IsGood, IsUnexpected, Comes}
 use Rattle.pb_cread.specs.Limits.{KeepsLimits}
 use Rattle.pb_cread.specs.Reached.{with_body, headed, Taken, InFrame, Framed, finalize, last_texts, Stated, InMain, InEnd, IsWhole}
@@ -33,7 +33,7 @@ use Rattle.pb_cread.proofs.Counts.{within_all}
 use Rattle.pb_cread.proofs.Faulted.{rows_behind}
 use Rattle.pb_cread.proofs.Good.{good_frame, good_main, is_next, place_is}
 use Rattle.pb_cread.proofs.Heads.{only_head, has_head, length_map, starts_begins, frame_many, fits_head, fitting, is_text}
-use Rattle.pb_cmain.proofs.Marked.{marks_statements}
+use Rattle.pb_cread_statements.proofs.Marked.{marks_statements}
 use Rattle.pb_cread.proofs.Parted.{left_over}
 use Rattle.pb_cread.proofs.Stated.{starts_front, starts_both, starts_behind, starts_within, inner_lines, at_end, shows_many, shows_starts}
 use Rattle.pb_cread.proofs.Tables.{spelled_same, marks_same}

@@ -7,14 +7,14 @@ use Rattle.pb_text.specs.Places.{one_more}
 use Rattle.pb_local.specs.Tree.{Codes, Program}
 use Rattle.pb_ctree.specs.Frame.{end_lines}
 use Rattle.pb_ctree.specs.Texts.{Starts, IsFront}
-use Rattle.pb_citem.specs.Head.{HasHead}
-use Rattle.pb_cframe.specs.Reading.{Read, State, step, is_done, start_with, same_line}
-use Rattle.pb_cframe.specs.Laws as K
-use Rattle.pb_cframe.specs.Rows.{is_line, bare}
-use Rattle.pb_cframe.proofs.Fronts.{are_no_fronts}
-use Rattle.pb_cmain.specs.Fronts.{main_lines}
-use Rattle.pb_cmain.specs.Reading as M
-use Rattle.pb_cmain.proofs.Laws.{no_whole}
+use Rattle.pb_cread_lines.specs.Head.{HasHead}
+use Rattle.pb_cread_frame.specs.Reading.{Read, State, step, is_done, start_with, same_line}
+use Rattle.pb_cread_frame.specs.Laws as K
+use Rattle.pb_cread_frame.specs.Rows.{is_line, bare}
+use Rattle.pb_cread_frame.proofs.Fronts.{are_no_fronts}
+use Rattle.pb_cread_statements.specs.Fronts.{main_lines}
+use Rattle.pb_cread_statements.specs.Reading as M
+use Rattle.pb_cread_statements.proofs.Laws.{no_whole}
 use Rattle.pb_cread.specs.declared.statements.Step.TheVariants.{On, Deepens, Exceeds}
 use Rattle.pb_cread.specs.Faults.{Spell, IsUnexpected, IsTooDeep, IsTooMany, Comes}
 use Rattle.pb_cread.specs.Reached.{headed, Taken, InFrame, finalize, InMain, GoesBy, NoneGoes, Does}

@@ -2,7 +2,7 @@
 use Rattle.std.proofs.Common.{◌≡◌, ℕ, zero, suc, ◌+◌, ◌-◌, ◌<◌, Bool, true, false, cond, List, [], ◌∷◌, ◌++◌, length, take, drop, length-append, refl, sym, ap, ◌∙◌, arith, nat_eq, not}
 use Rattle.std.specs.Prelude.{if◌then◌else◌}
 use Rattle.std.specs.List.{prefix_len}
-use Rattle.pb_cframe.specs.Rows.{is_nothing, is_line, bare}
+use Rattle.pb_cread_frame.specs.Rows.{is_nothing, is_line, bare}
 use Rattle.pb_cread.specs.Rows.{is_inner, HasNoLine, IsFirst}
 
 -- where no byte ends a line, there is none

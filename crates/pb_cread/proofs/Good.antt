@@ -6,16 +6,16 @@ use Rattle.pb_local.specs.Tree.{Codes, nothing, Program}
 use Rattle.pb_ctree.specs.Frame.{end_lines, text_lines}
 use Rattle.pb_ctree.specs.Lines.{Line}
 use Rattle.pb_ctree.specs.Texts.{Starts}
-use Rattle.pb_cframe.specs.Ahead.{Shown, sure, ahead}
-use Rattle.pb_cframe.specs.Frames.{frame_lines, behind_frame, shown_of}
-use Rattle.pb_cframe.specs.Laws as K
-use Rattle.pb_cframe.specs.Reading.{Read, State, start_with}
-use Rattle.pb_cframe.specs.Rows.{is_nothing, is_line, bare}
-use Rattle.pb_cframe.proofs.Folds.{fronts_read, starts_texts}
-use Rattle.pb_cmain.specs.Fronts.{main_lines}
-use Rattle.pb_cmain.specs.Laws.{place_of}
-use Rattle.pb_cmain.specs.Reading as M
-use Rattle.pb_cmain.proofs.Laws.{is_front}
+use Rattle.pb_cread_frame.specs.Ahead.{Shown, sure, ahead}
+use Rattle.pb_cread_frame.specs.Frames.{frame_lines, behind_frame, shown_of}
+use Rattle.pb_cread_frame.specs.Laws as K
+use Rattle.pb_cread_frame.specs.Reading.{Read, State, start_with}
+use Rattle.pb_cread_frame.specs.Rows.{is_nothing, is_line, bare}
+use Rattle.pb_cread_frame.proofs.Folds.{fronts_read, starts_texts}
+use Rattle.pb_cread_statements.specs.Fronts.{main_lines}
+use Rattle.pb_cread_statements.specs.Laws.{place_of}
+use Rattle.pb_cread_statements.specs.Reading as M
+use Rattle.pb_cread_statements.proofs.Laws.{is_front}
 use Rattle.pb_cread.specs.Faults.{past_frame, Spell, IsGood}
 use Rattle.pb_cread.specs.Limits.{open_behind, begun_behind, IsWithin}
 use Rattle.pb_cread.specs.Reached.{with_body, headed, Framed, Stated, GoesBy}

@@ -15,18 +15,18 @@ use Rattle.pb_ctree.specs.Frame.{head_lines, prelude_lines, number_lines, kernel
 use Rattle.pb_ctree.specs.Functions.{functions_of}
 use Rattle.pb_ctree.specs.Lines.{Line}
 use Rattle.pb_ctree.specs.Texts.{line_bytes, line_text, text_of, Starts, all_kept}
-use Rattle.pb_citem.specs.Head.{HasHead}
-use Rattle.pb_made.proofs.Texts.{made_where_kept}
-use Rattle.pb_cframe.specs.Ahead.{Shown, sure, show, Rest, ahead, Whole, whole, spelled_body, words_bodies, in_functions}
-use Rattle.pb_cframe.specs.Frames.{main_start, frame_lines, behind_frame, rest_of, shown_of}
-use Rattle.pb_cframe.specs.Laws as K
-use Rattle.pb_cframe.specs.Laws.{read}
-use Rattle.pb_cframe.specs.Reading.{Read, start, start_with}
-use Rattle.pb_cframe.specs.Rows.{is_line, bare}
-use Rattle.pb_cframe.proofs.Folds.{fronts_read, starts_texts}
-use Rattle.pb_cframe.proofs.Framed.{text_is, frame_ahead}
-use Rattle.pb_cframe.proofs.Shapes.{line_is, map_both}
-use Rattle.pb_cmain.specs.Fronts.{main_lines}
+use Rattle.pb_cread_lines.specs.Head.{HasHead}
+use Rattle.pb_ctree_laws.proofs.Texts.{made_where_kept}
+use Rattle.pb_cread_frame.specs.Ahead.{Shown, sure, show, Rest, ahead, Whole, whole, spelled_body, words_bodies, in_functions}
+use Rattle.pb_cread_frame.specs.Frames.{main_start, frame_lines, behind_frame, rest_of, shown_of}
+use Rattle.pb_cread_frame.specs.Laws as K
+use Rattle.pb_cread_frame.specs.Laws.{read}
+use Rattle.pb_cread_frame.specs.Reading.{Read, start, start_with}
+use Rattle.pb_cread_frame.specs.Rows.{is_line, bare}
+use Rattle.pb_cread_frame.proofs.Folds.{fronts_read, starts_texts}
+use Rattle.pb_cread_frame.proofs.Framed.{text_is, frame_ahead}
+use Rattle.pb_cread_frame.proofs.Shapes.{line_is, map_both}
+use Rattle.pb_cread_statements.specs.Fronts.{main_lines}
 use Rattle.pb_cread.specs.Faults.{Spell}
 use Rattle.pb_cread.specs.Reached.{with_body, headed, Framed}
 use Rattle.pb_cread.proofs.Ahead.{none_ahead, whole_done}

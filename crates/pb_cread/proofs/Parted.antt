@@ -1,11 +1,11 @@
 -- Where in a text the lines before its statements end.
 use Rattle.std.proofs.Common.{◌≡◌, ℕ, suc, ◌<◌, true, false, List, [], ◌∷◌, ◌++◌, length, Option, Some, None, refl, sym, ap, subst, ◌∙◌, arith}
-use Rattle.pb_cframe.specs.Ahead.{Shown, Rest, ahead, Whole, whole}
-use Rattle.pb_cframe.specs.Laws.{then_read, read, Begins}
-use Rattle.pb_cframe.specs.Reading.{State, step, is_done}
-use Rattle.pb_cframe.specs.Steps.{GoesAlong}
-use Rattle.pb_cframe.proofs.Follow.{follows_all}
-use Rattle.pb_cframe.proofs.Turns.{some_same, not_none}
+use Rattle.pb_cread_frame.specs.Ahead.{Shown, Rest, ahead, Whole, whole}
+use Rattle.pb_cread_frame.specs.Laws.{then_read, read, Begins}
+use Rattle.pb_cread_frame.specs.Reading.{State, step, is_done}
+use Rattle.pb_cread_frame.specs.Steps.{GoesAlong}
+use Rattle.pb_cread_frame.proofs.Follow.{follows_all}
+use Rattle.pb_cread_frame.proofs.Turns.{some_same, not_none}
 use Rattle.pb_cread.proofs.Ahead.{HasLine, some_ahead, none_ahead, not_done}
 
 -- the lines are those ahead, and others stand behind them

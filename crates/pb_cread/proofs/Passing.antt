@@ -10,12 +10,12 @@ use Rattle.pb_ctree.specs.declared.tree.CTree.{CTree}
 use Rattle.pb_ctree.specs.Functions.{functions_of}
 use Rattle.pb_ctree.specs.Texts.{Spells, text}
 use Rattle.pb_ctree.specs.Trees.{IsTree}
-use Rattle.pb_cmain.specs.Reading as M
+use Rattle.pb_cread_statements.specs.Reading as M
 use Rattle.pb_cread.specs.Reached.{with_body, headed, InFrame, InMain, IsBehind, InEnd, IsWhole, last_texts}
-use Rattle.pb_cframe.specs.Reading as F
-use Rattle.pb_cframe.specs.Reading.{Read}
+use Rattle.pb_cread_frame.specs.Reading as F
+use Rattle.pb_cread_frame.specs.Reading.{Read}
 use Rattle.pb_cread.proofs.Faulted.{main_starts}
-use Rattle.pb_cframe.specs.Rows.{is_nothing}
+use Rattle.pb_cread_frame.specs.Rows.{is_nothing}
 use Rattle.pb_cread.specs.declared.fault.TextFault.{TextFault}
 use Rattle.pb_cread.specs.Faults.{IsFault}
 

@@ -8,18 +8,18 @@ use Rattle.pb_local.specs.Tree.{Codes, Program}
 use Rattle.pb_ctree.specs.Frame.{end_lines}
 use Rattle.pb_ctree.specs.Lines.{Item, raw, close, else_open, if_open, else_if_open, for_open, own_is, loop_open, goto, makes, root_makes, takes, root_takes, mpi_send, mpi_recv, mpi_barrier, mpi_bcast, mpi_reduce, mpi_allreduce, calls, chooses, probe, test_open, else_test_open, picks, aborts, pick_open, else_pick_open, item_text, Line, line}
 use Rattle.pb_ctree.specs.Texts.{line_bytes, Starts}
-use Rattle.pb_citem.specs.Fits.{FitsNumber, Fits}
-use Rattle.pb_citem.specs.Head.{HasHead}
-use Rattle.pb_citem.specs.Reading.{IsLine}
-use Rattle.pb_cframe.specs.Reading.{same_line}
-use Rattle.pb_cframe.specs.Rows.{is_line, bare}
-use Rattle.pb_cframe.proofs.Shapes.{line_is}
-use Rattle.pb_cframe.proofs.Turns.{same_refl, same_is}
-use Rattle.pb_cmain.specs.Fronts.{Begins, Are, main_lines}
-use Rattle.pb_cmain.specs.Laws.{place_of}
-use Rattle.pb_cmain.specs.Reading.{State, Place, nothing_read, goes_on, then_read, read, open_braces}
-use Rattle.pb_cmain.proofs.Fitted.{fits}
-use Rattle.pb_cmain.proofs.Laws.{reads_fronts}
+use Rattle.pb_cread_lines.specs.Fits.{FitsNumber, Fits}
+use Rattle.pb_cread_lines.specs.Head.{HasHead}
+use Rattle.pb_cread_lines.specs.Reading.{IsLine}
+use Rattle.pb_cread_frame.specs.Reading.{same_line}
+use Rattle.pb_cread_frame.specs.Rows.{is_line, bare}
+use Rattle.pb_cread_frame.proofs.Shapes.{line_is}
+use Rattle.pb_cread_frame.proofs.Turns.{same_refl, same_is}
+use Rattle.pb_cread_statements.specs.Fronts.{Begins, Are, main_lines}
+use Rattle.pb_cread_statements.specs.Laws.{place_of}
+use Rattle.pb_cread_statements.specs.Reading.{State, Place, nothing_read, goes_on, then_read, read, open_braces}
+use Rattle.pb_cread_statements.proofs.Fitted.{fits}
+use Rattle.pb_cread_statements.proofs.Laws.{reads_fronts}
 use Rattle.pb_cread.specs.Limits.{open_behind, begun_behind, IsWithin}
 use Rattle.pb_cread.specs.Reached.{with_body, finalize, Shows, Stated, GoesBy}
 use Rattle.pb_cread.proofs.Counts.{counts, none_within, within_one}

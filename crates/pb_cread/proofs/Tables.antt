@@ -12,7 +12,7 @@ use Rattle.pb_ctree.specs.Lines.{Item, raw, close, else_open, if_open, else_if_o
 use Rattle.pb_ctree.specs.Rules.{are_guards, is_label}
 use Rattle.pb_ctree.specs.Spelling.{relay_lines, probe_lines, next_tests, test_lines, told_lines, spelled, spelled_all, spelled_other, spelled_parts}
 use Rattle.pb_ctree.specs.Texts.{line_bytes, Starts}
-use Rattle.pb_cmain.specs.Marks.{marks, marks_all, marks_other, marks_parts}
+use Rattle.pb_cread_statements.specs.Marks.{marks, marks_all, marks_other, marks_parts}
 use Rattle.pb_cread.specs.Reached.{with_body}
 
 text_same : (p : Program) (c : Codes) (i : Item) → item_text (with_body p c) i ≡ item_text p i

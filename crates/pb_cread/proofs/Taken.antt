@@ -3,7 +3,7 @@ use Rattle.std.proofs.Common.{◌≡◌, ℕ, true, List, [], ◌∷◌, ◌++�
 use Rattle.std.proofs.lemmas.List.Elements.{All-push}
 use Rattle.pb_text.specs.Places.{one_more}
 use Rattle.pb_local.specs.Pieces.{joined}
-use Rattle.pb_cframe.specs.Rows.{is_line, bare}
+use Rattle.pb_cread_frame.specs.Rows.{is_line, bare}
 use Rattle.pb_cread.specs.Rows.{line_number, IsFirst}
 use Rattle.pb_cread.specs.Reached.{Taken}
 

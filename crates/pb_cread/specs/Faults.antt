@@ -7,8 +7,8 @@ use Rattle.pb_ctree.specs.declared.tree.CTree.{CTree}
 use Rattle.pb_ctree.specs.Bodies.{is_body}
 use Rattle.pb_ctree.specs.Frame.{text_lines}
 use Rattle.pb_ctree.specs.Texts.{Spells, Starts, IsFront}
-use Rattle.pb_cframe.specs.Frames.{frame_lines}
-use Rattle.pb_cframe.specs.Rows.{is_line, bare}
+use Rattle.pb_cread_frame.specs.Frames.{frame_lines}
+use Rattle.pb_cread_frame.specs.Rows.{is_line, bare}
 use Rattle.pb_cread.specs.declared.fault.TextFault.{TextFault}
 use Rattle.pb_cread.specs.declared.fault.TextFault.TheVariants.{Unexpected, TooDeep, TooMany, NoMemory}
 use Rattle.pb_cread.specs.Rows as W

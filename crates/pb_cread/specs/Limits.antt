@@ -2,8 +2,8 @@
 use Rattle.std.specs.Prelude.{ℕ, ◌+◌, ◌-◌, ◌≤◌, List, [], ◌∷◌, take}
 use Rattle.pb_local.specs.Tree.{Program, size_all}
 use Rattle.pb_ctree.specs.Lines.{Line}
-use Rattle.pb_cmain.specs.Fronts.{main_lines}
-use Rattle.pb_cmain.specs.Marks.{counted, opens, closes, marks_all, begun_in}
+use Rattle.pb_cread_statements.specs.Fronts.{main_lines}
+use Rattle.pb_cread_statements.specs.Marks.{counted, opens, closes, marks_all, begun_in}
 
 -- how many of the lines open a brace, and how many close one
 abbrev pub opened : List Line → ℕ

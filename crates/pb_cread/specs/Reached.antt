@@ -6,14 +6,14 @@ use Rattle.pb_local.specs.WellMade.{IsWellMade}
 use Rattle.pb_ctree.specs.Functions.{functions_of}
 use Rattle.pb_ctree.specs.Lines as L
 use Rattle.pb_ctree.specs.Texts.{Starts, line_bytes, text}
-use Rattle.pb_cframe.specs.Laws as K
-use Rattle.pb_cframe.specs.Reading as F
-use Rattle.pb_cframe.specs.Reading.{same_line}
-use Rattle.pb_cframe.specs.Rows.{is_line, bare}
-use Rattle.pb_citem.specs.Fits.{FitsNumber, Fits}
-use Rattle.pb_citem.specs.Reading.{IsLine}
-use Rattle.pb_cmain.specs.Fronts.{Begins, main_lines}
-use Rattle.pb_cmain.specs.Reading as M
+use Rattle.pb_cread_frame.specs.Laws as K
+use Rattle.pb_cread_frame.specs.Reading as F
+use Rattle.pb_cread_frame.specs.Reading.{same_line}
+use Rattle.pb_cread_frame.specs.Rows.{is_line, bare}
+use Rattle.pb_cread_lines.specs.Fits.{FitsNumber, Fits}
+use Rattle.pb_cread_lines.specs.Reading.{IsLine}
+use Rattle.pb_cread_statements.specs.Fronts.{Begins, main_lines}
+use Rattle.pb_cread_statements.specs.Reading as M
 use Rattle.pb_cread.specs.declared.statements.Step.{Step}
 use Rattle.pb_cread.specs.declared.statements.Step.TheVariants.{On, Stops, Deepens, Exceeds}
 use Rattle.pb_text.specs.declared.place.Place.{Place}

@@ -2,7 +2,7 @@
 use Rattle.std.specs.Prelude.{◌≡◌, ℕ, ◌+◌, ◌-◌, ◌^◌, nat_eq, Bool, true, not, min, All, List, ◌++◌}
 use Rattle.pb_text.specs.declared.place.Place.{Place}
 use Rattle.pb_local.specs.Pieces.{joined}
-use Rattle.pb_cframe.specs.Rows.{is_line}
+use Rattle.pb_cread_frame.specs.Rows.{is_line}
 
 -- the text is these lines, each with its line feed, and then the rest
 pub record Begins (text : List ℕ) (lines : List (List ℕ)) (rest : List ℕ) : Type 0 where

@@ -1,6 +1,6 @@
 ghost use Rattle.std.specs.Prelude.{◌≡◌, ◌∷◌, ◌++◌, ℕ, List, [], IfErr, IfOk};
 ghost use Rattle.pb_local.specs.Tree.{Code, Program, codes_of};
-ghost use Rattle.pb_cframe.specs.Reading.{Read, same_line};
+ghost use Rattle.pb_cread_frame.specs.Reading.{Read, same_line};
 ghost use Rattle.pb_cread.specs.Faults.{IsFault};
 ghost use Rattle.pb_cread.specs.Reached.{InEnd, IsWhole, brace_text, finalize, last_texts, return_text, with_body};
 

@@ -1,12 +1,12 @@
 ghost use Rattle.std.specs.Prelude.{◌≡◌, true, IfErr, IfOk};
-ghost use Rattle.pb_cframe.specs.Reading.{is_done};
-ghost use Rattle.pb_cframe.specs.Views.{state_of};
+ghost use Rattle.pb_cread_frame.specs.Reading.{is_done};
+ghost use Rattle.pb_cread_frame.specs.Views.{state_of};
 ghost use Rattle.pb_cread.specs.Faults.{IsFault};
 ghost use Rattle.pb_cread.specs.Reached.{InFrame};
 
 use crate::fault::TextFault;
 use crate::lines::Lines;
-use pb_cframe::FrameReader;
+use pb_cread_frame::FrameReader;
 use std::alloc::Global;
 
 /// Reads the lines before main's statements, from the first line on.

@@ -1,6 +1,6 @@
 ghost use Rattle.std.specs.Prelude.{◌≡◌, ◌≤◌, IfSome, MatchOption, length};
 ghost use Rattle.std.specs.List.{prefix_len};
-ghost use Rattle.pb_cframe.specs.Rows.{is_nothing};
+ghost use Rattle.pb_cread_frame.specs.Rows.{is_nothing};
 ghost use Rattle.pb_text.specs.Places.{one_more};
 ghost use Rattle.pb_cread.specs.Rows.{HasNoLine, IsFirst, is_inner};
 

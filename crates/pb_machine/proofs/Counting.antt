@@ -8,9 +8,9 @@ use Rattle.pb_local.specs.declared.stmt.Relay.{Relay}
 use Rattle.pb_local.specs.declared.stmt.Stmt.{Stmt}
 use Rattle.pb_local.specs.declared.stmt.Stmt.TheVariants.{Choice}
 use Rattle.pb_local.specs.Tree.{choice, plain, size, size_parts}
-use Rattle.pb_ahead.specs.Heights.{height, height_parts}
-use Rattle.pb_ahead.proofs.Plains.{parts}
-use Rattle.pb_ahead.proofs.Arms.{choice_is}
+use Rattle.pb_machine_next.specs.Heights.{height, height_parts}
+use Rattle.pb_machine_next.proofs.Plains.{parts}
+use Rattle.pb_machine_next.proofs.Arms.{choice_is}
 
 pub whole_size : (s : Stmt) (who : Guard) (k : ℕ) (rs : Vec Relay Global) (e : Peer) (ts : Vec Test Global) (bs : Vec (Vec Stmt Global) Global) (items : List (Vec Stmt Global)) (i count : ℕ) →
     s ≡ Choice who k rs e ts bs → items ≡ bs.items → (count < 2 ^ 60 → count + size_parts (parts (drop i items)) ≡ 1 + size_parts (parts items)) → length items ≤ i → count < 2 ^ 60 → count ≡ size (plain s)

@@ -4,12 +4,12 @@ use Rattle.std.specs.declared.alloc.Global.{Global}
 use Rattle.std.specs.Vec.{with_item}
 use Rattle.std.proofs.Math.Seq.{take-suc-set}
 use Rattle.pb_local.specs.Tree.{Codes}
-use Rattle.pb_ahead.specs.declared.step.Step.{Step}
-use Rattle.pb_ahead.specs.declared.ahead.Go.{Go}
-use Rattle.pb_ahead.specs.declared.ahead.Go.TheVariants.{Stay, Enter}
-use Rattle.pb_ahead.specs.Place.{todo}
-use Rattle.pb_ahead.specs.View.{goes}
-use Rattle.pb_ahead.specs.Safe.{IsRoom, IsIn}
+use Rattle.pb_machine_next.specs.declared.step.Step.{Step}
+use Rattle.pb_machine_next.specs.declared.ahead.Go.{Go}
+use Rattle.pb_machine_next.specs.declared.ahead.Go.TheVariants.{Stay, Enter}
+use Rattle.pb_machine_next.specs.Place.{todo}
+use Rattle.pb_machine_next.specs.View.{goes}
+use Rattle.pb_machine_next.specs.Safe.{IsRoom, IsIn}
 
 pub take_front : (d n : ℕ) (xs : List Step) → d ≤ n → take d (take n xs) ≡ take d xs
 take_front zero n xs h = refl

@@ -8,18 +8,18 @@ use Rattle.pb_local.proofs.Moves.{move_is}
 use Rattle.pb_ctree.specs.declared.tree.CTree.{CTree}
 use Rattle.pb_ctree.specs.declared.tree.Formula.{Formula}
 use Rattle.pb_ctree.specs.Trees.{IsTree}
-use Rattle.pb_ahead.specs.declared.step.Step.{Step}
-use Rattle.pb_ahead.specs.declared.ahead.Ahead.{Ahead}
-use Rattle.pb_ahead.specs.declared.ahead.Go.TheVariants.{Stay}
-use Rattle.pb_ahead.specs.declared.call.Call.{Call}
+use Rattle.pb_machine_next.specs.declared.step.Step.{Step}
+use Rattle.pb_machine_next.specs.declared.ahead.Ahead.{Ahead}
+use Rattle.pb_machine_next.specs.declared.ahead.Go.TheVariants.{Stay}
+use Rattle.pb_machine_next.specs.declared.call.Call.{Call}
 use Rattle.pb_machine.specs.declared.phase.Phase.{Phase}
 use Rattle.pb_machine.specs.declared.phase.Phase.TheVariants.{Going, Joined, Misled}
 use Rattle.pb_machine.specs.declared.rank.Rank.{Rank}
-use Rattle.pb_ahead.specs.Heights.{height_all}
-use Rattle.pb_ahead.specs.Safe.{IsSafe}
-use Rattle.pb_ahead.specs.Place.{todo}
-use Rattle.pb_ahead.specs.Calls.{collective_of}
-use Rattle.pb_ahead.specs.View.{rank_of, goes, move_by, Knows}
+use Rattle.pb_machine_next.specs.Heights.{height_all}
+use Rattle.pb_machine_next.specs.Safe.{IsSafe}
+use Rattle.pb_machine_next.specs.Place.{todo}
+use Rattle.pb_machine_next.specs.Calls.{collective_of}
+use Rattle.pb_machine_next.specs.View.{rank_of, goes, move_by, Knows}
 use Rattle.pb_machine.specs.Steps.{body_of, path_of, joined, shown_in, shown, param_of, IsPlaced, move_shown, Fits}
 use Rattle.pb_machine.proofs.Moves.{stayed}
 

@@ -2,7 +2,7 @@
 use Rattle.std.specs.Prelude.{◌≡◌, ◌<◌, ◌^◌}
 use Rattle.pb_local.specs.Tree.{plain_all, size_all}
 use Rattle.pb_ctree.specs.declared.tree.CTree.{CTree}
-use Rattle.pb_ahead.specs.Heights.{height_all}
+use Rattle.pb_machine_next.specs.Heights.{height_all}
 use Rattle.pb_machine.specs.declared.sizes.Sizes.{Sizes}
 
 -- exact where they are below 2^60

@@ -8,7 +8,7 @@ use Rattle.pb_local.specs.Tree.{Codes, plain_all, Program, program_of}
 use Rattle.pb_local.specs.Machine as M
 use Rattle.pb_local.specs.Family.{most_silent, text_machine}
 use Rattle.pb_ctree.specs.declared.tree.CTree.{CTree}
-use Rattle.pb_ahead.specs.declared.step.Step.{Step}
+use Rattle.pb_machine_next.specs.declared.step.Step.{Step}
 use Rattle.pb_machine.specs.declared.act.Act.{Act}
 use Rattle.pb_machine.specs.declared.act.Act.TheVariants as A
 use Rattle.pb_machine.specs.declared.act.Next.{Next}
@@ -18,12 +18,12 @@ use Rattle.pb_machine.specs.declared.act.Input.TheVariants.{Plain, Tag, Answer}
 use Rattle.pb_machine.specs.declared.phase.Phase.{Phase}
 use Rattle.pb_machine.specs.declared.phase.Phase.TheVariants.{Going, Joined, Misled}
 use Rattle.pb_machine.specs.declared.rank.Rank.{Rank}
-use Rattle.pb_ahead.specs.Heights.{height_all}
-use Rattle.pb_ahead.specs.Place.{todo}
-use Rattle.pb_ahead.specs.Calls.{collective_of}
+use Rattle.pb_machine_next.specs.Heights.{height_all}
+use Rattle.pb_machine_next.specs.Place.{todo}
+use Rattle.pb_machine_next.specs.Calls.{collective_of}
 use Rattle.pb_machine.specs.Acts.{act_of}
-use Rattle.pb_ahead.specs.View.{rank_of, move_by}
-use Rattle.pb_ahead.specs.Safe.{IsSafe}
+use Rattle.pb_machine_next.specs.View.{rank_of, move_by}
+use Rattle.pb_machine_next.specs.Safe.{IsSafe}
 
 -- ---- what is seen of a rank
 

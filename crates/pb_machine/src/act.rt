@@ -1,9 +1,9 @@
 ghost use Rattle.std.specs.Prelude.{◌≡◌};
-ghost use Rattle.pb_ahead.specs.Calls.{collective_of};
+ghost use Rattle.pb_machine_next.specs.Calls.{collective_of};
 ghost use Rattle.pb_machine.specs.Acts.{entry_of};
 
 use crate::{Joint, Op};
-use pb_ahead::Call;
+use pb_machine_next::Call;
 
 /// An action that comes next, without what a kernel or another rank puts into it.
 #[derive(Clone, Copy, Debug, PartialEq, Eq)]

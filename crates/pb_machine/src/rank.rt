@@ -6,21 +6,21 @@ ghost use Rattle.pb_local.specs.WellMade.{IsInRange};
 ghost use Rattle.pb_local.specs.Family.{text_start};
 ghost use Rattle.pb_ctree.specs.declared.tree.CTree.{CTree};
 ghost use Rattle.pb_ctree.specs.Trees.{IsTree};
-ghost use Rattle.pb_ahead.specs.Heights.{height_all};
-ghost use Rattle.pb_ahead.specs.Numbers.{tested};
-ghost use Rattle.pb_ahead.specs.Place.{todo, tests_at};
-ghost use Rattle.pb_ahead.specs.View.{goes, move_by, rank_of, told_to};
-ghost use Rattle.pb_ahead.specs.Safe.{IsRoom, IsSafe, IsIn};
+ghost use Rattle.pb_machine_next.specs.Heights.{height_all};
+ghost use Rattle.pb_machine_next.specs.Numbers.{tested};
+ghost use Rattle.pb_machine_next.specs.Place.{todo, tests_at};
+ghost use Rattle.pb_machine_next.specs.View.{goes, move_by, rank_of, told_to};
+ghost use Rattle.pb_machine_next.specs.Safe.{IsRoom, IsSafe, IsIn};
 ghost use Rattle.pb_machine.specs.Sizes.{AreSizes};
 ghost use Rattle.pb_machine.specs.Steps.{going, misled, body_of, path_of, joined, shown_in, shown, param_of, IsPlaced, Fits, next_shown, takes_shown, goes_with, IsStepOf, unless_lost, next_by, takes_by, after, counted_as, read_as, move_shown};
-ghost use Rattle.pb_ahead.specs.declared.ahead.Go.TheVariants.{Enter};
+ghost use Rattle.pb_machine_next.specs.declared.ahead.Go.TheVariants.{Enter};
 
 use crate::act::{Act, Input, Next, entry};
 use crate::phase::Phase;
 use crate::seats::me_at;
 use crate::sizes::{MOST, Sizes};
-use pb_ahead::{Ahead, Go, State, Step, tested, tests_at};
 use pb_ctree::{CTree, NoMemory, Test};
+use pb_machine_next::{Ahead, Go, State, Step, tested, tests_at};
 use std::alloc::Global;
 
 /// One rank of a printed text: who it is, the variable, and its place in the tree.
@@ -131,7 +131,7 @@ impl Rank {
     }
 
     /// Keeps what is next from here, found by a walk from the tree's root.
-    #[tactic(auto, using(crate::proofs::Phases::joined_is, crate::proofs::Phases::misled_is, pb_ahead::proofs::Breadths::tree_narrow))]
+    #[tactic(auto, using(crate::proofs::Phases::joined_is, crate::proofs::Phases::misled_is, pb_machine_next::proofs::Breadths::tree_narrow))]
     fn look(&mut self, tree: &CTree)
         requires tree { IsTree tree.now }
         requires placed { IsPlaced tree.now self.old }

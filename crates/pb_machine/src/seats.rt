@@ -4,10 +4,10 @@ ghost use Rattle.pb_local.specs.Ranks.{seats, seat_at, total};
 ghost use Rattle.pb_local.specs.WellMade.{IsInRange};
 ghost use Rattle.pb_ctree.specs.Trees.{IsTree};
 ghost use Rattle.pb_machine.specs.Seats.{IsModest, IsWide};
-ghost use Rattle.pb_ahead.specs.Numbers.{seat_of};
+ghost use Rattle.pb_machine_next.specs.Numbers.{seat_of};
 
-use pb_ahead::Me;
 use pb_ctree::{Base, CTree, Lin, Role};
+use pb_machine_next::Me;
 
 /// The end of a role's range.
 fn end(lin: Lin, n: i64) -> i64

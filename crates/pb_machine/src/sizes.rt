@@ -1,6 +1,6 @@
 ghost use Rattle.std.specs.Prelude.{◌≡◌, ◌<◌, ◌^◌, ◌+◌};
 ghost use Rattle.pb_local.specs.Tree.{plain, plain_all, size, size_all};
-ghost use Rattle.pb_ahead.specs.Heights.{height, height_all};
+ghost use Rattle.pb_machine_next.specs.Heights.{height, height_all};
 ghost use Rattle.pb_machine.specs.Sizes.{AreSizes};
 
 use pb_ctree::{CTree, Stmt};

@@ -1,9 +1,2 @@
-pub mod Plains
-pub mod Among
-pub mod EndAreas
-pub mod Steps
-pub mod Items
-pub mod HeldLoops
-pub mod RoleAreas
-pub mod Finds
-pub mod Quiet
+pub mod Groups
+pub mod Growth

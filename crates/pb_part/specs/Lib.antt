@@ -1,6 +1,1 @@
-pub mod Loops
-pub mod Pieces
-pub mod Ends
-pub mod Sums
-pub mod Bodies
-pub mod Numbered
+pub mod FirstLists

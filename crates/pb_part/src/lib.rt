@@ -1,20 +1,15 @@
-//! Who takes part in a statement, for every N at once: as areas while the tree is walked, and as guards.
+//! What the ranks find first in a block of a file, as guards.
 #![tactic(auto)]
 
-mod each;
-mod ends;
-mod held;
-mod scan;
-mod search;
+mod kinds;
+mod listed;
+mod parts;
 #[cfg(test)]
 mod tests;
-mod walk;
 mod whole;
 
-pub use each::{Over, met_area, takers_each};
-pub use ends::{add_end, end_area};
-pub use held::{Held, add_held, with_loop};
-pub use pb_text::NoMemory;
-pub use search::takers;
-pub use walk::{takers_at, takers_in};
-pub use whole::areas_of_roles;
+pub use kinds::{First, FirstKind};
+pub use pb_part_areas::NoMemory;
+pub use pb_part_firsts::Source;
+pub use pb_part_takers::takers;
+pub use whole::firsts;

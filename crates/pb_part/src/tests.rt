@@ -1,137 +1,106 @@
-use crate::{Held, NoMemory, takers_in};
-use pb_area::{Area, one};
-use pb_core::{Base, CoreBlock, CoreEnd, CoreKind, CoreStmt, Lin, Place};
+ghost use Rattle.std.specs.Prelude.{◌≡◌, true, IfOk};
+ghost use Rattle.pb_core_language.specs.Plain.{plain};
+ghost use Rattle.pb_core_language.specs.Sound.{is_sound};
+
+use crate::parts::split;
+use crate::{FirstKind, NoMemory, firsts};
+use pb_affine::{Base, Guard, Lin};
+use pb_core_language::{Core, CoreBlock, CoreKind, CoreRole, CoreStmt, NRange, Name, Place};
+use pb_part_areas::Area;
+use pb_part_firsts::{Entry, Kind};
 use std::alloc::Global;
+use std::test::Fail;
 
-const PLACE: Place = Place { line: 1, col: 1 };
+const HERE: Place = Place { line: 1, col: 1 };
 
-fn end(base: Base, off: i8) -> CoreEnd {
-    CoreEnd {
+const FIRST: Lin = Lin {
+    base: Base::Fixed,
+    off: 0,
+};
+
+const LAST: Lin = Lin {
+    base: Base::Param,
+    off: -1,
+};
+
+/// The rank with this index alone.
+fn entry(index: i8, kind: Kind) -> Entry {
+    let low = Lin {
+        base: Base::Fixed,
+        off: i32::from(index),
+    };
+    let end = Lin {
+        base: Base::Fixed,
+        off: i32::from(index) + 1,
+    };
+    let area = Area {
         role: 0,
-        at: Lin {
-            base,
-            off: i32::from(off),
-        },
-        place: PLACE,
-    }
-}
-
-fn stmt(what: CoreKind) -> CoreStmt {
-    CoreStmt {
-        number: 0,
-        place: PLACE,
-        what,
-    }
-}
-
-fn block(list: Vec<CoreStmt>) -> CoreBlock {
-    CoreBlock {
-        number: 0,
-        place: PLACE,
-        list,
-    }
-}
-
-fn message(from: CoreEnd, to: CoreEnd) -> CoreStmt {
-    stmt(CoreKind::Message { label: 0, from, to })
-}
-
-/// The ranks of a role with the indices from 0 on and before N, for N from 2 on.
-fn whole(alloc: Global) -> Result<Vec<Area>, NoMemory> {
-    let ranks = Area {
-        role: 0,
-        low: Lin {
-            base: Base::Fixed,
-            off: 0,
-        },
-        end: Lin {
-            base: Base::Param,
-            off: 0,
-        },
-        from: 2,
+        low,
+        end,
+        from: 20,
         until: None,
     };
-    one(alloc, ranks)
-}
-
-fn takers_of(alloc: Global, body: &CoreBlock) -> Result<Vec<Area>, NoMemory> {
-    let ranks = whole(alloc)?;
-    let held: Vec<Held> = Vec::new(alloc);
-    let mut areas = Vec::new(alloc);
-    takers_in(body, alloc, &ranks, &held, &mut areas)?;
-    Ok(areas)
-}
-
-/// Messages to the indices from 1 on, and then a continue of the loop with this id.
-fn branch(alloc: Global, count: i8, id: u32) -> Result<CoreBlock, NoMemory> {
-    let mut list = Vec::new(alloc);
-    for k in 1..count {
-        list.push(message(end(Base::Fixed, 0), end(Base::Fixed, k)))?;
-    }
-    list.push(stmt(CoreKind::Again { id }))?;
-    Ok(block(list))
-}
-
-/// A loop around a choice of branches with as many messages each, and a message after each continue.
-fn looped(alloc: Global, branches: u8, count: i8) -> Result<CoreBlock, NoMemory> {
-    let mut all = Vec::new(alloc);
-    for _ in 0..branches {
-        let mut one = branch(alloc, count, 7)?;
-        one.list
-            .push(message(end(Base::Param, -1), end(Base::Param, -2)))?;
-        all.push(one)?;
-    }
-    let mut list = Vec::new(alloc);
-    let at = end(Base::Fixed, 0);
-    list.push(stmt(CoreKind::Choice {
-        kernel: 0,
-        at,
-        branches: all,
-    }))?;
-    let body = block(list);
-    let mut outer = Vec::new(alloc);
-    outer.push(stmt(CoreKind::Loop { id: 7, body }))?;
-    Ok(block(outer))
-}
-
-fn areas_of_loop(alloc: Global) -> Result<Vec<Area>, NoMemory> {
-    let body = looped(alloc, 64, 60)?;
-    takers_of(alloc, &body)
+    Entry { area, kind }
 }
 
 #[test]
-fn many_branches_are_one_area(rt: HostRuntime) -> Result<(), NoMemory> {
-    let areas = areas_of_loop(rt.alloc())?;
-    assert_eq!(rt; areas.len(), 1);
-    assert_eq!(rt; areas[0].low, end(Base::Fixed, 0).at);
-    assert_eq!(rt; areas[0].end, end(Base::Fixed, 60).at);
+fn entries_of_one_kind_go_together(rt: HostRuntime) -> Result<(), Fail> {
+    let mut rest = Vec::new(rt.alloc());
+    rest.push(entry(4, Kind::Again))?;
+    rest.push(entry(8, Kind::Other))?;
+    let part = split(rt.alloc(), entry(0, Kind::Other), &rest)?;
+    assert_eq!(rt; part.areas.len(), 2);
+    assert_eq!(rt; part.others.as_slice(), [entry(4, Kind::Again)].as_slice());
     Ok(())
 }
 
-/// Each rank but the last sends to the next, and then all meet.
-fn areas_of_ring(alloc: Global, joined: bool) -> Result<Vec<Area>, NoMemory> {
-    let mut items = Vec::new(alloc);
-    items.push(message(end(Base::Var, 0), end(Base::Var, 1)))?;
-    let over = CoreKind::Foreach {
-        low: end(Base::Fixed, 1).at,
-        high: end(Base::Param, -3).at,
-        items: block(items),
-    };
+/// `barrier;` for the ranks `W[0..N-1]`.
+fn meeting(alloc: Global, name: Name) -> Result<Core, NoMemory>
+    ensures { IfOk result (λ core. is_sound (plain core) ≡ true) }
+{
+    let mut roles = Vec::new(alloc);
+    roles.push(CoreRole {
+        name,
+        place: HERE,
+        low: FIRST,
+        high: LAST,
+    })?;
     let mut list = Vec::new(alloc);
-    list.push(stmt(over))?;
-    if joined {
-        list.push(stmt(CoreKind::Barrier))?;
-    }
-    let body = block(list);
-    takers_of(alloc, &body)
+    list.push(CoreStmt {
+        number: 0,
+        place: HERE,
+        what: CoreKind::Barrier,
+    })?;
+    Ok(Core {
+        protocol: name,
+        range: NRange { low: 2, high: None },
+        roles,
+        labels: Vec::new(alloc),
+        kernels: Vec::new(alloc),
+        body: CoreBlock {
+            number: 0,
+            place: HERE,
+            list,
+        },
+        statements: 1,
+        blocks: 1,
+    })
 }
 
 #[test]
-fn ends_of_a_foreach(rt: HostRuntime) -> Result<(), NoMemory> {
-    let areas = areas_of_ring(rt.alloc(), false)?;
-    assert!(rt; areas.len() > 0);
-    assert_eq!(rt; areas[0].low, end(Base::Fixed, 1).at);
-    let all = areas_of_ring(rt.alloc(), true)?;
-    assert!(rt; all.len() < 8);
+fn all_ranks_come_to_a_barrier(rt: HostRuntime) -> Result<(), Fail> {
+    let name = Name::of(b"P").ok_or("a name")?;
+    let core = meeting(rt.alloc(), name)?;
+    let list = firsts(rt.alloc(), &core, 0)?;
+    let all = Guard {
+        role: 0,
+        low: Some(FIRST),
+        high: Some(LAST),
+        from: None,
+        to: None,
+    };
+    assert_eq!(rt; list.len(), 1);
+    assert_eq!(rt; list[0].kind, FirstKind::Other);
+    assert_eq!(rt; list[0].guards.list(), [all].as_slice());
     Ok(())
 }

@@ -1,73 +1,34 @@
-ghost use Rattle.std.specs.Prelude.{◌≡◌, ◌≤◌, ℕ, ℤ, pos, ◌&&◌, ◌||◌, nat_eq, int_le, true, length, List, IfOk};
-ghost use Rattle.std.specs.List.{All};
-ghost use Rattle.pb_affine.specs.declared.lin.Lin.{Lin};
-ghost use Rattle.pb_affine.specs.Values.{value};
-ghost use Rattle.pb_cases.specs.Breakpoints.{IsInRange};
-ghost use Rattle.pb_area.specs.Areas.{has, have, is_before};
-ghost use Rattle.pb_area.specs.Fits.{Fits, IsEdgeOfIf};
-ghost use Rattle.pb_core.specs.Cuts.{edges, role_cuts};
-ghost use Rattle.pb_core.specs.Sound.{is_bound, are_roles};
-ghost use Rattle.pb_flat.specs.Seated.{is_rank};
-ghost use Rattle.pb_part.specs.Pieces.{AreAmong};
+ghost use Rattle.std.specs.Prelude.{◌≡◌, ◌<◌, ℕ, ℤ, true, IfOk};
+ghost use Rattle.pb_cases.specs.Breakpoints.{Division};
+ghost use Rattle.pb_core_language.specs.Cuts.{cuts};
+ghost use Rattle.pb_core_language.specs.Outcomes.{Outcome};
+ghost use Rattle.pb_core_language.specs.Parts.{firsts_in};
+ghost use Rattle.pb_core_language.specs.Plain.{plain};
+ghost use Rattle.pb_core_language.specs.Ranks.{seats, seat_at, total};
+ghost use Rattle.pb_core_language.specs.Sound.{is_sound};
+ghost use Rattle.pb_core_language.specs.Verdict.{IsIn};
+ghost use Rattle.pb_core_flat.specs.OutcomeSets.{is_outcome};
+ghost use Rattle.pb_part.specs.FirstLists.{answers, AreAligned};
 
-use crate::each::Over;
-use crate::ends::next_to;
-use pb_affine::NRange;
-use pb_area::{Area, push};
-use pb_core::CoreRole;
-use pb_text::NoMemory;
+use crate::kinds::{First, FirstKind};
+use crate::listed::{add_first, by_kind};
+use pb_core_language::Core;
+use pb_part_areas::NoMemory;
+use pb_part_firsts::found_in;
 use std::alloc::Global;
 
-/// The N after the range, where there is one that fits.
-fn after(range: NRange) -> Option<u32>
-    ensures is { (n : ℤ) → IsInRange range n → is_before n result ≡ true }
-    ensures edge { (cuts : List Lin) → IsEdgeOfIf range cuts result }
+/// What the ranks find first in the block with this number, for every N of the range: at each N a rank has exactly the
+/// outcomes of the Firsts whose guards hold of it. Each kind has one First, in the order in which the kinds are found, and
+/// Nothing comes last. The block isn't a foreach's; where no block has the number, no rank finds anything. The guards' ends
+/// are cuts of the file. Fails for want of memory alone.
+pub fn firsts(alloc: Global, core: &Core, block: u32) -> Result<Vec<First>, NoMemory>
+    requires sound { is_sound (plain core.now) ≡ true }
+    ensures gives { IfOk result (λ list. (n : ℤ) (r : ℕ) (o : Outcome) → IsIn core.now.range n → r < total core.now.roles.items n →
+        answers core.now.roles.items list.items n (seat_at r (seats core.now.roles.items n)).role (seat_at r (seats core.now.roles.items n)).index o ≡ is_outcome o (firsts_in (plain core.now) n block r)) }
+    ensures aligned { IfOk result (λ list. (d : Division) → d.range ≡ core.now.range → d.cuts ≡ cuts (plain core.now) → AreAligned d list.items) }
 {
-    match range.high {
-        None => None,
-        Some(high) => {
-            if high < u32::MAX {
-                Some(high + 1)
-            } else {
-                None
-            }
-        }
-    }
-}
-
-/// The area of the ranks of a role, at each N of the range.
-fn role_area(number: u32, over: Over, range: NRange) -> Area
-    ensures is { (n : ℤ) (role : ℕ) (x : ℤ) → is_bound over.high ≡ true → IsInRange range n → has result n role x ≡ nat_eq role number && (int_le (value over.low n (pos 0)) x && int_le x (value over.high n (pos 0))) }
-    ensures fits { (cuts : List Lin) → is_bound over.low ≡ true → is_bound over.high ≡ true → AreAmong (edges over.low over.high) cuts → Fits range cuts result }
-{
-    let end = next_to(over.high);
-    let until = after(range);
-    Area {
-        role: number,
-        low: over.low,
-        end,
-        from: range.low,
-        until,
-    }
-}
-
-/// The areas of all ranks, at each N of the range.
-pub fn areas_of_roles(
-    alloc: Global,
-    roles: &[CoreRole],
-    range: NRange,
-) -> Result<Vec<Area>, NoMemory>
-    requires { length roles.now ≤ 64 }
-    ensures is { IfOk result (λ v. (n : ℤ) (role : ℕ) (x : ℤ) → are_roles roles.now ≡ true → IsInRange range n → have v.items n role x ≡ is_rank roles.now n role x) }
-    ensures fits { IfOk result (λ v. (cuts : List Lin) → are_roles roles.now ≡ true → AreAmong (role_cuts roles.now) cuts → All (Fits range cuts) v.items) }
-{
-    let mut out = Vec::new(alloc);
-    for (i, role) in roles.iter().enumerate() {
-        let over = Over {
-            low: role.low,
-            high: role.high,
-        };
-        push(&mut out, role_area(i as u32, over, range))?;
-    }
-    Ok(out)
+    let found = found_in(alloc, core, block)?;
+    let mut list = by_kind(alloc, core, found.entries)?;
+    add_first(alloc, core, &found.passed, FirstKind::Nothing, &mut list)?;
+    Ok(list)
 }

@@ -1,11 +1,11 @@
 -- The statements of a block and the branches of a choice, built from the last.
 use Rattle.std.proofs.Common.{◌≡◌, ◌≤◌, ◌<◌, ◌-◌, ℕ, zero, suc, ℤ, List, [], ◌∷◌, map, drop, length, slice_index_or, refl, ap, ap₂, sym, subst, ◌∙◌, arith}
-use Rattle.pb_core.specs.declared.tree.CoreBlock.{CoreBlock}
-use Rattle.pb_core.specs.declared.tree.CoreStmt.{CoreStmt}
-use Rattle.pb_core.specs.declared.protocol.CoreRole.{CoreRole}
-use Rattle.pb_core.specs.Plain.{plain_block, plain_stmt, block_of, branches_of}
-use Rattle.pb_core.specs.Flat as F
-use Rattle.pb_core.specs.FlatOf.{flat_block, flat_branches}
+use Rattle.pb_core_language.specs.declared.tree.CoreBlock.{CoreBlock}
+use Rattle.pb_core_language.specs.declared.tree.CoreStmt.{CoreStmt}
+use Rattle.pb_core_language.specs.declared.protocol.CoreRole.{CoreRole}
+use Rattle.pb_core_language.specs.Plain.{plain_block, plain_stmt, block_of, branches_of}
+use Rattle.pb_core_language.specs.Flat as F
+use Rattle.pb_core_language.specs.FlatOf.{flat_block, flat_branches}
 use Rattle.pb_plain.specs.declared.flat.Flat.{fold-roll-Flat}
 use Rattle.pb_plain.specs.declared.flat.Flat.TheVariants.{Stop, rolls-Stop}
 use Rattle.pb_plain.specs.declared.flat.Branches.TheOpen as L

@@ -1,20 +1,20 @@
 -- The plain tree of a choice, and its flat protocol.
 use Rattle.std.proofs.Common.{◌≡◌, ◌≤◌, ℕ, zero, suc, ℤ, List, map, drop, ap, sym, ◌∙◌, Vec, Result, Ok, Err, IfOk, arith}
 use Rattle.std.specs.declared.alloc.Global.{Global}
-use Rattle.pb_core.specs.declared.tree.CoreEnd.{CoreEnd}
-use Rattle.pb_core.specs.declared.tree.CoreBlock.{CoreBlock}
-use Rattle.pb_core.specs.declared.tree.CoreStmt.{CoreStmt, fold_out-CoreStmt}
-use Rattle.pb_core.specs.declared.tree.CoreKind.{fold-roll-CoreKind}
-use Rattle.pb_core.specs.declared.tree.CoreKind.TheVariants.{Choice, rolls-Choice}
-use Rattle.pb_core.specs.declared.tree.CoreKind.TheOpen as Layer
-use Rattle.pb_core.specs.declared.protocol.CoreRole.{CoreRole}
-use Rattle.pb_core.specs.Tree.{Mark, StmtTree, choice}
-use Rattle.pb_core.specs.Flat as F
-use Rattle.pb_core.specs.FlatOf.{flat_stmt, flat_branches, from_one, rank_of}
+use Rattle.pb_core_language.specs.declared.tree.CoreEnd.{CoreEnd}
+use Rattle.pb_core_language.specs.declared.tree.CoreBlock.{CoreBlock}
+use Rattle.pb_core_language.specs.declared.tree.CoreStmt.{CoreStmt, fold_out-CoreStmt}
+use Rattle.pb_core_language.specs.declared.tree.CoreKind.{fold-roll-CoreKind}
+use Rattle.pb_core_language.specs.declared.tree.CoreKind.TheVariants.{Choice, rolls-Choice}
+use Rattle.pb_core_language.specs.declared.tree.CoreKind.TheOpen as Layer
+use Rattle.pb_core_language.specs.declared.protocol.CoreRole.{CoreRole}
+use Rattle.pb_core_language.specs.Tree.{Mark, StmtTree, choice}
+use Rattle.pb_core_language.specs.Flat as F
+use Rattle.pb_core_language.specs.FlatOf.{flat_stmt, flat_branches, from_one, rank_of}
 use Rattle.pb_text.specs.declared.memory.NoMemory.{NoMemory}
 use Rattle.pb_plain.specs.declared.flat.Flat.{Flat}
 use Rattle.pb_plain.specs.View.{view}
-use Rattle.pb_core.specs.Plain.{MarkedBlock, MarkedStmt, plain_block, plain_stmt, plain_kind, branches_of, kind_layer, block_layer, stmt_layer}
+use Rattle.pb_core_language.specs.Plain.{MarkedBlock, MarkedStmt, plain_block, plain_stmt, plain_kind, branches_of, kind_layer, block_layer, stmt_layer}
 
 pub plain_choice : (s : CoreStmt) (k : ℕ) (at : CoreEnd) (bs : Vec CoreBlock Global) → s.what ≡ Choice k at bs →
     (plain_stmt s).stmt ≡ choice k at (branches_of (map plain_block bs.items))

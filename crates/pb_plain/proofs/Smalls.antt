@@ -5,16 +5,16 @@ use Rattle.std.proofs.lemmas.Bool.Decides.{nat_tests}
 use Rattle.std.specs.List.{All}
 use Rattle.std.specs.declared.alloc.Global.{Global}
 use Rattle.pb_affine.specs.declared.lin.Lin.{Lin}
-use Rattle.pb_core.specs.declared.protocol.Core.{Core}
-use Rattle.pb_core.specs.declared.tree.CoreEnd.{CoreEnd}
-use Rattle.pb_core.specs.declared.tree.CoreBlock.{CoreBlock, out-CoreBlock, fold_out-CoreBlock}
-use Rattle.pb_core.specs.declared.tree.CoreStmt.{CoreStmt, fold_out-CoreStmt}
-use Rattle.pb_core.specs.declared.tree.CoreKind.{CoreKind, fold-roll-CoreKind}
-use Rattle.pb_core.specs.declared.tree.CoreKind.TheVariants.{Foreach, Loop, Again, Choice, rolls-Foreach, rolls-Loop, rolls-Again}
-use Rattle.pb_core.specs.declared.tree.CoreKind.TheOpen as Layer
-use Rattle.pb_core.specs.Tree.{StmtTree, message, foreach, loop, again, choice, run, barrier, broadcast, reduce, allreduce, BlockTree, nothing, more, BranchTrees, no_branch, branch}
-use Rattle.pb_core.specs.Plain.{MarkedBlock, MarkedStmt, plain, plain_block, plain_stmt, plain_kind, block_of, branches_of, kind_layer, block_layer, stmt_layer}
-use Rattle.pb_core.specs.Sound.{Rows, rows_of, is_small, is_over_n, is_bound, is_end, is_item, has_branch, is_stmt, is_block, are_branches, is_range, are_roles, is_sound}
+use Rattle.pb_core_language.specs.declared.protocol.Core.{Core}
+use Rattle.pb_core_language.specs.declared.tree.CoreEnd.{CoreEnd}
+use Rattle.pb_core_language.specs.declared.tree.CoreBlock.{CoreBlock, out-CoreBlock, fold_out-CoreBlock}
+use Rattle.pb_core_language.specs.declared.tree.CoreStmt.{CoreStmt, fold_out-CoreStmt}
+use Rattle.pb_core_language.specs.declared.tree.CoreKind.{CoreKind, fold-roll-CoreKind}
+use Rattle.pb_core_language.specs.declared.tree.CoreKind.TheVariants.{Foreach, Loop, Again, Choice, rolls-Foreach, rolls-Loop, rolls-Again}
+use Rattle.pb_core_language.specs.declared.tree.CoreKind.TheOpen as Layer
+use Rattle.pb_core_language.specs.Tree.{StmtTree, message, foreach, loop, again, choice, run, barrier, broadcast, reduce, allreduce, BlockTree, nothing, more, BranchTrees, no_branch, branch}
+use Rattle.pb_core_language.specs.Plain.{MarkedBlock, MarkedStmt, plain, plain_block, plain_stmt, plain_kind, block_of, branches_of, kind_layer, block_layer, stmt_layer}
+use Rattle.pb_core_language.specs.Sound.{Rows, rows_of, is_small, is_over_n, is_bound, is_end, is_item, has_branch, is_stmt, is_block, are_branches, is_range, are_roles, is_sound}
 use Rattle.pb_plain.specs.declared.opens.Opens.{Opens, fold-roll-Opens}
 use Rattle.pb_plain.specs.declared.opens.Opens.TheVariants as V
 use Rattle.pb_plain.specs.declared.opens.Opens.TheOpen as O

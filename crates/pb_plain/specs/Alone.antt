@@ -1,11 +1,11 @@
 -- One statement or block, for the programs that go through a core.
 use Rattle.std.specs.Prelude.{ℕ, ℤ, pos, Bool, ◌&&◌, ◌||◌, nat_eq, if◌then◌else◌, List, []}
-use Rattle.pb_core.specs.declared.protocol.CoreRole.{CoreRole}
-use Rattle.pb_core.specs.Plain.{MarkedBlock, MarkedStmt}
-use Rattle.pb_core.specs.Flat.{stop, takes_part}
-use Rattle.pb_core.specs.FlatOf.{flat_stmt, flat_block}
-use Rattle.pb_core.specs.Outcomes.{Outcome, firsts}
-use Rattle.pb_core.specs.Parts.{takes_part_below}
+use Rattle.pb_core_language.specs.declared.protocol.CoreRole.{CoreRole}
+use Rattle.pb_core_language.specs.Plain.{MarkedBlock, MarkedStmt}
+use Rattle.pb_core_language.specs.Flat.{stop, takes_part}
+use Rattle.pb_core_language.specs.FlatOf.{flat_stmt, flat_block}
+use Rattle.pb_core_language.specs.Outcomes.{Outcome, firsts}
+use Rattle.pb_core_language.specs.Parts.{takes_part_below}
 
 -- the rank takes part in it
 abbrev pub takes_part_alone : List CoreRole → ℤ → ℕ → List ℕ → List Bool → MarkedStmt → Bool

@@ -1,5 +1,5 @@
 -- The outcome that a value of the program stands for.
-use Rattle.pb_core.specs.Outcomes as O
+use Rattle.pb_core_language.specs.Outcomes as O
 use Rattle.pb_plain.specs.declared.outcomes.Outcome.{Outcome}
 use Rattle.pb_plain.specs.declared.outcomes.Outcome.TheVariants.{Nothing, Receive, Other, Again}
 

@@ -1,8 +1,8 @@
 -- What keeps the numbers of a core within 64 bits, whatever rows it has: the ends of a foreach have no variable, and fewer
 -- than 64 loops stand around a loop. A core that is sound has this.
 use Rattle.std.specs.Prelude.{ℕ, suc, ◌-◌, ◌^◌, ℤ, pos, negsuc, ◌≤ℤ◌, Bool, true, ◌&&◌, nat_le, nat_lt}
-use Rattle.pb_core.specs.Tree.{StmtTree, message, foreach, loop, again, choice, run, barrier, broadcast, reduce, allreduce, BlockTree, nothing, more, BranchTrees, no_branch, branch}
-use Rattle.pb_core.specs.Sound.{is_over_n}
+use Rattle.pb_core_language.specs.Tree.{StmtTree, message, foreach, loop, again, choice, run, barrier, broadcast, reduce, allreduce, BlockTree, nothing, more, BranchTrees, no_branch, branch}
+use Rattle.pb_core_language.specs.Sound.{is_over_n}
 
 -- within 2 ^ 41 of zero, as the variable of a foreach is
 pub record IsTurn (x : ℤ) : Type 0 where

@@ -2,11 +2,11 @@
 use Rattle.std.specs.Prelude.{ℕ, ℤ, pos, List, [], ◌∷◌, map}
 use Rattle.pb_affine.specs.Values.{value, range}
 use Rattle.pb_world.specs.Actions as W
-use Rattle.pb_core.specs.declared.protocol.CoreRole.{CoreRole}
-use Rattle.pb_core.specs.Ranks as R
-use Rattle.pb_core.specs.Tree as T
-use Rattle.pb_core.specs.Flat as F
-use Rattle.pb_core.specs.FlatOf.{operation_of}
+use Rattle.pb_core_language.specs.declared.protocol.CoreRole.{CoreRole}
+use Rattle.pb_core_language.specs.Ranks as R
+use Rattle.pb_core_language.specs.Tree as T
+use Rattle.pb_core_language.specs.Flat as F
+use Rattle.pb_core_language.specs.FlatOf.{operation_of}
 use Rattle.pb_plain.specs.declared.flat.Mark.{Mark}
 use Rattle.pb_plain.specs.declared.flat.Seat.{Seat}
 use Rattle.pb_plain.specs.declared.flat.Asked.{Asked}

@@ -1,11 +1,11 @@
 ghost use Rattle.std.specs.Prelude.{◌≡◌, true, map, length, IfOk};
 ghost use Rattle.pb_affine.specs.Values.{IsNear};
-ghost use Rattle.pb_core.specs.Plain.{plain, plain_block, plain_stmt, branches_of};
-ghost use Rattle.pb_core.specs.Ranks.{seats};
-ghost use Rattle.pb_core.specs.Sound.{is_sound};
-ghost use Rattle.pb_core.specs.FlatOf.{flat_stmt, flat_block, flat_branches};
-ghost use Rattle.pb_core.specs.FlatOf as F;
-ghost use Rattle.pb_core.specs.Flat as B;
+ghost use Rattle.pb_core_language.specs.Plain.{plain, plain_block, plain_stmt, branches_of};
+ghost use Rattle.pb_core_language.specs.Ranks.{seats};
+ghost use Rattle.pb_core_language.specs.Sound.{is_sound};
+ghost use Rattle.pb_core_language.specs.FlatOf.{flat_stmt, flat_block, flat_branches};
+ghost use Rattle.pb_core_language.specs.FlatOf as F;
+ghost use Rattle.pb_core_language.specs.Flat as B;
 ghost use Rattle.pb_plain.specs.Loops.{ids_of};
 ghost use Rattle.pb_plain.specs.Small.{IsTurn, is_small_block, is_small_stmt};
 ghost use Rattle.pb_plain.specs.View.{view, view_branches, mark_of, seat_of, origin_of, collective_of};
@@ -14,7 +14,7 @@ use crate::{
     Branches, Collective, Ends, Flat, Mark, NoMemory, Opens, Origin, Seat, Site, from_one,
     from_two, mark, rank_of, turns,
 };
-use pb_core::{Core, CoreBlock, CoreEnd, CoreKind, CoreStmt};
+use pb_core_language::{Core, CoreBlock, CoreEnd, CoreKind, CoreStmt};
 use std::alloc::Global;
 
 /// The statements of the block before the rest, inside these loops and with i for the variable.

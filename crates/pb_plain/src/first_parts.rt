@@ -1,8 +1,8 @@
 ghost use Rattle.std.specs.Prelude.{◌≡◌, ◌++◌, true, map, length, OnOk};
 ghost use Rattle.pb_affine.specs.Values.{IsNear};
-ghost use Rattle.pb_core.specs.Plain.{plain_block, plain_stmt};
-ghost use Rattle.pb_core.specs.Ranks.{seats};
-ghost use Rattle.pb_core.specs.Parts.{firsts_within, firsts_below};
+ghost use Rattle.pb_core_language.specs.Plain.{plain_block, plain_stmt};
+ghost use Rattle.pb_core_language.specs.Ranks.{seats};
+ghost use Rattle.pb_core_language.specs.Parts.{firsts_within, firsts_below};
 ghost use Rattle.pb_plain.specs.Alone.{firsts_if};
 ghost use Rattle.pb_plain.specs.Finds.{outcome_of};
 ghost use Rattle.pb_plain.specs.Loops.{ids_of, held_at};
@@ -11,7 +11,7 @@ ghost use Rattle.pb_plain.specs.View.{seat_of};
 
 use crate::parts::is_in_body;
 use crate::{Flat, Held, NoMemory, Opens, Outcome, Site, firsts, flat_block};
-use pb_core::{CoreBlock, CoreKind, CoreStmt};
+use pb_core_language::{CoreBlock, CoreKind, CoreStmt};
 use std::alloc::Global;
 
 /// Adds what the rank finds first in the block with this number, which stands inside this block and these loops.

@@ -24,7 +24,7 @@ pub use numbers::{range, turns, value};
 pub use opens::Opens;
 pub use outcomes::{Outcome, firsts, firsts_among};
 pub use parts::{is_in_body, takes_part_within};
-pub use pb_core::{Core, Op, Place};
+pub use pb_core_language::{Core, Op, Place};
 pub use pb_text::NoMemory;
 pub use ranks::{is_same, number_in, seats};
 pub use site::{Site, asked, from_one, from_two, mark, rank_of};

@@ -1,15 +1,15 @@
 ghost use Rattle.std.specs.Prelude.{◌≡◌, true, map, IfOk};
 ghost use Rattle.pb_affine.specs.Values.{IsNear};
-ghost use Rattle.pb_core.specs.Plain.{plain};
-ghost use Rattle.pb_core.specs.Ranks.{seats};
-ghost use Rattle.pb_core.specs.Sound.{is_sound};
-ghost use Rattle.pb_core.specs.Parts.{takes_part_in, firsts_in};
+ghost use Rattle.pb_core_language.specs.Plain.{plain};
+ghost use Rattle.pb_core_language.specs.Ranks.{seats};
+ghost use Rattle.pb_core_language.specs.Sound.{is_sound};
+ghost use Rattle.pb_core_language.specs.Parts.{takes_part_in, firsts_in};
 ghost use Rattle.pb_plain.specs.Finds.{outcome_of};
 ghost use Rattle.pb_plain.specs.View.{seat_of};
 
 use crate::first_parts::{add_firsts_if, add_firsts_within};
 use crate::{Held, NoMemory, Opens, Outcome, Seat, Site, takes_part_within};
-use pb_core::Core;
+use pb_core_language::Core;
 use std::alloc::Global;
 
 /// Whether the rank takes part in the statement with this number of a sound core at N = n, within 2^40 of zero. The

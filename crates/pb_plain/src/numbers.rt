@@ -1,7 +1,7 @@
 ghost use Rattle.std.specs.Prelude.{◌≡◌, true, IfOk};
 ghost use Rattle.std.specs.List.{All};
 ghost use Rattle.pb_affine.specs.Values.{range, value, IsNear};
-ghost use Rattle.pb_core.specs.Sound.{is_over_n};
+ghost use Rattle.pb_core_language.specs.Sound.{is_over_n};
 ghost use Rattle.pb_plain.specs.Small.{IsTurn};
 
 use crate::NoMemory;

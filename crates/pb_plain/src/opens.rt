@@ -8,7 +8,7 @@ pub enum Opens<'a> {
 }
 
 impl Opens<'_> {
-    ghost use Rattle.pb_core.specs.FlatOf.{between};
+    ghost use Rattle.pb_core_language.specs.FlatOf.{between};
     ghost use Rattle.pb_plain.specs.Loops.{ids_of};
 
     /// How many loops stand between here and the loop with this id. At most 64 loops are around.

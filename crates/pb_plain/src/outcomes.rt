@@ -1,5 +1,5 @@
 ghost use Rattle.std.specs.Prelude.{◌≡◌, [], ◌∷◌, map, IfOk};
-ghost use Rattle.pb_core.specs.Outcomes.{firsts, firsts_among, or_then};
+ghost use Rattle.pb_core_language.specs.Outcomes.{firsts, firsts_among, or_then};
 ghost use Rattle.pb_plain.specs.Finds.{outcome_of};
 ghost use Rattle.pb_plain.specs.Loops.{held_at};
 ghost use Rattle.pb_plain.specs.View.{view, view_branches};

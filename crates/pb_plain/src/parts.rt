@@ -1,15 +1,15 @@
 ghost use Rattle.std.specs.Prelude.{◌≡◌, suc, true, map, length, IfOk};
 ghost use Rattle.pb_affine.specs.Values.{IsNear};
-ghost use Rattle.pb_core.specs.Plain.{plain_block, plain_stmt};
-ghost use Rattle.pb_core.specs.Ranks.{seats};
-ghost use Rattle.pb_core.specs.Parts.{is_in_body, takes_part_within};
+ghost use Rattle.pb_core_language.specs.Plain.{plain_block, plain_stmt};
+ghost use Rattle.pb_core_language.specs.Ranks.{seats};
+ghost use Rattle.pb_core_language.specs.Parts.{is_in_body, takes_part_within};
 ghost use Rattle.pb_plain.specs.Alone.{takes_part_alone, takes_part_at};
 ghost use Rattle.pb_plain.specs.Loops.{ids_of, held_at};
 ghost use Rattle.pb_plain.specs.Small.{is_small_block, is_small_stmt};
 ghost use Rattle.pb_plain.specs.View.{seat_of};
 
 use crate::{Flat, Held, NoMemory, Opens, Site, flat_block, flat_stmt, takes_part};
-use pb_core::{CoreBlock, CoreKind, CoreStmt};
+use pb_core_language::{CoreBlock, CoreKind, CoreStmt};
 use std::alloc::Global;
 
 /// Whether the rank takes part in the statement with this number, which stands in the block, inside these loops. Statements

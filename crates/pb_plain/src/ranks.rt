@@ -1,10 +1,10 @@
 ghost use Rattle.std.specs.Prelude.{◌≡◌, ◌++◌, pos, map, length, IfOk, OnOk};
 ghost use Rattle.pb_affine.specs.Values.{IsNear};
-ghost use Rattle.pb_core.specs.Ranks.{seats, seat_eq, number_in};
+ghost use Rattle.pb_core_language.specs.Ranks.{seats, seat_eq, number_in};
 ghost use Rattle.pb_plain.specs.View.{seat_of, seats_of, seats_of_role};
 
 use crate::{NoMemory, Seat, range, value};
-use pb_core::CoreRole;
+use pb_core_language::CoreRole;
 use std::alloc::Global;
 
 /// All ranks at N = n, within 2^40 of zero, in the order of their numbers: roles in declared order, indices ascending.

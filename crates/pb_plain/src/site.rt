@@ -1,13 +1,13 @@
 ghost use Rattle.std.specs.Prelude.{◌≡◌, ◌+◌, ◌*◌, map};
 ghost use Rattle.pb_affine.specs.Values.{IsNear};
-ghost use Rattle.pb_core.specs.Ranks.{seats};
-ghost use Rattle.pb_core.specs.FlatOf as F;
-ghost use Rattle.pb_core.specs.Plain.{plain_stmt};
+ghost use Rattle.pb_core_language.specs.Ranks.{seats};
+ghost use Rattle.pb_core_language.specs.FlatOf as F;
+ghost use Rattle.pb_core_language.specs.Plain.{plain_stmt};
 ghost use Rattle.pb_plain.specs.Small.{IsTurn};
 ghost use Rattle.pb_plain.specs.View.{mark_of, seat_of, asked_of, origin_of};
 
 use crate::{Asked, Ends, Mark, Origin, Seat, number_in, value};
-use pb_core::{CoreEnd, CoreRole, CoreStmt};
+use pb_core_language::{CoreEnd, CoreRole, CoreStmt};
 
 /// Where a protocol is flattened: its roles and ranks at N = n.
 #[derive(Clone, Copy)]

@@ -1,5 +1,5 @@
 ghost use Rattle.std.specs.Prelude.{◌≡◌};
-ghost use Rattle.pb_core.specs.Flat.{can_end, some_can_end, takes_part, takes_part_among};
+ghost use Rattle.pb_core_language.specs.Flat.{can_end, some_can_end, takes_part, takes_part_among};
 ghost use Rattle.pb_plain.specs.Loops.{held_at};
 ghost use Rattle.pb_plain.specs.View.{view, view_branches};
 

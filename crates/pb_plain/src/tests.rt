@@ -1,8 +1,8 @@
 use super::*;
-use pb_core::{
+use pb_core_language::{
     Base, CoreBlock, CoreEnd, CoreKind, CoreLabel, CoreRole, CoreStmt, Lin, NRange, Name, Payload,
 };
-use pb_sound::is_sound;
+use pb_core_sound::is_sound;
 use std::alloc::Global;
 use std::test::Fail;
 

@@ -1,11 +1,11 @@
 -- Lists that are made part by part.
 use Rattle.std.proofs.Common.{◌≡◌, ℕ, List, [], ◌++◌, map, length, append_assoc, ap, sym, ◌∙◌}
 use Rattle.std.proofs.lemmas.List.{length-map}
-use Rattle.pb_core.specs.Ranks as R
-use Rattle.pb_core.specs.Ranks.{seat_at}
-use Rattle.pb_core.specs.Tree.{Mark}
-use Rattle.pb_core.specs.Flat.{Block}
-use Rattle.pb_core.specs.Rules.{Breach, nobody, somebody, ranked, each_origin, strays, loners, deserted, over_below, misfits, receives_only, keeps_source, keeps_labels}
+use Rattle.pb_core_language.specs.Ranks as R
+use Rattle.pb_core_language.specs.Ranks.{seat_at}
+use Rattle.pb_core_language.specs.Tree.{Mark}
+use Rattle.pb_core_language.specs.Flat.{Block}
+use Rattle.pb_core_language.specs.Rules.{Breach, nobody, somebody, ranked, each_origin, strays, loners, deserted, over_below, misfits, receives_only, keeps_source, keeps_labels}
 use Rattle.pb_plain.specs.declared.flat.Seat.{Seat}
 use Rattle.pb_plain.specs.View.{seat_of}
 use Rattle.pb_plain_rules.specs.Breaches.{all_broken}

@@ -1,11 +1,11 @@
 -- The ranks, one after the other.
 use Rattle.std.proofs.Common.{◌≡◌, ℕ, zero, suc, ◌+◌, ◌<◌, Bool, List, [], ◌∷◌, ◌++◌, map, length, slice_index_or, append_assoc, refl, ap, ap₂, sym, ◌∙◌, arith}
-use Rattle.pb_core.specs.Ranks as R
-use Rattle.pb_core.specs.Ranks.{seat_at}
-use Rattle.pb_core.specs.Tree.{Mark}
-use Rattle.pb_core.specs.Flat.{Block}
-use Rattle.pb_core.specs.Outcomes.{Outcome}
-use Rattle.pb_core.specs.Rules.{Breach, over_below, ranked, misfits}
+use Rattle.pb_core_language.specs.Ranks as R
+use Rattle.pb_core_language.specs.Ranks.{seat_at}
+use Rattle.pb_core_language.specs.Tree.{Mark}
+use Rattle.pb_core_language.specs.Flat.{Block}
+use Rattle.pb_core_language.specs.Outcomes.{Outcome}
+use Rattle.pb_core_language.specs.Rules.{Breach, over_below, ranked, misfits}
 use Rattle.pb_plain.specs.declared.flat.Seat.{Seat}
 use Rattle.pb_plain.specs.declared.held.Held.{fold-roll-Held}
 use Rattle.pb_plain.specs.declared.held.Held.TheVariants.{Top, rolls-Top}

@@ -1,12 +1,12 @@
 -- The broken rule that a value of the program stands for.
 use Rattle.std.specs.Prelude.{ℕ, Bool, Option, Some, None, List, [], ◌++◌, map, length}
-use Rattle.pb_core.specs.Ranks as R
-use Rattle.pb_core.specs.Ranks.{seat_at}
-use Rattle.pb_core.specs.Tree.{Mark}
-use Rattle.pb_core.specs.Flat.{Block}
-use Rattle.pb_core.specs.Outcomes.{Outcome}
-use Rattle.pb_core.specs.Rules as B
-use Rattle.pb_core.specs.Rules.{nobody, somebody, ranked, each_origin, strays, loners, deserted, over_below, misfits, receives_only, keeps_source, keeps_labels}
+use Rattle.pb_core_language.specs.Ranks as R
+use Rattle.pb_core_language.specs.Ranks.{seat_at}
+use Rattle.pb_core_language.specs.Tree.{Mark}
+use Rattle.pb_core_language.specs.Flat.{Block}
+use Rattle.pb_core_language.specs.Outcomes.{Outcome}
+use Rattle.pb_core_language.specs.Rules as B
+use Rattle.pb_core_language.specs.Rules.{nobody, somebody, ranked, each_origin, strays, loners, deserted, over_below, misfits, receives_only, keeps_source, keeps_labels}
 use Rattle.pb_plain.specs.declared.flat.Seat.{Seat}
 use Rattle.pb_plain.specs.View.{mark_of, seat_of}
 use Rattle.pb_plain_rules.specs.declared.breach.Breach.{Breach}

@@ -1,7 +1,7 @@
 -- How many loops stand between a statement and a loop around it, and what is known of the loops around for every rank.
 use Rattle.std.specs.Prelude.{ℕ, suc, [], ◌∷◌}
-use Rattle.pb_core.specs.Flat.{nth}
-use Rattle.pb_core.specs.Run.{Env}
+use Rattle.pb_core_language.specs.Flat.{nth}
+use Rattle.pb_core_language.specs.Run.{Env}
 use Rattle.pb_plain.specs.declared.held.Held.{Held, Held-F, fold-Held}
 use Rattle.pb_plain.specs.declared.held.Held.TheOpen as L
 use Rattle.pb_plain_rules.specs.declared.within.Within.{Within, Within-F, fold-Within}

@@ -1,8 +1,8 @@
 -- The rules on ends, of which the program holds one.
 use Rattle.std.specs.Prelude.{not, if◌then◌else◌, List, [], ◌∷◌, map}
-use Rattle.pb_core.specs.Ranks as R
-use Rattle.pb_core.specs.Flat as F
-use Rattle.pb_core.specs.Rules.{is_seat, strays, loners}
+use Rattle.pb_core_language.specs.Ranks as R
+use Rattle.pb_core_language.specs.Flat as F
+use Rattle.pb_core_language.specs.Rules.{is_seat, strays, loners}
 use Rattle.pb_plain_rules.specs.declared.end_rule.EndRule.{EndRule}
 use Rattle.pb_plain_rules.specs.declared.end_rule.EndRule.TheVariants.{InRange, Apart}
 use Rattle.pb_plain.specs.View.{seat_of}

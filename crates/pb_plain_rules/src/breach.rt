@@ -1,5 +1,5 @@
 ghost use Rattle.std.specs.Prelude.{◌≡◌, ◌++◌, map, OnOk};
-ghost use Rattle.pb_core.specs.Rules.{nobody, somebody, ranked};
+ghost use Rattle.pb_core_language.specs.Rules.{nobody, somebody, ranked};
 ghost use Rattle.pb_plain.specs.View.{mark_of, seat_of, asked_of};
 ghost use Rattle.pb_plain_rules.specs.Breaches.{breach_of};
 

@@ -1,5 +1,5 @@
 ghost use Rattle.std.specs.Prelude.{◌≡◌, ◌++◌, map, OnOk};
-ghost use Rattle.pb_core.specs.Rules.{is_seat, each_origin, each_origin_among, strays, loners};
+ghost use Rattle.pb_core_language.specs.Rules.{is_seat, each_origin, each_origin_among, strays, loners};
 ghost use Rattle.pb_plain_rules.specs.Ends.{breaks, stray};
 ghost use Rattle.pb_plain.specs.View.{view, view_branches, seat_of, asked_of, origin_of};
 

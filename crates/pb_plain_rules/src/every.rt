@@ -1,9 +1,9 @@
 ghost use Rattle.std.specs.Prelude.{◌≡◌, [], ◌++◌, true, map, length, OnOk, IfOk};
 ghost use Rattle.pb_affine.specs.Values.{IsNear};
-ghost use Rattle.pb_core.specs.Plain.{plain};
-ghost use Rattle.pb_core.specs.Ranks.{seats, seat_at};
-ghost use Rattle.pb_core.specs.Sound.{is_sound};
-ghost use Rattle.pb_core.specs.Rules.{breaches, over_below, ranked, misfits, each_origin, somebody, nobody, deserted};
+ghost use Rattle.pb_core_language.specs.Plain.{plain};
+ghost use Rattle.pb_core_language.specs.Ranks.{seats, seat_at};
+ghost use Rattle.pb_core_language.specs.Sound.{is_sound};
+ghost use Rattle.pb_core_language.specs.Rules.{breaches, over_below, ranked, misfits, each_origin, somebody, nobody, deserted};
 ghost use Rattle.pb_plain.specs.View.{view, mark_of, seat_of};
 ghost use Rattle.pb_plain_rules.specs.Breaches.{breach_of, all_broken};
 ghost use Rattle.pb_plain_rules.specs.Ends.{breaks};

@@ -16,7 +16,7 @@ pub use breach::{Breach, add_ends, add_marks, add_ranked};
 pub use deserted::add_deserted;
 pub use end_rule::{EndRule, add_breaks};
 pub use every::breaches;
-pub use pb_core::{Core, Place};
+pub use pb_core_language::{Core, Place};
 pub use pb_plain::{Asked, Branches, Flat, Held, Mark, Outcome, Seat};
 pub use pb_text::NoMemory;
 pub use roles::empty_roles;

@@ -1,11 +1,11 @@
 ghost use Rattle.std.specs.Prelude.{◌≡◌, ◌++◌, map, IfOk, OnOk};
 ghost use Rattle.pb_affine.specs.Values.{IsNear};
-ghost use Rattle.pb_core.specs.Rules.{empty_roles};
+ghost use Rattle.pb_core_language.specs.Rules.{empty_roles};
 ghost use Rattle.pb_plain.specs.View.{mark_of};
 ghost use Rattle.pb_plain_rules.specs.Empty.{if_none, if_empty};
 
 use crate::{Mark, NoMemory, Place};
-use pb_core::CoreRole;
+use pb_core_language::CoreRole;
 use pb_plain::{range, value};
 use std::alloc::Global;
 

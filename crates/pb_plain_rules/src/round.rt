@@ -1,5 +1,5 @@
 ghost use Rattle.std.specs.Prelude.{◌≡◌};
-ghost use Rattle.pb_core.specs.Rules.{holds_again, holds_again_among};
+ghost use Rattle.pb_core_language.specs.Rules.{holds_again, holds_again_among};
 ghost use Rattle.pb_plain.specs.View.{view, view_branches};
 ghost use Rattle.pb_plain_rules.specs.Depth.{depth_of};
 

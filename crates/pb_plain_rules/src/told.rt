@@ -1,5 +1,5 @@
 ghost use Rattle.std.specs.Prelude.{◌≡◌, [], ◌∷◌, ◌++◌, map, if◌then◌else◌, ◌&&◌, not, IfOk};
-ghost use Rattle.pb_core.specs.Rules.{misfits, misfits_among};
+ghost use Rattle.pb_core_language.specs.Rules.{misfits, misfits_among};
 ghost use Rattle.pb_plain.specs.Finds.{outcome_of};
 ghost use Rattle.pb_plain.specs.Loops.{held_at};
 ghost use Rattle.pb_plain.specs.View.{view, view_branches, mark_of};

@@ -4,7 +4,7 @@ use Rattle.std.proofs.lemmas.Bool.{eqb-true}
 use Rattle.pb_world.specs.Actions.{Action, Choose, Run, Send, Recv, Enter, Leave, Collective, AnswerTable}
 use Rattle.pb_world.specs.Family.{each}
 use Rattle.pb_world.specs.Sequencer.{first_or}
-use Rattle.pb_core.specs.Run.{enter_words}
+use Rattle.pb_core_language.specs.Run.{enter_words}
 use Rattle.pb_plain_run.specs.declared.setting.Setting.{Setting}
 use Rattle.pb_plain_run.specs.Used.{Adds, left_after, words_used, branch_used, entry_used}
 use Rattle.pb_plain_run.specs.Setting.{setting_of, shared, leaves_with_words, entries}

@@ -1,8 +1,8 @@
 -- One step, from what a statement adds and leaves on the stack.
 use Rattle.std.proofs.Common.{◌≡◌, ℕ, List, [], ◌∷◌, append-nil, Result, Ok, Err, OnOk, subst, refl, sym}
 use Rattle.pb_world.specs.Actions.{Action, AnswerTable}
-use Rattle.pb_core.specs.Flat.{Block}
-use Rattle.pb_core.specs.Run.{Setting, Opener, Frame, emit_at, taken_at, move}
+use Rattle.pb_core_language.specs.Flat.{Block}
+use Rattle.pb_core_language.specs.Run.{Setting, Opener, Frame, emit_at, taken_at, move}
 use Rattle.pb_plain_run.specs.Used.{Adds}
 use Rattle.pb_plain_run.specs.Doing.{Steps}
 

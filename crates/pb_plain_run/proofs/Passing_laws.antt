@@ -2,8 +2,8 @@
 use Rattle.std.proofs.Common.{◌≡◌, ℕ, zero, suc, ◌+◌, ◌<◌, ◌≤◌, ◌&&◌, ◌||◌, cond, Bool, true, false, List, [], ◌∷◌, ◌⊎◌, inl, inr, refl, sym, ap, ◌∙◌, subst, nat_lt, lt-ltb, arith}
 use Rattle.pb_world.specs.Actions.{Action, Choose, Run, Send, Recv, Enter, Leave, Answers, AnswerTable, of_rank}
 use Rattle.pb_world.specs.Sequencer.{answers_after, answers_after_all, first_or, state_after}
-use Rattle.pb_core.specs.Flat.{Block, stop, message, compute, together, choice, looped, again, Branches, no_branch, branch, count, branch_at, can_end, some_can_end, ending, first_ending}
-use Rattle.pb_core.specs.Run.{Setting, Opener, Chosen, Body, Frame, State, emit, next, branch_now}
+use Rattle.pb_core_language.specs.Flat.{Block, stop, message, compute, together, choice, looped, again, Branches, no_branch, branch, count, branch_at, can_end, some_can_end, ending, first_ending}
+use Rattle.pb_core_language.specs.Run.{Setting, Opener, Chosen, Body, Frame, State, emit, next, branch_now}
 use Rattle.pb_plain_run.specs.Passing.{followed_by, IsEmpty, standing, Passed}
 
 and_left : (a b : Bool) → (a && b) ≡ true → a ≡ true

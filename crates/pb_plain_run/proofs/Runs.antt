@@ -2,8 +2,8 @@
 use Rattle.std.proofs.Common.{◌≡◌, ℕ, zero, suc, ◌+◌, ◌<◌, List, ◌++◌, append_assoc, append-nil, refl, sym, ap, ap₂, ◌∙◌, subst, arith}
 use Rattle.pb_world.specs.Actions.{Action, AnswerTable}
 use Rattle.pb_world.specs.Sequencer.{emitted, state_after}
-use Rattle.pb_core.specs.Flat.{Block}
-use Rattle.pb_core.specs.Run.{Setting, State, emit, next, first_state}
+use Rattle.pb_core_language.specs.Flat.{Block}
+use Rattle.pb_core_language.specs.Run.{Setting, State, emit, next, first_state}
 use Rattle.pb_plain_run.specs.Doing.{Steps, IsAtTooWide, MeetsTooWide}
 
 module _ (w : Setting) where

@@ -4,7 +4,7 @@ use Rattle.std.proofs.lemmas.List.{drop_all}
 use Rattle.pb_syntax.specs.declared.core_label.CoreLabel.{CoreLabel}
 use Rattle.pb_syntax.specs.declared.tree.Payload.TheVariants.{Unit as Signal}
 use Rattle.pb_world.specs.Actions.{Collective, Barrier, Broadcast, Reduce, Allreduce}
-use Rattle.pb_core.specs.Collectives.{word_by_word, combined, combined_of, payload_of}
+use Rattle.pb_core_language.specs.Collectives.{word_by_word, combined, combined_of, payload_of}
 use Rattle.pb_plain_run.specs.Setting.{shared, leaves_with_words, setting_with}
 
 pub payload_is : (xs : List CoreLabel) (l : ℕ) (d : CoreLabel) → l < length xs → payload_of xs l ≡ (slice_index_or xs l d).payload

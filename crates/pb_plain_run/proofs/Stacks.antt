@@ -1,8 +1,8 @@
 -- A stack whose innermost frame stands last in a list.
 use Rattle.std.proofs.Common.{◌≡◌, ◌≢◌, ℕ, zero, suc, ◌-◌, length, true, false, arith, List, [], ◌∷◌, ◌++◌, map, reverse, refl, ap, ◌∙◌}
 use Rattle.std.proofs.lemmas.List.{reverse-append, map-append}
-use Rattle.pb_core.specs.Flat.{Block}
-use Rattle.pb_core.specs.Run as R
+use Rattle.pb_core_language.specs.Flat.{Block}
+use Rattle.pb_core_language.specs.Run as R
 use Rattle.pb_plain_run.specs.declared.doing.Frame.{Frame}
 use Rattle.pb_plain_run.specs.Doing.{frame_of, stack_of}
 

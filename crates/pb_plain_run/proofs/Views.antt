@@ -7,7 +7,7 @@ use Rattle.pb_plain.specs.declared.flat.Branches.{Branches}
 use Rattle.pb_plain.specs.declared.flat.Branches.TheOpen as L
 use Rattle.pb_plain.specs.declared.flat.Flat.{Flat, fold-roll-Flat}
 use Rattle.pb_plain.specs.declared.flat.Flat.TheVariants.{Message, rolls-Message, Together, rolls-Together, Choice, rolls-Choice}
-use Rattle.pb_core.specs.Flat as F
+use Rattle.pb_core_language.specs.Flat as F
 use Rattle.pb_plain.specs.View.{view, view_branches, origin_of, collective_of, branches_layer, flat_layer}
 
 pub view_message : (f r : Flat) (o : Origin) (p q l : ℕ) (g : Box Flat Global) → f ≡ Message o p q l g → r ≡ g.value → view f ≡ F.message (origin_of o) p q l (view r)

@@ -2,9 +2,9 @@
 use Rattle.std.specs.Prelude.{◌≡◌, ℕ, ◌^◌, ◌<◌, ◌≤◌, List, [], ◌∷◌, ◌++◌, map, reverse}
 use Rattle.pb_world.specs.Actions.{Action, AnswerTable}
 use Rattle.pb_world.specs.Sequencer.{state_after}
-use Rattle.pb_core.specs.Flat.{Block, stop, message, compute, together, choice, looped, again, count}
-use Rattle.pb_core.specs.Run as R
-use Rattle.pb_core.specs.Run.{emit, next, first_state}
+use Rattle.pb_core_language.specs.Flat.{Block, stop, message, compute, together, choice, looped, again, count}
+use Rattle.pb_core_language.specs.Run as R
+use Rattle.pb_core_language.specs.Run.{emit, next, first_state}
 use Rattle.pb_plain.specs.View.{view, view_branches}
 use Rattle.pb_plain_run.specs.View.{remaining}
 use Rattle.pb_plain_run.specs.declared.doing.Opener.{Opener}

@@ -2,8 +2,8 @@
 use Rattle.std.specs.Prelude.{◌≡◌, ℕ, ◌≤◌, true, List, [], ◌∷◌}
 use Rattle.pb_world.specs.Actions.{AnswerTable}
 use Rattle.pb_world.specs.Sequencer.{state_after}
-use Rattle.pb_core.specs.Flat.{Block, stop, message, compute, together, choice, looped, again, can_end}
-use Rattle.pb_core.specs.Run.{Setting, Opener, Frame, State, emit, next}
+use Rattle.pb_core_language.specs.Flat.{Block, stop, message, compute, together, choice, looped, again, can_end}
+use Rattle.pb_core_language.specs.Run.{Setting, Opener, Frame, State, emit, next}
 
 -- a block with another behind it; nothing is done behind a continue
 abbrev pub followed_by : Block → Block → Block

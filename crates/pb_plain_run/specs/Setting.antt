@@ -2,9 +2,9 @@
 use Rattle.std.specs.Prelude.{ℕ, ◌==◌, cond, Bool, true, false, List, [], nat_lt}
 use Rattle.pb_syntax.specs.declared.core_label.CoreLabel.{CoreLabel}
 use Rattle.pb_world.specs.Actions.{Collective, Barrier, Broadcast, Reduce, Allreduce, AnswerTable}
-use Rattle.pb_core.specs.Run as R
-use Rattle.pb_core.specs.Run.{entered_now}
-use Rattle.pb_core.specs.Collectives.{setting, combined_of, combine, payload_of, word_count}
+use Rattle.pb_core_language.specs.Run as R
+use Rattle.pb_core_language.specs.Run.{entered_now}
+use Rattle.pb_core_language.specs.Collectives.{setting, combined_of, combine, payload_of, word_count}
 use Rattle.pb_plain_run.specs.declared.setting.Setting.{Setting}
 
 -- for a protocol's ranks and labels at one N this is its setting

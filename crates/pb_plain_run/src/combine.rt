@@ -1,8 +1,8 @@
 ghost use Rattle.std.specs.Prelude.{◌≡◌, ◌++◌, IfOk};
-ghost use Rattle.pb_core.specs.Collectives.{signed, is_at_most, combine, word_by_word};
-ghost use Rattle.pb_core.specs.FlatOf.{operation_of};
+ghost use Rattle.pb_core_language.specs.Collectives.{signed, is_at_most, combine, word_by_word};
+ghost use Rattle.pb_core_language.specs.FlatOf.{operation_of};
 
-use pb_core::Op;
+use pb_core_language::Op;
 use pb_syntax::Payload;
 use pb_text::NoMemory;
 use std::alloc::Global;

@@ -1,6 +1,6 @@
 ghost use Rattle.std.specs.Prelude.{◌≡◌, ◌<◌, ◌∷◌, [], length, MatchOption, IfSome, OnOk};
-ghost use Rattle.pb_core.specs.Run as R;
-ghost use Rattle.pb_core.specs.Run.{back};
+ghost use Rattle.pb_core_language.specs.Run as R;
+ghost use Rattle.pb_core_language.specs.Run.{back};
 ghost use Rattle.pb_plain.specs.View.{view};
 ghost use Rattle.pb_plain_run.specs.Doing.{opener_of, frame_of, stack_of};
 

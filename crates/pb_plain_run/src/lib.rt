@@ -17,7 +17,7 @@ pub use action::{FullAction, RankAction};
 pub use answers::Answers;
 pub use fault::RunFault;
 pub use laws::blocks_are_passed;
-pub use pb_core::{CoreLabel, Op};
+pub use pb_core_language::{CoreLabel, Op};
 pub use pb_plain::{Branches, Collective, Flat};
 pub use pb_text::{NoMemory, Words};
 pub use sequence::{Sequence, sequential_run};

@@ -1,6 +1,6 @@
 ghost use Rattle.std.specs.Prelude.{◌≡◌, IfOk, IfErr};
-ghost use Rattle.pb_core.specs.Run.{seq, is_over, is_over_at, first_state};
-ghost use Rattle.pb_core.specs.Run as R;
+ghost use Rattle.pb_core_language.specs.Run.{seq, is_over, is_over_at, first_state};
+ghost use Rattle.pb_core_language.specs.Run as R;
 ghost use Rattle.pb_plain.specs.View.{view};
 ghost use Rattle.pb_plain_run.specs.Setting.{setting_of};
 ghost use Rattle.pb_plain_run.specs.View.{table_of, actions_of};

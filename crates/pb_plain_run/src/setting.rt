@@ -1,9 +1,9 @@
 ghost use Rattle.std.specs.Prelude.{◌≡◌};
-ghost use Rattle.pb_core.specs.Collectives.{payload_of, word_count};
+ghost use Rattle.pb_core_language.specs.Collectives.{payload_of, word_count};
 ghost use Rattle.pb_plain.specs.View.{collective_of};
 ghost use Rattle.pb_plain_run.specs.Setting.{setting_of};
 
-use pb_core::CoreLabel;
+use pb_core_language::CoreLabel;
 use pb_plain::Collective;
 use pb_syntax::Payload;
 

@@ -1,10 +1,10 @@
 ghost use Rattle.std.specs.Prelude.{◌≡◌, ◌≤◌, ◌^◌, ◌==◌, ◌++◌, ◌∷◌, [], length, replicate, nat_lt, OnOk, IfOk, IfErr};
 ghost use Rattle.pb_world.specs.Actions.{Choose, Run, Send, Recv};
 ghost use Rattle.pb_world.specs.Sequencer.{first_or};
-ghost use Rattle.pb_core.specs.Flat.{stop};
-ghost use Rattle.pb_core.specs.Flat as B;
-ghost use Rattle.pb_core.specs.Run as R;
-ghost use Rattle.pb_core.specs.Run.{words_now, branch_now};
+ghost use Rattle.pb_core_language.specs.Flat.{stop};
+ghost use Rattle.pb_core_language.specs.Flat as B;
+ghost use Rattle.pb_core_language.specs.Run as R;
+ghost use Rattle.pb_core_language.specs.Run.{words_now, branch_now};
 ghost use Rattle.pb_plain.specs.View.{view, view_branches};
 ghost use Rattle.pb_plain_run.specs.Used.{Adds};
 ghost use Rattle.pb_plain_run.specs.Setting.{setting_of};

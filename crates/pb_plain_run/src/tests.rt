@@ -1,5 +1,5 @@
 use super::*;
-use pb_core::Place;
+use pb_core_language::Place;
 use pb_plain::{Ends, Mark, Origin};
 use pb_syntax::{Name, Payload};
 use std::alloc::Global;

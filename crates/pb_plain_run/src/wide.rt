@@ -1,5 +1,5 @@
 ghost use Rattle.std.specs.Prelude.{◌≡◌, ◌≤◌, ◌^◌, MatchOption};
-ghost use Rattle.pb_core.specs.Flat.{count, ending, first_ending, branch_at, stop};
+ghost use Rattle.pb_core_language.specs.Flat.{count, ending, first_ending, branch_at, stop};
 ghost use Rattle.pb_plain.specs.View.{view, view_branches};
 
 use pb_plain::{Branches, Flat, can_end};

@@ -8,30 +8,30 @@ use Rattle.pb_affine.specs.declared.lin.Base.{Base}
 use Rattle.pb_affine.specs.declared.lin.Base.TheVariants.{Fixed, Param, Var}
 use Rattle.pb_affine.specs.declared.lin.Lin.{Lin}
 use Rattle.pb_affine.specs.Values.{IsSmall}
-use Rattle.pb_area.specs.declared.area.Area.{Area}
-use Rattle.pb_area.specs.Fits.{Fits}
-use Rattle.pb_core.specs.declared.tree.CoreEnd.{CoreEnd}
-use Rattle.pb_core.specs.Flat.{Branches, no_branch, branch, branch_at, takes_part_among}
-use Rattle.pb_core.specs.FlatOf.{rank_of, flat_branches}
-use Rattle.pb_core.specs.Outcomes.{firsts, labels_of, is_among}
-use Rattle.pb_core.specs.Plain.{Protocol}
-use Rattle.pb_core.specs.Sound.{rows_of, is_end, is_over_n, is_small, are_branches}
-use Rattle.pb_core.specs.Tree as T
-use Rattle.pb_core.specs.Tree.{Mark, StmtTree, BlockTree, BranchTrees}
-use Rattle.pb_core.specs.Verdict.{IsIn}
-use Rattle.pb_first.specs.Takers.{IsWhole}
-use Rattle.pb_flat.specs.Seated.{rank, is_rank}
-use Rattle.pb_flat.proofs.OutcomesAdd.{bystander_finds}
+use Rattle.pb_part_areas.specs.declared.area.Area.{Area}
+use Rattle.pb_part_areas.specs.Fits.{Fits}
+use Rattle.pb_core_language.specs.declared.tree.CoreEnd.{CoreEnd}
+use Rattle.pb_core_language.specs.Flat.{Branches, no_branch, branch, branch_at, takes_part_among}
+use Rattle.pb_core_language.specs.FlatOf.{rank_of, flat_branches}
+use Rattle.pb_core_language.specs.Outcomes.{firsts, labels_of, is_among}
+use Rattle.pb_core_language.specs.Plain.{Protocol}
+use Rattle.pb_core_language.specs.Sound.{rows_of, is_end, is_over_n, is_small, are_branches}
+use Rattle.pb_core_language.specs.Tree as T
+use Rattle.pb_core_language.specs.Tree.{Mark, StmtTree, BlockTree, BranchTrees}
+use Rattle.pb_core_language.specs.Verdict.{IsIn}
+use Rattle.pb_part_firsts.specs.Takers.{IsWhole}
+use Rattle.pb_core_flat.specs.Seated.{rank, is_rank}
+use Rattle.pb_core_flat.proofs.OutcomesAdd.{bystander_finds}
 use Rattle.pb_local.specs.declared.stmt.Relay.{Relay}
 use Rattle.pb_local.specs.declared.stmt.Test.{Test}
 use Rattle.pb_local.specs.Tree as L
 use Rattle.pb_local.specs.Tree.{Code, Codes, Parts, Program, nothing, more, no_part, part, size, size_all}
 use Rattle.pb_local.specs.WellMade.{IsMade, AreMade, IsChoice, IsToldIf, IsTest, loops_at, loops_in, loops_among, count_parts}
-use Rattle.pb_part.specs.Loops.{HeldFit}
-use Rattle.pb_piece.specs.Ones.{end_guard, only_when}
-use Rattle.pb_piece.specs.Ranked.{IsThere}
-use Rattle.pb_piece.specs.Standing.{IsOpen}
-use Rattle.pb_piece.proofs.Ones.{guard_holds}
+use Rattle.pb_part_takers.specs.Loops.{HeldFit}
+use Rattle.pb_project_piece.specs.Ones.{end_guard, only_when}
+use Rattle.pb_project_piece.specs.Ranked.{IsThere}
+use Rattle.pb_project_piece.specs.Standing.{IsOpen}
+use Rattle.pb_project_piece.proofs.Ones.{guard_holds}
 use Rattle.pb_shape.specs.Shape as S
 use Rattle.pb_shape.specs.Shape.{Scope, Here, Around, Shapes, Nobody, Tests, Relays, alone, everyone, everywhere, takers, scope_of, inside, is_told, peer_of, told_by}
 use Rattle.pb_shape.specs.Sizes.{braces, braces_all}
@@ -39,7 +39,7 @@ use Rattle.pb_shape.specs.Tabled.{count}
 use Rattle.pb_syntax.specs.declared.core_label.CoreKernel.{CoreKernel}
 use Rattle.pb_syntax.specs.declared.core_label.KernelKind.{KernelKind}
 use Rattle.pb_syntax.specs.declared.core_label.KernelKind.TheVariants.{Compute}
-use Rattle.pb_tell.specs.Found.{IsFoundIn}
+use Rattle.pb_project_choice.specs.Found.{IsFoundIn}
 use Rattle.pb_project.specs.Blocks.{behind, IsStmtOf, IsChoiceOf}
 use Rattle.pb_project.specs.Places.{Known, IsPlace, IsGoodStmt}
 use Rattle.pb_project.specs.Takers.{AreTakers}

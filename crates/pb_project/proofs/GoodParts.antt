@@ -7,21 +7,21 @@ use Rattle.pb_choice.specs.Flaws.{fits_of}
 use Rattle.pb_choice.specs.Scenes.{AreFair}
 use Rattle.pb_choice.proofs.Fairs.{goes_if, fair_first, fair_rest, fair_body, fair_branches, fair_branch, fair_others}
 use Rattle.pb_choice.proofs.Origins.{none_left, none_right}
-use Rattle.pb_core.specs.declared.tree.CoreEnd.{CoreEnd}
-use Rattle.pb_core.specs.Cuts.{stmt_cuts, block_cuts, branches_cuts, end_cuts}
-use Rattle.pb_core.specs.Flat.{stop, takes_part_among}
-use Rattle.pb_core.specs.FlatOf.{rank_of, flat_stmt, flat_block, flat_branches}
-use Rattle.pb_core.specs.Outcomes.{Outcome, firsts}
-use Rattle.pb_core.specs.Plain.{Protocol}
-use Rattle.pb_core.specs.Rules.{misfits, misfits_among}
-use Rattle.pb_core.specs.Sound.{rows_of, is_item, is_end, is_stmt, is_block}
-use Rattle.pb_core.specs.Tree.{Mark, StmtTree, message, foreach, loop, again, choice, run, barrier, broadcast, reduce, allreduce, BlockTree, more, BranchTrees, no_branch, branch}
-use Rattle.pb_core.specs.Verdict.{IsIn}
-use Rattle.pb_flat.specs.GoesOn.{is_again}
-use Rattle.pb_flat.specs.Seated.{rank, is_rank}
-use Rattle.pb_flat.proofs.BreachesAdd.{misfits_one_by_one}
-use Rattle.pb_part.specs.Pieces.{AreAmong}
-use Rattle.pb_part.proofs.Among.{among_left, among_right}
+use Rattle.pb_core_language.specs.declared.tree.CoreEnd.{CoreEnd}
+use Rattle.pb_core_language.specs.Cuts.{stmt_cuts, block_cuts, branches_cuts, end_cuts}
+use Rattle.pb_core_language.specs.Flat.{stop, takes_part_among}
+use Rattle.pb_core_language.specs.FlatOf.{rank_of, flat_stmt, flat_block, flat_branches}
+use Rattle.pb_core_language.specs.Outcomes.{Outcome, firsts}
+use Rattle.pb_core_language.specs.Plain.{Protocol}
+use Rattle.pb_core_language.specs.Rules.{misfits, misfits_among}
+use Rattle.pb_core_language.specs.Sound.{rows_of, is_item, is_end, is_stmt, is_block}
+use Rattle.pb_core_language.specs.Tree.{Mark, StmtTree, message, foreach, loop, again, choice, run, barrier, broadcast, reduce, allreduce, BlockTree, more, BranchTrees, no_branch, branch}
+use Rattle.pb_core_language.specs.Verdict.{IsIn}
+use Rattle.pb_core_flat.specs.GoesOn.{is_again}
+use Rattle.pb_core_flat.specs.Seated.{rank, is_rank}
+use Rattle.pb_core_flat.proofs.BreachesAdd.{misfits_one_by_one}
+use Rattle.pb_part_takers.specs.Pieces.{AreAmong}
+use Rattle.pb_part_takers.proofs.Among.{among_left, among_right}
 use Rattle.pb_shape.specs.Shape.{Around, scope_of, in_loop}
 use Rattle.pb_shape.specs.Tabled.{GoAmong}
 use Rattle.pb_project.specs.Places.{IsGoodStmt, IsGood, AreGood}

@@ -5,25 +5,25 @@ use Rattle.std.proofs.lemmas.Bool.{false≢true}
 use Rattle.pb_affine.specs.declared.guard.Guard.{Guard}
 use Rattle.pb_affine.specs.declared.lin.Lin.{Lin}
 use Rattle.pb_affine.specs.Values.{hold}
-use Rattle.pb_area.specs.declared.area.Area.{Area}
-use Rattle.pb_area.specs.Areas.{have}
-use Rattle.pb_area.specs.Fits.{Fits}
-use Rattle.pb_core.specs.declared.protocol.CoreRole.{CoreRole}
-use Rattle.pb_core.specs.Flat.{stop, takes_part}
-use Rattle.pb_core.specs.FlatOf.{flat_stmt}
-use Rattle.pb_core.specs.Plain.{Protocol}
-use Rattle.pb_core.specs.Sound.{rows_of, is_stmt}
-use Rattle.pb_core.specs.Tree.{Mark, StmtTree}
-use Rattle.pb_core.specs.Verdict.{IsIn}
-use Rattle.pb_flat.specs.Seated.{rank, is_rank}
+use Rattle.pb_part_areas.specs.declared.area.Area.{Area}
+use Rattle.pb_part_areas.specs.Areas.{have}
+use Rattle.pb_part_areas.specs.Fits.{Fits}
+use Rattle.pb_core_language.specs.declared.protocol.CoreRole.{CoreRole}
+use Rattle.pb_core_language.specs.Flat.{stop, takes_part}
+use Rattle.pb_core_language.specs.FlatOf.{flat_stmt}
+use Rattle.pb_core_language.specs.Plain.{Protocol}
+use Rattle.pb_core_language.specs.Sound.{rows_of, is_stmt}
+use Rattle.pb_core_language.specs.Tree.{Mark, StmtTree}
+use Rattle.pb_core_language.specs.Verdict.{IsIn}
+use Rattle.pb_core_flat.specs.Seated.{rank, is_rank}
 use Rattle.pb_local.specs.Tree.{Program}
 use Rattle.pb_local.specs.WellMade.{AreGuards, IsGuard, IsRange}
 use Rattle.pb_affine.specs.declared.range.NRange.{NRange}
-use Rattle.pb_part.specs.Loops.{ids_of, held_of}
-use Rattle.pb_piece.specs.Ranked.{Ranked, IsThere}
-use Rattle.pb_piece.specs.Standing.{IsOpen}
+use Rattle.pb_part_takers.specs.Loops.{ids_of, held_of}
+use Rattle.pb_project_piece.specs.Ranked.{Ranked, IsThere}
+use Rattle.pb_project_piece.specs.Standing.{IsOpen}
 use Rattle.pb_shape.specs.Shape.{Here, Around, Names, Somebody, Nobody, takers, scope_of, inside, everyone}
-use Rattle.pb_tell.specs.Sayable.{AreSayable}
+use Rattle.pb_project_choice.specs.Sayable.{AreSayable}
 use Rattle.pb_project.specs.Places.{Known, IsPlace, IsGoodStmt}
 use Rattle.pb_project.specs.Takers.{AreTakers}
 

@@ -2,19 +2,19 @@
 use Rattle.std.proofs.Common.{◌≡◌, ◌≤◌, ◌+◌, ◌*◌, ℕ, suc, ℤ, pos, max, Bool, true, false, ◌||◌, List, [], ◌∷◌, refl, sym, ap, ◌∙◌, subst, arith}
 use Rattle.pb_affine.specs.declared.guard.Guard.{Guard}
 use Rattle.pb_affine.specs.declared.lin.Lin.{Lin}
-use Rattle.pb_area.specs.declared.area.Area.{Area}
-use Rattle.pb_core.specs.Parts.{is_in_body}
-use Rattle.pb_core.specs.Plain.{Protocol}
-use Rattle.pb_core.specs.Tree as T
-use Rattle.pb_core.specs.Tree.{Mark, StmtTree, BlockTree}
-use Rattle.pb_flat.specs.Seated.{rank}
+use Rattle.pb_part_areas.specs.declared.area.Area.{Area}
+use Rattle.pb_core_language.specs.Parts.{is_in_body}
+use Rattle.pb_core_language.specs.Plain.{Protocol}
+use Rattle.pb_core_language.specs.Tree as T
+use Rattle.pb_core_language.specs.Tree.{Mark, StmtTree, BlockTree}
+use Rattle.pb_core_flat.specs.Seated.{rank}
 use Rattle.pb_local.specs.Tree.{Code, Program, nothing}
 use Rattle.pb_local.specs.WellMade.{AreMade, loops_in}
-use Rattle.pb_part.specs.declared.held.Held.{Held}
-use Rattle.pb_part.specs.Loops.{IsInside, held_of}
-use Rattle.pb_piece.specs.Ones.{only_when}
-use Rattle.pb_piece.specs.Ranked.{IsThere}
-use Rattle.pb_piece.specs.Standing.{IsOpen}
+use Rattle.pb_part_takers.specs.declared.held.Held.{Held}
+use Rattle.pb_part_takers.specs.Loops.{IsInside, held_of}
+use Rattle.pb_project_piece.specs.Ones.{only_when}
+use Rattle.pb_project_piece.specs.Ranked.{IsThere}
+use Rattle.pb_project_piece.specs.Standing.{IsOpen}
 use Rattle.pb_shape.specs.Shape as S
 use Rattle.pb_shape.specs.Shape.{Here, Around, Shape, One, alone, takers, scope_of, inside, in_loop}
 use Rattle.pb_project.specs.Blocks.{behind, entered, IsStmtOf, IsLoopOf}

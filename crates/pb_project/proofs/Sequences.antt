@@ -3,21 +3,21 @@ use Rattle.std.proofs.Common.{◌≡◌, ◌<◌, ◌≤◌, ◌+◌, ◌*◌, �
 use Rattle.std.specs.declared.alloc.Global.{Global}
 use Rattle.std.specs.List.{list_any, Contains}
 use Rattle.std.proofs.lemmas.List.{map-append}
-use Rattle.pb_core.specs.declared.tree.CoreBlock.{CoreBlock, out-CoreBlock}
-use Rattle.pb_core.specs.declared.tree.CoreStmt.{CoreStmt}
-use Rattle.pb_core.specs.FlatOf.{between}
-use Rattle.pb_core.specs.Plain.{plain_stmt, plain_block, block_of, branches_of}
-use Rattle.pb_core.specs.Tree as T
-use Rattle.pb_core.specs.Tree.{Mark, StmtTree, message, foreach, loop, again, choice, run, barrier, broadcast, reduce, allreduce, BlockTree, BranchTrees}
+use Rattle.pb_core_language.specs.declared.tree.CoreBlock.{CoreBlock, out-CoreBlock}
+use Rattle.pb_core_language.specs.declared.tree.CoreStmt.{CoreStmt}
+use Rattle.pb_core_language.specs.FlatOf.{between}
+use Rattle.pb_core_language.specs.Plain.{plain_stmt, plain_block, block_of, branches_of}
+use Rattle.pb_core_language.specs.Tree as T
+use Rattle.pb_core_language.specs.Tree.{Mark, StmtTree, message, foreach, loop, again, choice, run, barrier, broadcast, reduce, allreduce, BlockTree, BranchTrees}
 use Rattle.pb_local.specs.declared.stmt.Stmt.{Stmt}
 use Rattle.pb_local.specs.Tree as L
 use Rattle.pb_local.specs.WellMade.{ArePartsMade}
 use Rattle.pb_local.specs.Tree.{Code, Codes, Parts, part, no_part, nothing, more, plain, plain_all}
-use Rattle.pb_part.specs.Loops.{ids_of}
-use Rattle.pb_part.proofs.HeldLoops.{from_place}
-use Rattle.pb_part.proofs.Plains.{plain_list}
-use Rattle.pb_piece.specs.Adding.{onto, Added}
-use Rattle.pb_piece.proofs.Added.{onto_append, onto_nothing}
+use Rattle.pb_part_takers.specs.Loops.{ids_of}
+use Rattle.pb_part_takers.proofs.HeldLoops.{from_place}
+use Rattle.pb_part_takers.proofs.Plains.{plain_list}
+use Rattle.pb_project_piece.specs.Adding.{onto, Added}
+use Rattle.pb_project_piece.proofs.Added.{onto_append, onto_nothing}
 use Rattle.pb_rules.proofs.Lists.{Has, contains}
 use Rattle.pb_shape.specs.Shape as S
 use Rattle.pb_shape.specs.Shape.{alone, number_at, Around, scope_of}

@@ -4,17 +4,17 @@ use Rattle.pb_affine.specs.declared.lin.Lin.{Lin}
 use Rattle.pb_choice.specs.declared.rule.ChoiceRule.TheVariants.{OneSource as FromOne}
 use Rattle.pb_choice.specs.Flaws.{fits_of}
 use Rattle.pb_choice.proofs.Origins.{none_left, none_right}
-use Rattle.pb_core.specs.declared.tree.CoreEnd.{CoreEnd}
-use Rattle.pb_core.specs.Flat.{Branches, no_branch, branch, takes_part_among}
-use Rattle.pb_core.specs.FlatOf.{flat_branches}
-use Rattle.pb_core.specs.Outcomes.{Outcome, firsts, firsts_among, comes_from_one}
-use Rattle.pb_core.specs.Plain.{Protocol}
-use Rattle.pb_core.specs.Rules.{misfits, misfits_among}
-use Rattle.pb_core.specs.Tree.{Mark, choice, BranchTrees}
-use Rattle.pb_flat.specs.Seated.{rank, is_rank, is_at}
-use Rattle.pb_flat.proofs.Seats.{end_is_at}
+use Rattle.pb_core_language.specs.declared.tree.CoreEnd.{CoreEnd}
+use Rattle.pb_core_language.specs.Flat.{Branches, no_branch, branch, takes_part_among}
+use Rattle.pb_core_language.specs.FlatOf.{flat_branches}
+use Rattle.pb_core_language.specs.Outcomes.{Outcome, firsts, firsts_among, comes_from_one}
+use Rattle.pb_core_language.specs.Plain.{Protocol}
+use Rattle.pb_core_language.specs.Rules.{misfits, misfits_among}
+use Rattle.pb_core_language.specs.Tree.{Mark, choice, BranchTrees}
+use Rattle.pb_core_flat.specs.Seated.{rank, is_rank, is_at}
+use Rattle.pb_core_flat.proofs.Seats.{end_is_at}
 use Rattle.pb_shape.specs.Shape.{Around, scope_of}
-use Rattle.pb_tell.specs.Sources.{OneSource}
+use Rattle.pb_project_choice.specs.Sources.{OneSource}
 use Rattle.pb_project.specs.Places.{IsGoodStmt}
 use Rattle.pb_project.proofs.GoodParts.{is_told_at, choice_keeps, good_choice}
 

@@ -4,12 +4,12 @@ use Rattle.std.specs.List.{All}
 use Rattle.std.proofs.lemmas.List.Elements.{All-nil}
 use Rattle.pb_affine.specs.declared.lin.Lin.{Lin}
 use Rattle.pb_affine.specs.declared.range.NRange.{NRange}
-use Rattle.pb_area.specs.declared.area.Area.{Area}
-use Rattle.pb_area.specs.Areas.{have}
-use Rattle.pb_area.specs.Fits.{Fits}
-use Rattle.pb_core.specs.Plain.{MarkedStmt}
-use Rattle.pb_part.specs.declared.held.Held.{Held}
-use Rattle.pb_part.specs.Pieces.{IsAdded, stmt_piece}
+use Rattle.pb_part_areas.specs.declared.area.Area.{Area}
+use Rattle.pb_part_areas.specs.Areas.{have}
+use Rattle.pb_part_areas.specs.Fits.{Fits}
+use Rattle.pb_core_language.specs.Plain.{MarkedStmt}
+use Rattle.pb_part_takers.specs.declared.held.Held.{Held}
+use Rattle.pb_part_takers.specs.Pieces.{IsAdded, stmt_piece}
 use Rattle.pb_project.specs.Takers.{AreTakers}
 
 and_true : (a : Bool) → a && true ≡ a

@@ -6,19 +6,19 @@ use Rattle.pb_choice.specs.declared.rule.ChoiceRule.{ChoiceRule}
 use Rattle.pb_choice.specs.Flaws.{fits_of, number_of, misled}
 use Rattle.pb_choice.proofs.Leasts.{to_range}
 use Rattle.pb_choice.proofs.Tops.{goes, none_strays}
-use Rattle.pb_core.specs.Cuts.{cuts, role_cuts, block_cuts}
-use Rattle.pb_core.specs.Plain.{Protocol}
-use Rattle.pb_core.specs.Rules.{misfits, flat_at, ranked}
-use Rattle.pb_core.specs.Sound.{is_range, are_roles, is_block, rows_of, is_sound}
-use Rattle.pb_core.specs.Verdict.{IsIn, KeepsAll}
-use Rattle.pb_flat.specs.Seated.{rank, is_rank}
+use Rattle.pb_core_language.specs.Cuts.{cuts, role_cuts, block_cuts}
+use Rattle.pb_core_language.specs.Plain.{Protocol}
+use Rattle.pb_core_language.specs.Rules.{misfits, flat_at, ranked}
+use Rattle.pb_core_language.specs.Sound.{is_range, are_roles, is_block, rows_of, is_sound}
+use Rattle.pb_core_language.specs.Verdict.{IsIn, KeepsAll}
+use Rattle.pb_core_flat.specs.Seated.{rank, is_rank}
 use Rattle.std.specs.Prelude.{IsTrue}
 use Rattle.pb_local.specs.Names.{is_name}
 use Rattle.pb_local.specs.Tree.{Codes, Program}
 use Rattle.pb_local.specs.WellMade as W
 use Rattle.pb_local.specs.WellMade.{IsWellMade, AreMade, AreRoles, IsRange, AreLabels, AreKernels}
-use Rattle.pb_part.proofs.Among.{among_left, among_right}
-use Rattle.pb_part.proofs.Finds.{among_itself}
+use Rattle.pb_part_takers.proofs.Among.{among_left, among_right}
+use Rattle.pb_part_takers.proofs.Finds.{among_itself}
 use Rattle.pb_rules.proofs.CutSets.{nothing_listed}
 use Rattle.pb_rules.proofs.CutsSound.{are_all}
 use Rattle.pb_rules.proofs.Lists.{Has, contains}

@@ -4,26 +4,26 @@ use Rattle.std.specs.declared.alloc.Global.{Global}
 use Rattle.pb_affine.specs.declared.range.NRange.{NRange}
 use Rattle.pb_local.specs.declared.stmt.Stmt.{Stmt}
 use Rattle.pb_affine.specs.declared.lin.Lin.{Lin}
-use Rattle.pb_area.specs.declared.area.Area.{Area}
-use Rattle.pb_core.specs.Plain.{Protocol}
-use Rattle.pb_core.specs.declared.tree.CoreEnd.{CoreEnd}
-use Rattle.pb_core.specs.Tree as T
-use Rattle.pb_core.specs.Tree.{Mark, StmtTree, BlockTree, BranchTrees}
+use Rattle.pb_part_areas.specs.declared.area.Area.{Area}
+use Rattle.pb_core_language.specs.Plain.{Protocol}
+use Rattle.pb_core_language.specs.declared.tree.CoreEnd.{CoreEnd}
+use Rattle.pb_core_language.specs.Tree as T
+use Rattle.pb_core_language.specs.Tree.{Mark, StmtTree, BlockTree, BranchTrees}
 use Rattle.pb_local.specs.Tree as L
 use Rattle.pb_local.specs.Tree.{Code, Codes, Parts, Program, plain, parts_of, size_all, size_parts}
 use Rattle.pb_local.specs.WellMade as W
 use Rattle.pb_local.specs.WellMade.{AreMade, ArePartsMade, loops_in, loops_among, count_parts}
-use Rattle.pb_part.specs.declared.held.Held.{Held}
-use Rattle.pb_part.specs.Loops.{IsInside}
-use Rattle.pb_piece.specs.Adding.{onto}
-use Rattle.pb_piece.specs.Ones.{end_guard}
-use Rattle.pb_piece.specs.Standing.{IsOpen}
+use Rattle.pb_part_takers.specs.declared.held.Held.{Held}
+use Rattle.pb_part_takers.specs.Loops.{IsInside}
+use Rattle.pb_project_piece.specs.Adding.{onto}
+use Rattle.pb_project_piece.specs.Ones.{end_guard}
+use Rattle.pb_project_piece.specs.Standing.{IsOpen}
 use Rattle.pb_shape.specs.Shape.{Here, Around, scope_of, peer_of, told_by, Shape, Shapes}
 use Rattle.pb_shape.specs.Sizes.{room, room_all, room_among, depth, depth_all, depth_among, braces_all, braces_among}
 use Rattle.pb_shape.specs.Tabled.{count}
 use Rattle.pb_local.specs.declared.stmt.Relay.{Relay}
 use Rattle.pb_local.specs.declared.stmt.Test.{Test}
-use Rattle.pb_tell.specs.declared.entries.Branch.{Branch}
+use Rattle.pb_project_choice.specs.declared.entries.Branch.{Branch}
 use Rattle.pb_project.specs.Learning.{AreFound, AreTests, AreRelays}
 use Rattle.pb_project.specs.Places.{Known, IsPlace, IsGoodStmt, IsGood, AreGood}
 

@@ -3,26 +3,26 @@ use Rattle.std.specs.Prelude.{◌≡◌, ◌≤◌, ℕ, true, List, [], None, l
 use Rattle.std.specs.List.{All}
 use Rattle.pb_affine.specs.declared.lin.Lin.{Lin}
 use Rattle.pb_affine.specs.declared.range.NRange.{NRange}
-use Rattle.pb_area.specs.declared.area.Area.{Area}
-use Rattle.pb_area.specs.Fits.{Fits}
+use Rattle.pb_part_areas.specs.declared.area.Area.{Area}
+use Rattle.pb_part_areas.specs.Fits.{Fits}
 use Rattle.pb_cases.specs.Breakpoints.{IsCut}
-use Rattle.pb_core.specs.declared.tree.CoreEnd.{CoreEnd}
-use Rattle.pb_core.specs.Cuts.{branches_cuts}
-use Rattle.pb_core.specs.Sound.{Rows, are_branches, is_small}
-use Rattle.pb_core.specs.Tree.{BranchTrees}
-use Rattle.pb_first.specs.Takers.{IsWhole}
+use Rattle.pb_core_language.specs.declared.tree.CoreEnd.{CoreEnd}
+use Rattle.pb_core_language.specs.Cuts.{branches_cuts}
+use Rattle.pb_core_language.specs.Sound.{Rows, are_branches, is_small}
+use Rattle.pb_core_language.specs.Tree.{BranchTrees}
+use Rattle.pb_part_firsts.specs.Takers.{IsWhole}
 use Rattle.pb_local.specs.declared.stmt.Relay.{Relay}
 use Rattle.pb_local.specs.declared.stmt.Test.{Test}
 use Rattle.pb_local.specs.Tree.{Program}
 use Rattle.pb_local.specs.WellMade.{IsRange, IsTest, IsRelay, Ascend}
-use Rattle.pb_part.specs.declared.held.Held.{Held}
-use Rattle.pb_part.specs.Loops.{ids_of, HeldFit}
-use Rattle.pb_part.specs.Pieces.{AreAmong}
-use Rattle.pb_piece.specs.Standing.{Stands, IsOpen}
+use Rattle.pb_part_takers.specs.declared.held.Held.{Held}
+use Rattle.pb_part_takers.specs.Loops.{ids_of, HeldFit}
+use Rattle.pb_part_takers.specs.Pieces.{AreAmong}
+use Rattle.pb_project_piece.specs.Standing.{Stands, IsOpen}
 use Rattle.pb_shape.specs.Shape.{Scope, Here, Around, Tests, Relays}
-use Rattle.pb_tell.specs.declared.entries.Branch.{Branch}
-use Rattle.pb_tell.specs.Found.{IsAround, IsFoundIn}
-use Rattle.pb_tell.specs.Sources.{OneSource}
+use Rattle.pb_project_choice.specs.declared.entries.Branch.{Branch}
+use Rattle.pb_project_choice.specs.Found.{IsAround, IsFoundIn}
+use Rattle.pb_project_choice.specs.Sources.{OneSource}
 
 pub record AreFound (whole : List Area) (held : List Held) (bs : BranchTrees) (found : List Branch) : Type 0 where
   pub is : (sc : Scope) (a : Around) (rows : Rows) (cuts : List Lin) → IsWhole sc.range sc.roles whole → IsAround sc a held → are_branches rows (ids_of held) bs ≡ true → AreAmong (branches_cuts None bs) cuts →

@@ -3,31 +3,31 @@ use Rattle.std.specs.Prelude.{◌≡◌, ℕ, ℤ, pos, true, List, [], length, 
 use Rattle.std.specs.List.{All}
 use Rattle.pb_affine.specs.declared.lin.Lin.{Lin}
 use Rattle.pb_affine.specs.declared.range.NRange.{NRange}
-use Rattle.pb_area.specs.declared.area.Area.{Area}
-use Rattle.pb_area.specs.Fits.{Fits}
+use Rattle.pb_part_areas.specs.declared.area.Area.{Area}
+use Rattle.pb_part_areas.specs.Fits.{Fits}
 use Rattle.pb_cases.specs.Breakpoints.{IsCut}
 use Rattle.pb_choice.specs.declared.rule.ChoiceRule.{ChoiceRule}
 use Rattle.pb_choice.specs.Flaws.{fits_of}
 use Rattle.pb_choice.specs.Scenes.{IsFairStmt, IsFair}
-use Rattle.pb_core.specs.Cuts.{stmt_cuts, block_cuts}
-use Rattle.pb_core.specs.Flat.{stop}
-use Rattle.pb_core.specs.FlatOf.{flat_stmt, flat_block}
-use Rattle.pb_core.specs.Plain.{Protocol}
-use Rattle.pb_core.specs.Rules.{misfits}
-use Rattle.pb_core.specs.Sound.{rows_of}
-use Rattle.pb_core.specs.Tree.{Mark, StmtTree, BlockTree, BranchTrees, no_branch, branch}
-use Rattle.pb_core.specs.Verdict.{IsIn}
-use Rattle.pb_flat.specs.Seated.{rank, is_rank}
+use Rattle.pb_core_language.specs.Cuts.{stmt_cuts, block_cuts}
+use Rattle.pb_core_language.specs.Flat.{stop}
+use Rattle.pb_core_language.specs.FlatOf.{flat_stmt, flat_block}
+use Rattle.pb_core_language.specs.Plain.{Protocol}
+use Rattle.pb_core_language.specs.Rules.{misfits}
+use Rattle.pb_core_language.specs.Sound.{rows_of}
+use Rattle.pb_core_language.specs.Tree.{Mark, StmtTree, BlockTree, BranchTrees, no_branch, branch}
+use Rattle.pb_core_language.specs.Verdict.{IsIn}
+use Rattle.pb_core_flat.specs.Seated.{rank, is_rank}
 use Rattle.pb_local.specs.Tree.{Program}
 use Rattle.pb_local.specs.WellMade.{IsRange}
-use Rattle.pb_part.specs.declared.held.Held.{Held}
-use Rattle.pb_part.specs.Loops.{HeldFit}
-use Rattle.pb_part.specs.Pieces.{AreAmong}
-use Rattle.pb_piece.specs.Pieces.{IsTabledAs}
-use Rattle.pb_piece.specs.Standing.{Stands}
+use Rattle.pb_part_takers.specs.declared.held.Held.{Held}
+use Rattle.pb_part_takers.specs.Loops.{HeldFit}
+use Rattle.pb_part_takers.specs.Pieces.{AreAmong}
+use Rattle.pb_project_piece.specs.Pieces.{IsTabledAs}
+use Rattle.pb_project_piece.specs.Standing.{Stands}
 use Rattle.pb_shape.specs.Shape.{Around, scope_of}
 use Rattle.pb_shape.specs.Tabled.{Goes, GoAll}
-use Rattle.pb_tell.specs.Found.{IsAround}
+use Rattle.pb_project_choice.specs.Found.{IsAround}
 
 -- what the program knows where the walk stands
 pub record Known : Type 0 where

@@ -3,19 +3,19 @@ use Rattle.std.specs.Prelude.{◌≡◌, ℕ, ℤ, pos, true, false, Option, Som
 use Rattle.std.specs.List.{All}
 use Rattle.pb_affine.specs.declared.lin.Lin.{Lin}
 use Rattle.pb_affine.specs.declared.range.NRange.{NRange}
-use Rattle.pb_area.specs.declared.area.Area.{Area}
-use Rattle.pb_area.specs.Areas.{have}
-use Rattle.pb_area.specs.Fits.{Fits}
-use Rattle.pb_core.specs.declared.protocol.CoreRole.{CoreRole}
-use Rattle.pb_core.specs.Cuts.{stmt_cuts}
-use Rattle.pb_core.specs.Flat.{stop, takes_part}
-use Rattle.pb_core.specs.FlatOf.{flat_stmt}
-use Rattle.pb_core.specs.Sound.{Rows, is_stmt}
-use Rattle.pb_core.specs.Tree.{Mark, StmtTree, message, foreach, loop, again, choice, run, barrier, broadcast, reduce, allreduce}
-use Rattle.pb_flat.specs.Seated.{rank, is_rank}
-use Rattle.pb_part.specs.declared.held.Held.{Held}
-use Rattle.pb_part.specs.Loops.{ids_of, held_of, HeldFit}
-use Rattle.pb_part.specs.Pieces.{AreAmong}
+use Rattle.pb_part_areas.specs.declared.area.Area.{Area}
+use Rattle.pb_part_areas.specs.Areas.{have}
+use Rattle.pb_part_areas.specs.Fits.{Fits}
+use Rattle.pb_core_language.specs.declared.protocol.CoreRole.{CoreRole}
+use Rattle.pb_core_language.specs.Cuts.{stmt_cuts}
+use Rattle.pb_core_language.specs.Flat.{stop, takes_part}
+use Rattle.pb_core_language.specs.FlatOf.{flat_stmt}
+use Rattle.pb_core_language.specs.Sound.{Rows, is_stmt}
+use Rattle.pb_core_language.specs.Tree.{Mark, StmtTree, message, foreach, loop, again, choice, run, barrier, broadcast, reduce, allreduce}
+use Rattle.pb_core_flat.specs.Seated.{rank, is_rank}
+use Rattle.pb_part_takers.specs.declared.held.Held.{Held}
+use Rattle.pb_part_takers.specs.Loops.{ids_of, held_of, HeldFit}
+use Rattle.pb_part_takers.specs.Pieces.{AreAmong}
 
 -- of the ranks the areas hold of those that take part in the statement
 pub record AreTakers (whole : List Area) (held : List Held) (m : Mark) (s : StmtTree) (areas : List Area) : Type 0 where

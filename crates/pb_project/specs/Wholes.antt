@@ -2,16 +2,16 @@
 use Rattle.std.specs.Prelude.{◌≡◌, ℕ, ℤ, true, List, [], length, map}
 use Rattle.std.specs.List.{All}
 use Rattle.pb_affine.specs.declared.lin.Lin.{Lin}
-use Rattle.pb_area.specs.declared.area.Area.{Area}
-use Rattle.pb_area.specs.Areas.{have}
-use Rattle.pb_area.specs.Fits.{Fits}
+use Rattle.pb_part_areas.specs.declared.area.Area.{Area}
+use Rattle.pb_part_areas.specs.Areas.{have}
+use Rattle.pb_part_areas.specs.Fits.{Fits}
 use Rattle.pb_cases.specs.Breakpoints.{IsInRange}
-use Rattle.pb_core.specs.Cuts.{role_cuts}
-use Rattle.pb_core.specs.Plain.{Protocol}
-use Rattle.pb_core.specs.Sound.{are_roles}
-use Rattle.pb_flat.specs.Seated.{is_rank}
+use Rattle.pb_core_language.specs.Cuts.{role_cuts}
+use Rattle.pb_core_language.specs.Plain.{Protocol}
+use Rattle.pb_core_language.specs.Sound.{are_roles}
+use Rattle.pb_core_flat.specs.Seated.{is_rank}
 use Rattle.pb_local.specs.Tree.{Codes, Program}
-use Rattle.pb_part.specs.Pieces.{AreAmong}
+use Rattle.pb_part_takers.specs.Pieces.{AreAmong}
 use Rattle.pb_shape.specs.Shape.{role_of}
 use Rattle.pb_project.specs.Blocks.{known, IsBlockOf}
 

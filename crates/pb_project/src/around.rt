@@ -1,4 +1,4 @@
-use pb_part::Held;
+use pb_part_takers::Held;
 
 /// The loops around a statement, the innermost first: who takes part in each, and their numbers in the text.
 #[derive(Clone, Copy)]

@@ -1,8 +1,8 @@
 ghost use Rattle.std.specs.Prelude.{◌≡◌, ℕ, map, IfOk, OnOk, None};
-ghost use Rattle.pb_core.specs.Plain.{plain_block, plain_stmt, branches_of};
-ghost use Rattle.pb_core.specs.Tree.{Mark, loop, choice};
+ghost use Rattle.pb_core_language.specs.Plain.{plain_block, plain_stmt, branches_of};
+ghost use Rattle.pb_core_language.specs.Tree.{Mark, loop, choice};
 ghost use Rattle.pb_local.specs.Tree.{plain, plain_all};
-ghost use Rattle.pb_piece.specs.Adding.{Added};
+ghost use Rattle.pb_project_piece.specs.Adding.{Added};
 ghost use Rattle.pb_project.specs.Blocks.{IsStmtOf, IsBlockOf, ArePartsOf, IsLoopOf, IsChoiceOf, known, parts_now};
 ghost use Rattle.pb_project.specs.Takers.{AreTakers, back_to};
 
@@ -11,12 +11,12 @@ use crate::continues::{again, loop_of_continue};
 use crate::numbers::{inside, next};
 use crate::takers::takers_of;
 use crate::told::told_choice;
-use pb_area::Area;
-use pb_core::{CoreBlock, CoreEnd, CoreKind, CoreStmt};
+use pb_core_language::{CoreBlock, CoreEnd, CoreKind, CoreStmt};
 use pb_local::Stmt;
-use pb_part::with_loop;
-use pb_piece::{Setting, is_somebody, put_one, put_piece, when};
-use pb_tell::{branches_of, guards_in, relays_of, tests_of};
+use pb_part_areas::Area;
+use pb_part_takers::with_loop;
+use pb_project_choice::{branches_of, guards_in, relays_of, tests_of};
+use pb_project_piece::{Setting, is_somebody, put_one, put_piece, when};
 use pb_text::NoMemory;
 use std::alloc::Global;
 

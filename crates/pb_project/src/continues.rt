@@ -1,16 +1,16 @@
 ghost use Rattle.std.specs.Prelude.{◌≡◌, get_or};
-ghost use Rattle.pb_core.specs.FlatOf.{between};
-ghost use Rattle.pb_core.specs.Plain.{plain_stmt};
+ghost use Rattle.pb_core_language.specs.FlatOf.{between};
+ghost use Rattle.pb_core_language.specs.Plain.{plain_stmt};
 ghost use Rattle.pb_local.specs.Tree as L;
 ghost use Rattle.pb_local.specs.Tree.{plain};
-ghost use Rattle.pb_part.specs.Loops.{ids_of};
+ghost use Rattle.pb_part_takers.specs.Loops.{ids_of};
 ghost use Rattle.pb_shape.specs.Shape.{number_at};
 ghost use Rattle.pb_project.specs.Takers.{back_to};
 
 use crate::around::Around;
-use pb_core::{CoreKind, CoreStmt};
+use pb_core_language::{CoreKind, CoreStmt};
 use pb_local::Stmt;
-use pb_part::Held;
+use pb_part_takers::Held;
 
 /// The loop to which a continue goes back; none of another statement.
 pub fn loop_of_continue(stmt: &CoreStmt) -> Option<u32>

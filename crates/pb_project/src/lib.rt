@@ -12,6 +12,6 @@ mod tests;
 mod told;
 
 pub use local::project;
-pub use pb_core::Core;
+pub use pb_core_language::Core;
 pub use pb_local::Local;
 pub use pb_text::NoMemory;

@@ -1,7 +1,7 @@
 ghost use Rattle.std.specs.Prelude.{◌≡◌, ◌≤◌, ◌+◌, ◌*◌, true, length, map, IfOk};
-ghost use Rattle.pb_core.specs.Plain.{plain};
-ghost use Rattle.pb_core.specs.Sound.{is_sound};
-ghost use Rattle.pb_core.specs.Verdict.{KeepsAll};
+ghost use Rattle.pb_core_language.specs.Plain.{plain};
+ghost use Rattle.pb_core_language.specs.Sound.{is_sound};
+ghost use Rattle.pb_core_language.specs.Verdict.{KeepsAll};
 ghost use Rattle.pb_local.specs.Tree.{plain_all, program_of, size_all};
 ghost use Rattle.pb_local.specs.WellMade.{IsWellMade};
 ghost use Rattle.pb_shape.specs.Shape.{role_of, HasShape};
@@ -11,10 +11,10 @@ ghost use Rattle.pb_project.specs.Wholes.{IsBodyOf, IsLocalOf};
 
 use crate::around::Around;
 use crate::block::block_of;
-use pb_core::{Core, CoreRole};
+use pb_core_language::{Core, CoreRole};
 use pb_local::{Local, Role, Stmt};
-use pb_part::areas_of_roles;
-use pb_piece::Setting;
+use pb_part_takers::areas_of_roles;
+use pb_project_piece::Setting;
 use pb_text::NoMemory;
 use std::alloc::Global;
 

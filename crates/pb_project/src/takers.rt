@@ -1,10 +1,10 @@
 ghost use Rattle.std.specs.Prelude.{IfOk};
-ghost use Rattle.pb_core.specs.Plain.{plain_stmt};
+ghost use Rattle.pb_core_language.specs.Plain.{plain_stmt};
 ghost use Rattle.pb_project.specs.Takers.{AreTakers};
 
-use pb_area::{Area, common};
-use pb_core::CoreStmt;
-use pb_part::{Held, takers_at};
+use pb_core_language::CoreStmt;
+use pb_part_areas::{Area, common};
+use pb_part_takers::{Held, takers_at};
 use pb_text::NoMemory;
 use std::alloc::Global;
 

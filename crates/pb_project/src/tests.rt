@@ -1,13 +1,13 @@
 use crate::around::Around;
 use crate::block::block_of;
 use crate::local::local_of;
-use pb_area::Area;
-use pb_core::{
+use pb_core_language::{
     Base, Core, CoreBlock, CoreEnd, CoreKernel, CoreKind, CoreLabel, CoreRole, CoreStmt,
     KernelKind, Lin, NRange, Name, Payload, Place,
 };
 use pb_local::print_local;
-use pb_piece::Setting;
+use pb_part_areas::Area;
+use pb_project_piece::Setting;
 use std::alloc::Global;
 use std::test::Fail;
 

@@ -1,13 +1,13 @@
 ghost use Rattle.std.specs.Prelude.{◌≡◌, ◌==◌, Bool, not, pos, length, if◌then◌else◌, IfOk};
 ghost use Rattle.pb_local.specs.Tree as L;
 ghost use Rattle.pb_local.specs.Tree.{Code, plain, plain_all};
-ghost use Rattle.pb_piece.specs.Ones.{end_guard};
+ghost use Rattle.pb_project_piece.specs.Ones.{end_guard};
 ghost use Rattle.pb_shape.specs.Shape.{alone, peer_of, told_by};
 ghost use Rattle.pb_project.specs.Blocks.{parts_now};
 
-use pb_core::CoreEnd;
+use pb_core_language::CoreEnd;
 use pb_local::{Relay, Stmt, Test};
-use pb_piece::{guard_at, peer_of};
+use pb_project_piece::{guard_at, peer_of};
 use pb_text::NoMemory;
 use std::alloc::Global;
 

@@ -5,10 +5,10 @@ use Rattle.std.proofs.lemmas.Int.{ints}
 use Rattle.pb_affine.specs.declared.lin.Lin.{Lin}
 use Rattle.pb_affine.specs.declared.range.NRange.{NRange}
 use Rattle.pb_affine.specs.Values.{value}
-use Rattle.pb_core.specs.declared.tree.CoreEnd.{CoreEnd}
-use Rattle.pb_core.specs.Tree.{Mark}
-use Rattle.pb_core.specs.Rules.{somebody}
-use Rattle.pb_core.specs.Verdict.{Broken, IsIn}
+use Rattle.pb_core_language.specs.declared.tree.CoreEnd.{CoreEnd}
+use Rattle.pb_core_language.specs.Tree.{Mark}
+use Rattle.pb_core_language.specs.Rules.{somebody}
+use Rattle.pb_core_language.specs.Verdict.{Broken, IsIn}
 use Rattle.pb_rules.specs.declared.found.Found.{Found}
 use Rattle.pb_rules.specs.declared.span.Span.{Span}
 use Rattle.pb_rules.specs.declared.trap.Trap.{Trap}

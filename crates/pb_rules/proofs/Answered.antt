@@ -4,9 +4,9 @@ use Rattle.pb_affine.specs.declared.lin.Lin.{Lin}
 use Rattle.pb_cases.specs.declared.fault.CaseFault.{CaseFault}
 use Rattle.pb_cases.specs.declared.fault.CaseFault.TheVariants as C
 use Rattle.pb_cases.specs.Breakpoints.{HasTooMany, Explains}
-use Rattle.pb_core.specs.Plain.{Protocol}
-use Rattle.pb_core.specs.Cuts.{cuts}
-use Rattle.pb_core.specs.Sound.{is_sound}
+use Rattle.pb_core_language.specs.Plain.{Protocol}
+use Rattle.pb_core_language.specs.Cuts.{cuts}
+use Rattle.pb_core_language.specs.Sound.{is_sound}
 use Rattle.pb_rules.specs.declared.found.Found.{Found}
 use Rattle.pb_rules.specs.declared.fault.RuleFault.TheVariants as R
 use Rattle.pb_rules.specs.Sites.{best_of}

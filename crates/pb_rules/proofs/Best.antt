@@ -2,7 +2,7 @@
 use Rattle.std.proofs.Common.{◌≡◌, ℤ, ◌≤ℤ◌, true, false, int_le, ◌⊎◌, inl, inr, Option, Some, None, List, [], ◌∷◌, if◌then◌else◌, refl, sym, ap, subst, arith}
 use Rattle.std.proofs.lemmas.Bool.{cases_Bool}
 use Rattle.std.proofs.lemmas.Int.{ints}
-use Rattle.pb_core.specs.Verdict.{Broken, is_before, is_before_seat}
+use Rattle.pb_core_language.specs.Verdict.{Broken, is_before, is_before_seat}
 use Rattle.pb_rules.specs.declared.found.Found.{Found}
 use Rattle.pb_rules.specs.declared.span.Span.{Span}
 use Rattle.pb_rules.specs.declared.trap.Trap.{Trap}

@@ -2,18 +2,18 @@
 use Rattle.std.proofs.Common.{◌≡◌, ℕ, ◌+◌, ◌<◌, Bool, true, false, ◌&&◌, Option, Some, List, [], ◌∷◌, ◌++◌, length, get_or, map, drop, refl, sym, ap, ◌∙◌, append_assoc, Vec, Result, Ok, Err}
 use Rattle.std.proofs.lemmas.List.{at_drop_more, map-append}
 use Rattle.pb_affine.specs.declared.lin.Lin.{Lin}
-use Rattle.pb_core.specs.declared.protocol.CoreRole.{CoreRole}
+use Rattle.pb_core_language.specs.declared.protocol.CoreRole.{CoreRole}
 use Rattle.std.specs.Prelude.{OnOk}
 use Rattle.std.specs.declared.alloc.Global.{Global}
-use Rattle.pb_core.specs.declared.tree.CoreEnd.{CoreEnd}
-use Rattle.pb_core.specs.declared.tree.CoreBlock.{CoreBlock}
-use Rattle.pb_core.specs.declared.tree.CoreKind.{fold-roll-CoreKind}
-use Rattle.pb_core.specs.declared.tree.CoreKind.TheVariants.{Choice, rolls-Choice, Foreach, rolls-Foreach}
-use Rattle.pb_core.specs.declared.tree.CoreKind.TheOpen as Layer
-use Rattle.pb_core.specs.declared.tree.CoreStmt.{CoreStmt, fold_out-CoreStmt}
-use Rattle.pb_core.specs.Plain.{MarkedBlock, MarkedStmt, plain_block, plain_stmt, plain_kind, block_of, branches_of, kind_layer, block_layer, stmt_layer}
-use Rattle.pb_core.specs.Tree.{Bounds, StmtTree, choice, foreach}
-use Rattle.pb_core.specs.Cuts.{edges, end_cuts, stmt_cuts, block_cuts, branches_cuts, role_cuts}
+use Rattle.pb_core_language.specs.declared.tree.CoreEnd.{CoreEnd}
+use Rattle.pb_core_language.specs.declared.tree.CoreBlock.{CoreBlock}
+use Rattle.pb_core_language.specs.declared.tree.CoreKind.{fold-roll-CoreKind}
+use Rattle.pb_core_language.specs.declared.tree.CoreKind.TheVariants.{Choice, rolls-Choice, Foreach, rolls-Foreach}
+use Rattle.pb_core_language.specs.declared.tree.CoreKind.TheOpen as Layer
+use Rattle.pb_core_language.specs.declared.tree.CoreStmt.{CoreStmt, fold_out-CoreStmt}
+use Rattle.pb_core_language.specs.Plain.{MarkedBlock, MarkedStmt, plain_block, plain_stmt, plain_kind, block_of, branches_of, kind_layer, block_layer, stmt_layer}
+use Rattle.pb_core_language.specs.Tree.{Bounds, StmtTree, choice, foreach}
+use Rattle.pb_core_language.specs.Cuts.{edges, end_cuts, stmt_cuts, block_cuts, branches_cuts, role_cuts}
 use Rattle.pb_rules.specs.declared.cuts.Wide.{Wide}
 use Rattle.pb_rules.specs.CutLists.{is_cut, are_cuts, lin_of}
 

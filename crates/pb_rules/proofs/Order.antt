@@ -4,8 +4,8 @@ use Rattle.std.specs.Prelude.{int_lt}
 use Rattle.std.specs.Ordering.{int_eq}
 use Rattle.std.proofs.lemmas.Bool.{true≢false, or_parts, or_from, or_cases, and_parts, and_cases, and_left, and_right, cases_Bool, ltb-true, ltb-false, le-ltb, eq-eqb, eqb-true}
 use Rattle.std.proofs.lemmas.Int.{ints}
-use Rattle.pb_core.specs.Ranks.{Seat}
-use Rattle.pb_core.specs.Verdict.{Broken, is_before, is_before_seat}
+use Rattle.pb_core_language.specs.Ranks.{Seat}
+use Rattle.pb_core_language.specs.Verdict.{Broken, is_before, is_before_seat}
 
 -- rule 6 names nobody, and the others a seat
 abbrev pub IsNamed : ℕ → Option Seat → Type 0

@@ -2,14 +2,14 @@
 use Rattle.std.proofs.Common.{◌≡◌, ℕ, ℤ, pos, true, false, ◌&&◌, not, ◌||◌, nat_lt, if◌then◌else◌, ◌⊎◌, inl, inr, Option, Some, None, List, [], ◌∷◌, ◌++◌, refl, sym, ap, subst}
 use Rattle.std.proofs.lemmas.Bool.{and_parts, cond-false, cases_Bool, true≢false}
 use Rattle.pb_affine.specs.Values.{value, range}
-use Rattle.pb_core.specs.declared.protocol.CoreRole.{CoreRole}
-use Rattle.pb_core.specs.declared.tree.CoreEnd.{CoreEnd}
-use Rattle.pb_core.specs.Tree.{Mark, Bounds, StmtTree, message, foreach, loop, again, choice, run, barrier, broadcast, reduce, allreduce, BlockTree, nothing, more, BranchTrees, no_branch, branch}
-use Rattle.pb_core.specs.Flat as F
-use Rattle.pb_core.specs.Flat.{Asked, Origin}
-use Rattle.pb_core.specs.FlatOf.{for_each, from_none, from_one, from_two, flat_stmt, flat_block, flat_branches}
-use Rattle.pb_core.specs.Rules.{each_origin, each_origin_among}
-use Rattle.pb_core.specs.Sound.{Rows, is_item, is_stmt, is_block, are_branches, has_branch, is_end, is_bound}
+use Rattle.pb_core_language.specs.declared.protocol.CoreRole.{CoreRole}
+use Rattle.pb_core_language.specs.declared.tree.CoreEnd.{CoreEnd}
+use Rattle.pb_core_language.specs.Tree.{Mark, Bounds, StmtTree, message, foreach, loop, again, choice, run, barrier, broadcast, reduce, allreduce, BlockTree, nothing, more, BranchTrees, no_branch, branch}
+use Rattle.pb_core_language.specs.Flat as F
+use Rattle.pb_core_language.specs.Flat.{Asked, Origin}
+use Rattle.pb_core_language.specs.FlatOf.{for_each, from_none, from_one, from_two, flat_stmt, flat_block, flat_branches}
+use Rattle.pb_core_language.specs.Rules.{each_origin, each_origin_among}
+use Rattle.pb_core_language.specs.Sound.{Rows, is_item, is_stmt, is_block, are_branches, has_branch, is_end, is_bound}
 use Rattle.pb_rules.specs.declared.ends.Over.{Over}
 use Rattle.pb_rules.specs.Traps.{over_of}
 use Rattle.pb_rules.specs.Sites.{Site, one, two, is_again, stmt_sites, block_sites, branches_sites}

@@ -7,8 +7,8 @@ use Rattle.pb_affine.specs.declared.lin.Base.TheVariants.{Fixed, Param, Var}
 use Rattle.pb_affine.specs.declared.lin.Lin.{Lin}
 use Rattle.pb_affine.specs.declared.range.NRange.{NRange}
 use Rattle.pb_affine.specs.Values.{value, base_value}
-use Rattle.pb_core.specs.Verdict as V
-use Rattle.pb_core.specs.Verdict.{IsIn}
+use Rattle.pb_core_language.specs.Verdict as V
+use Rattle.pb_core_language.specs.Verdict.{IsIn}
 use Rattle.pb_rules.specs.declared.line.Line.{Line}
 use Rattle.pb_rules.specs.declared.span.Span.{Span}
 use Rattle.pb_rules.specs.declared.ends.Over.{Over}

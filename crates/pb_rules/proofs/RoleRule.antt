@@ -4,10 +4,10 @@ use Rattle.std.proofs.lemmas.Bool.{false≢true}
 use Rattle.std.proofs.lemmas.Int.{ints}
 use Rattle.pb_affine.specs.declared.range.NRange.{NRange}
 use Rattle.pb_affine.specs.Values.{value, range}
-use Rattle.pb_core.specs.declared.protocol.CoreRole.{CoreRole}
-use Rattle.pb_core.specs.Tree.{Mark}
-use Rattle.pb_core.specs.Rules.{is_empty, empty_roles, nobody}
-use Rattle.pb_core.specs.Verdict.{Broken, IsIn}
+use Rattle.pb_core_language.specs.declared.protocol.CoreRole.{CoreRole}
+use Rattle.pb_core_language.specs.Tree.{Mark}
+use Rattle.pb_core_language.specs.Rules.{is_empty, empty_roles, nobody}
+use Rattle.pb_core_language.specs.Verdict.{Broken, IsIn}
 use Rattle.pb_rules.specs.declared.found.Found.{Found}
 use Rattle.pb_rules.specs.Lines.{line_of, value_at, IsInSpan, whole, below}
 use Rattle.pb_rules.specs.Traps.{role_traps}

@@ -5,9 +5,9 @@ use Rattle.std.specs.Ordering.{int_eq}
 use Rattle.std.proofs.lemmas.Bool.{or_cases, or_left, or_right, and_parts, and_from, eqb-true, eq-eqb, false_from_ne_true, false≢true}
 use Rattle.std.proofs.lemmas.Int.{ints}
 use Rattle.pb_affine.specs.Values.{value, range, count_of, count_from}
-use Rattle.pb_core.specs.declared.protocol.CoreRole.{CoreRole}
-use Rattle.pb_core.specs.Ranks.{Seat, seat_eq, seats_from, seats}
-use Rattle.pb_core.specs.Rules.{is_seat}
+use Rattle.pb_core_language.specs.declared.protocol.CoreRole.{CoreRole}
+use Rattle.pb_core_language.specs.Ranks.{Seat, seat_eq, seats_from, seats}
+use Rattle.pb_core_language.specs.Rules.{is_seat}
 use Rattle.pb_rules.proofs.Lists.{Has, has_cases, has_left, has_right, has_map, map_has}
 
 -- ---- ranges

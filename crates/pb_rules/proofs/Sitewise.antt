@@ -4,14 +4,14 @@ use Rattle.std.specs.List.{slice_get}
 use Rattle.std.proofs.lemmas.Bool.{not-true, not_from_false}
 use Rattle.pb_affine.specs.declared.range.NRange.{NRange}
 use Rattle.pb_affine.specs.Values.{value}
-use Rattle.pb_core.specs.declared.protocol.CoreRole.{CoreRole}
-use Rattle.pb_core.specs.declared.tree.CoreEnd.{CoreEnd}
-use Rattle.pb_core.specs.Ranks.{Seat, seat_eq, seats}
-use Rattle.pb_core.specs.Tree.{Mark}
-use Rattle.pb_core.specs.Flat.{Asked}
-use Rattle.pb_core.specs.FlatOf.{seat, asked}
-use Rattle.pb_core.specs.Rules.{is_seat, strays, loners, somebody}
-use Rattle.pb_core.specs.Verdict.{Broken, IsIn}
+use Rattle.pb_core_language.specs.declared.protocol.CoreRole.{CoreRole}
+use Rattle.pb_core_language.specs.declared.tree.CoreEnd.{CoreEnd}
+use Rattle.pb_core_language.specs.Ranks.{Seat, seat_eq, seats}
+use Rattle.pb_core_language.specs.Tree.{Mark}
+use Rattle.pb_core_language.specs.Flat.{Asked}
+use Rattle.pb_core_language.specs.FlatOf.{seat, asked}
+use Rattle.pb_core_language.specs.Rules.{is_seat, strays, loners, somebody}
+use Rattle.pb_core_language.specs.Verdict.{Broken, IsIn}
 use Rattle.pb_rules.specs.declared.found.Found.{Found}
 use Rattle.pb_rules.specs.declared.ends.Over.{Over}
 use Rattle.pb_rules.specs.Traps.{kept_all, end_traps, message_traps}

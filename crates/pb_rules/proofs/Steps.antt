@@ -3,11 +3,11 @@ use Rattle.std.proofs.Common.{◌≡◌, ℕ, ◌+◌, ◌<◌, true, false, Opt
 use Rattle.std.proofs.lemmas.List.{at_drop_more}
 use Rattle.std.proofs.lemmas.Bool.{cond-true, cond-false}
 use Rattle.pb_affine.specs.declared.range.NRange.{NRange}
-use Rattle.pb_core.specs.declared.protocol.CoreRole.{CoreRole}
-use Rattle.pb_core.specs.declared.tree.CoreBlock.{CoreBlock}
-use Rattle.pb_core.specs.declared.tree.CoreStmt.{CoreStmt}
-use Rattle.pb_core.specs.Plain.{plain_block, plain_stmt, block_of, branches_of}
-use Rattle.pb_core.specs.Tree.{Mark, StmtTree, BlockTree, more, BranchTrees, branch}
+use Rattle.pb_core_language.specs.declared.protocol.CoreRole.{CoreRole}
+use Rattle.pb_core_language.specs.declared.tree.CoreBlock.{CoreBlock}
+use Rattle.pb_core_language.specs.declared.tree.CoreStmt.{CoreStmt}
+use Rattle.pb_core_language.specs.Plain.{plain_block, plain_stmt, block_of, branches_of}
+use Rattle.pb_core_language.specs.Tree.{Mark, StmtTree, BlockTree, more, BranchTrees, branch}
 use Rattle.pb_rules.specs.declared.found.Found.{Found}
 use Rattle.pb_rules.specs.declared.ends.Over.{Over}
 use Rattle.pb_rules.specs.Sites.{Site, is_again, stmt_sites, block_sites, branches_sites, kept_site, kept_sites}

@@ -1,16 +1,16 @@
 -- The first breach of a protocol's traps is its first of the rules 6 to 8.
 use Rattle.std.proofs.Common.{◌≡◌, ℕ, zero, suc, ◌≤◌, ◌<◌, ℤ, Bool, true, false, ◌⊎◌, inl, inr, Option, Some, None, List, [], ◌++◌, map, refl, ap, subst, arith}
 use Rattle.std.proofs.lemmas.Bool.{and_parts}
-use Rattle.pb_core.specs.Ranks.{Seat, seats, seat_at}
-use Rattle.pb_core.specs.Tree.{Mark}
-use Rattle.pb_core.specs.Plain.{Protocol}
-use Rattle.pb_core.specs.Flat as F
-use Rattle.pb_core.specs.Flat.{Asked}
-use Rattle.pb_core.specs.Outcomes.{Outcome}
-use Rattle.pb_core.specs.FlatOf.{from_none}
-use Rattle.pb_core.specs.Rules.{over_below, empty_roles, each_origin, strays, loners, Breach, nobody, somebody, ranked, misfits, misfitting, flat_at, total_at, ranks_at, broken_6, broken_7, broken_8, broken_9, broken_10, broken_11, broken_12, deserted, receives_only, keeps_source, keeps_labels, breaches}
-use Rattle.pb_core.specs.Sound.{is_range, are_roles, is_block, rows_of, is_sound}
-use Rattle.pb_core.specs.Verdict.{Broken, IsIn, IsBroken, IsFirstBroken, is_before}
+use Rattle.pb_core_language.specs.Ranks.{Seat, seats, seat_at}
+use Rattle.pb_core_language.specs.Tree.{Mark}
+use Rattle.pb_core_language.specs.Plain.{Protocol}
+use Rattle.pb_core_language.specs.Flat as F
+use Rattle.pb_core_language.specs.Flat.{Asked}
+use Rattle.pb_core_language.specs.Outcomes.{Outcome}
+use Rattle.pb_core_language.specs.FlatOf.{from_none}
+use Rattle.pb_core_language.specs.Rules.{over_below, empty_roles, each_origin, strays, loners, Breach, nobody, somebody, ranked, misfits, misfitting, flat_at, total_at, ranks_at, broken_6, broken_7, broken_8, broken_9, broken_10, broken_11, broken_12, deserted, receives_only, keeps_source, keeps_labels, breaches}
+use Rattle.pb_core_language.specs.Sound.{is_range, are_roles, is_block, rows_of, is_sound}
+use Rattle.pb_core_language.specs.Verdict.{Broken, IsIn, IsBroken, IsFirstBroken, is_before}
 use Rattle.pb_rules.specs.declared.found.Found.{Found}
 use Rattle.pb_rules.specs.Traps.{broken_of, role_traps, kept_all}
 use Rattle.pb_rules.specs.Sites.{Site, block_sites, best_of}

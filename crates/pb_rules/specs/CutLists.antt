@@ -4,7 +4,7 @@ use Rattle.std.specs.List.{Contains}
 use Rattle.pb_affine.specs.declared.lin.Base.{Base}
 use Rattle.pb_affine.specs.declared.lin.Base.TheVariants.{Fixed, Param}
 use Rattle.pb_affine.specs.declared.lin.Lin.{Lin}
-use Rattle.pb_core.specs.Sound.{is_over_n}
+use Rattle.pb_core_language.specs.Sound.{is_over_n}
 use Rattle.pb_rules.specs.declared.cuts.Wide.{Wide}
 use Rattle.pb_rules.specs.declared.offsets.Offsets.{Offsets}
 

@@ -6,11 +6,11 @@ use Rattle.pb_affine.specs.declared.lin.Base.TheVariants.{Fixed, Param, Var}
 use Rattle.pb_affine.specs.declared.lin.Lin.{Lin}
 use Rattle.pb_affine.specs.declared.range.NRange.{NRange}
 use Rattle.pb_affine.specs.Values.{IsNear}
-use Rattle.pb_core.specs.declared.protocol.CoreRole.{CoreRole}
-use Rattle.pb_core.specs.declared.tree.CoreEnd.{CoreEnd}
-use Rattle.pb_core.specs.Tree.{Mark, Bounds}
-use Rattle.pb_core.specs.Rules.{Breach}
-use Rattle.pb_core.specs.Verdict.{Broken, is_before}
+use Rattle.pb_core_language.specs.declared.protocol.CoreRole.{CoreRole}
+use Rattle.pb_core_language.specs.declared.tree.CoreEnd.{CoreEnd}
+use Rattle.pb_core_language.specs.Tree.{Mark, Bounds}
+use Rattle.pb_core_language.specs.Rules.{Breach}
+use Rattle.pb_core_language.specs.Verdict.{Broken, is_before}
 use Rattle.pb_rules.specs.declared.fault.At.{At}
 use Rattle.pb_rules.specs.declared.line.Line.{Line}
 use Rattle.pb_rules.specs.declared.span.Span.{Span}

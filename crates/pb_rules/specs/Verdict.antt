@@ -4,11 +4,11 @@ use Rattle.pb_text.specs.declared.place.Place.{Place}
 use Rattle.pb_cases.specs.declared.fault.CaseFault.{CaseFault}
 use Rattle.pb_cases.specs.declared.fault.CaseFault.TheVariants as C
 use Rattle.pb_cases.specs.Breakpoints.{IsDivision, HasTooMany}
-use Rattle.pb_core.specs.Ranks.{Seat}
-use Rattle.pb_core.specs.Plain.{Protocol}
-use Rattle.pb_core.specs.Cuts.{cuts}
-use Rattle.pb_core.specs.Verdict as V
-use Rattle.pb_core.specs.Verdict.{IsBroken, IsFirstBroken}
+use Rattle.pb_core_language.specs.Ranks.{Seat}
+use Rattle.pb_core_language.specs.Plain.{Protocol}
+use Rattle.pb_core_language.specs.Cuts.{cuts}
+use Rattle.pb_core_language.specs.Verdict as V
+use Rattle.pb_core_language.specs.Verdict.{IsBroken, IsFirstBroken}
 use Rattle.pb_rules.specs.declared.fault.At.{At}
 use Rattle.pb_rules.specs.declared.fault.RuleFault.{RuleFault}
 use Rattle.pb_rules.specs.declared.fault.RuleFault.TheVariants.{Broken, TooManyCases, NoMemory}

@@ -1,14 +1,14 @@
 ghost use Rattle.std.specs.Prelude.{◌≡◌, ◌++◌, ◌+ℤ◌, [], ◌∷◌, pos, true, map, OnOk, IfOk};
 ghost use Rattle.pb_affine.specs.Values.{shifted};
-ghost use Rattle.pb_core.specs.Plain.{plain, plain_block, plain_stmt, branches_of};
-ghost use Rattle.pb_core.specs.Cuts.{edges, end_cuts, stmt_cuts, block_cuts, branches_cuts, role_cuts, cuts};
+ghost use Rattle.pb_core_language.specs.Plain.{plain, plain_block, plain_stmt, branches_of};
+ghost use Rattle.pb_core_language.specs.Cuts.{edges, end_cuts, stmt_cuts, block_cuts, branches_cuts, role_cuts, cuts};
 ghost use Rattle.pb_rules.specs.Traps.{bounds_if};
 ghost use Rattle.pb_rules.specs.CutLists.{is_cut, are_cuts, lin_of, listed, HaveSame, AreApart};
 
 use crate::ends::Over;
 use crate::offsets::Offsets;
 use pb_affine::{Base, Lin};
-use pb_core::{Core, CoreBlock, CoreEnd, CoreKind, CoreRole, CoreStmt};
+use pb_core_language::{Core, CoreBlock, CoreEnd, CoreKind, CoreRole, CoreStmt};
 use pb_text::NoMemory;
 use std::alloc::Global;
 

@@ -8,7 +8,7 @@ use crate::line::Line;
 use crate::span::Span;
 use crate::trap::{Moving, Trap};
 use pb_affine::{Base, Lin, NRange};
-use pb_core::{CoreEnd, CoreRole, Place};
+use pb_core_language::{CoreEnd, CoreRole, Place};
 
 /// The first and the last value of a variable.
 #[derive(Clone, Copy)]

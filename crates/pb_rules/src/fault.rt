@@ -1,4 +1,4 @@
-use pb_core::Place;
+use pb_core_language::Place;
 use thiserror::Error;
 
 /// A rank, or a role with an index that lies outside its range.

@@ -2,7 +2,7 @@ ghost use Rattle.std.specs.Prelude.{◌≡◌};
 
 use crate::fault::At;
 use crate::trap::Trap;
-use pb_core::Place;
+use pb_core_language::Place;
 
 /// A breach at one N.
 #[derive(Clone, Copy)]
@@ -15,7 +15,7 @@ pub struct Found {
 }
 
 impl Found {
-    ghost use Rattle.pb_core.specs.Verdict.{is_before};
+    ghost use Rattle.pb_core_language.specs.Verdict.{is_before};
     ghost use Rattle.pb_rules.specs.Traps.{broken_of, earlier_of};
 
     /// By rule, then by place, then by N, then by role and index.
@@ -38,7 +38,7 @@ impl Found {
 
 ghost use Rattle.std.specs.Prelude.{◌||◌, ◌&&◌, int_lt};
 ghost use Rattle.std.specs.Ordering.{int_eq};
-ghost use Rattle.pb_core.specs.Verdict.{is_before_seat};
+ghost use Rattle.pb_core_language.specs.Verdict.{is_before_seat};
 ghost use Rattle.pb_rules.specs.Verdict.{seat_if};
 ghost use Rattle.pb_rules.specs.Traps.{kept, earlier, IsFair};
 

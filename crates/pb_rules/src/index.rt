@@ -1,6 +1,6 @@
 ghost use Rattle.std.specs.Prelude.{◌≡◌, true, OnOk, IfErr};
-ghost use Rattle.pb_core.specs.Plain.{plain};
-ghost use Rattle.pb_core.specs.Sound.{is_sound};
+ghost use Rattle.pb_core_language.specs.Plain.{plain};
+ghost use Rattle.pb_core_language.specs.Sound.{is_sound};
 ghost use Rattle.pb_rules.specs.Sites.{best_of};
 ghost use Rattle.pb_rules.specs.Verdict.{KeepsIndex, HasFewCases, IsFault, fault_of};
 
@@ -10,7 +10,7 @@ use crate::fault::RuleFault;
 use crate::found::Found;
 use crate::walk::{block_kept, roles_kept};
 use pb_cases::{CaseFault, Cases};
-use pb_core::Core;
+use pb_core_language::Core;
 use std::alloc::Global;
 
 /// Whether the protocol keeps the rules 6 to 8 at every N of its range: each role has an index, each index lies in its

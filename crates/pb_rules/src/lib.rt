@@ -17,4 +17,4 @@ mod walk;
 
 pub use fault::{At, RuleFault};
 pub use index::check_index;
-pub use pb_core::{Core, Place};
+pub use pb_core_language::{Core, Place};

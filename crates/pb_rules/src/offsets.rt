@@ -1,7 +1,7 @@
 ghost use Rattle.std.specs.Prelude.{◌≡◌, ◌++◌, [], map, true, OnOk, IfOk};
 ghost use Rattle.std.specs.Ordering.{int_eq};
 ghost use Rattle.pb_affine.specs.declared.lin.Base.TheVariants.{Fixed, Param};
-ghost use Rattle.pb_core.specs.Sound.{is_over_n};
+ghost use Rattle.pb_core_language.specs.Sound.{is_over_n};
 ghost use Rattle.pb_rules.specs.CutLists.{lin_at, listed, IsWith, IsOffsetWith, AreApart};
 
 use indexmap::IndexSet;

@@ -1,11 +1,11 @@
 ghost use Rattle.std.specs.Prelude.{◌≡◌, true};
-ghost use Rattle.pb_core.specs.Plain.{plain};
-ghost use Rattle.pb_core.specs.Sound.{is_sound};
+ghost use Rattle.pb_core_language.specs.Plain.{plain};
+ghost use Rattle.pb_core_language.specs.Sound.{is_sound};
 
 use crate::found::Found;
 use crate::index::first_found;
 use crate::{At, check_index};
-use pb_core::{
+use pb_core_language::{
     Base, Core, CoreBlock, CoreEnd, CoreKind, CoreRole, CoreStmt, Lin, NRange, Name, Place,
 };
 use std::alloc::Global;

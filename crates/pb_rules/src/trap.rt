@@ -4,7 +4,7 @@ use crate::fault::At;
 use crate::found::Found;
 use crate::line::Line;
 use crate::span::Span;
-use pb_core::Place;
+use pb_core_language::Place;
 
 /// A role with an index that may move with N.
 #[derive(Clone, Copy)]

@@ -1,5 +1,5 @@
 ghost use Rattle.std.specs.Prelude.{◌≡◌, ◌<◌, ◌*◌, ◌^◌, map};
-ghost use Rattle.pb_core.specs.Plain.{plain_block, plain_stmt, branches_of};
+ghost use Rattle.pb_core_language.specs.Plain.{plain_block, plain_stmt, branches_of};
 ghost use Rattle.pb_rules.specs.Traps.{role_traps, kept_all};
 ghost use Rattle.pb_rules.specs.Sites.{is_again, stmt_sites, block_sites, branches_sites, kept_site, kept_sites, mark_of};
 ghost use Rattle.pb_rules.specs.Sites.{one as one_site, two as two_site};
@@ -7,7 +7,7 @@ ghost use Rattle.pb_rules.specs.Sites.{one as one_site, two as two_site};
 use crate::ends::{Over, Setting, end_kept, message_kept, role_kept};
 use crate::found::Found;
 use pb_affine::NRange;
-use pb_core::{CoreBlock, CoreEnd, CoreKind, CoreRole, CoreStmt, Place};
+use pb_core_language::{CoreBlock, CoreEnd, CoreKind, CoreRole, CoreStmt, Place};
 
 /// The number and the place of a statement.
 #[derive(Clone, Copy)]

@@ -4,18 +4,18 @@ use Rattle.std.specs.Ordering.{int_eq}
 use Rattle.pb_affine.specs.declared.guard.Guard.{Guard}
 use Rattle.pb_affine.specs.declared.range.NRange.{NRange}
 use Rattle.pb_affine.specs.Values.{value, hold}
-use Rattle.pb_core.specs.declared.protocol.CoreRole.{CoreRole}
-use Rattle.pb_core.specs.declared.tree.CoreEnd.{CoreEnd}
-use Rattle.pb_core.specs.Tree as T
-use Rattle.pb_core.specs.Tree.{Mark, Bounds, StmtTree, BlockTree, BranchTrees}
-use Rattle.pb_core.specs.Plain.{Protocol}
-use Rattle.pb_core.specs.Flat.{stop, takes_part, branch_at}
-use Rattle.pb_core.specs.FlatOf.{between, flat_stmt, flat_branches}
-use Rattle.pb_core.specs.Outcomes.{labels_of, is_among, firsts, firsts_among, source_of}
-use Rattle.pb_core.specs.Parts.{is_in_body}
-use Rattle.pb_core.specs.Verdict.{IsIn}
-use Rattle.pb_flat.specs.Seated.{rank, is_rank, is_at}
-use Rattle.pb_flat.specs.Meets.{is_moving}
+use Rattle.pb_core_language.specs.declared.protocol.CoreRole.{CoreRole}
+use Rattle.pb_core_language.specs.declared.tree.CoreEnd.{CoreEnd}
+use Rattle.pb_core_language.specs.Tree as T
+use Rattle.pb_core_language.specs.Tree.{Mark, Bounds, StmtTree, BlockTree, BranchTrees}
+use Rattle.pb_core_language.specs.Plain.{Protocol}
+use Rattle.pb_core_language.specs.Flat.{stop, takes_part, branch_at}
+use Rattle.pb_core_language.specs.FlatOf.{between, flat_stmt, flat_branches}
+use Rattle.pb_core_language.specs.Outcomes.{labels_of, is_among, firsts, firsts_among, source_of}
+use Rattle.pb_core_language.specs.Parts.{is_in_body}
+use Rattle.pb_core_language.specs.Verdict.{IsIn}
+use Rattle.pb_core_flat.specs.Seated.{rank, is_rank, is_at}
+use Rattle.pb_core_flat.specs.Meets.{is_moving}
 use Rattle.pb_local.specs.declared.stmt.Peer.{Peer}
 use Rattle.pb_local.specs.declared.stmt.Test.{Test}
 use Rattle.pb_local.specs.declared.stmt.Relay.{Relay}

@@ -1,7 +1,7 @@
 -- How many statements the text of a protocol may have, and how many braces may be open in it.
 use Rattle.std.specs.Prelude.{ℕ, suc, ◌+◌, max}
-use Rattle.pb_core.specs.Tree as T
-use Rattle.pb_core.specs.Tree.{StmtTree, BlockTree, BranchTrees}
+use Rattle.pb_core_language.specs.Tree as T
+use Rattle.pb_core_language.specs.Tree.{StmtTree, BlockTree, BranchTrees}
 use Rattle.pb_local.specs.Tree.{Code, when, for_each, own, loop, again, choice, send, recv, run, barrier, broadcast, reduce, allreduce, Codes, nothing, more, Parts, no_part, part}
 
 -- how many braces are open at most inside the text of a statement

@@ -4,9 +4,9 @@ use Rattle.pb_syntax.specs.declared.core_label.CoreKernel.{CoreKernel}
 use Rattle.pb_syntax.specs.declared.core_label.CoreLabel.{CoreLabel}
 use Rattle.pb_syntax.specs.declared.core_label.KernelKind.TheVariants.{Compute, Choice as Chooses}
 use Rattle.pb_syntax.specs.declared.tree.Payload.TheVariants.{Unit as NoWords}
-use Rattle.pb_core.specs.Tree as T
-use Rattle.pb_core.specs.Tree.{StmtTree, BlockTree, BranchTrees}
-use Rattle.pb_core.specs.Plain.{Protocol}
+use Rattle.pb_core_language.specs.Tree as T
+use Rattle.pb_core_language.specs.Tree.{StmtTree, BlockTree, BranchTrees}
+use Rattle.pb_core_language.specs.Plain.{Protocol}
 use Rattle.pb_local.specs.Names.{is_name}
 use Rattle.pb_local.specs.WellMade.{IsRange, AreRoles, AreLabels, AreKernels, HasWords, GoesWith}
 use Rattle.pb_shape.specs.Shape.{role_of}

@@ -2,10 +2,10 @@
 use Rattle.std.specs.Prelude.{ℤ}
 use Rattle.pb_world.specs.Family.{Laws}
 use Rattle.pb_world.specs.Theorem.{AllRanks}
-use Rattle.pb_core.specs.Collectives.{setting_of}
-use Rattle.pb_core.specs.Plain.{Protocol}
-use Rattle.pb_core.specs.Rules.{flat_at}
-use Rattle.pb_core.specs.Run.{seq, is_over}
+use Rattle.pb_core_language.specs.Collectives.{setting_of}
+use Rattle.pb_core_language.specs.Plain.{Protocol}
+use Rattle.pb_core_language.specs.Rules.{flat_at}
+use Rattle.pb_core_language.specs.Run.{seq, is_over}
 use Rattle.pb_local.specs.Family.{Sequence, family}
 use Rattle.pb_local.specs.Tree.{Program}
 

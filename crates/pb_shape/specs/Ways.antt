@@ -2,7 +2,7 @@
 use Rattle.std.specs.Prelude.{◌≡◌, ℕ, suc, ◌==◌, cond, List, [], ◌∷◌}
 use Rattle.pb_world.specs.Actions.{Action, Kind, Sends, Receives, Runs, Enters, Leaves, kind_of}
 use Rattle.pb_world.specs.Machine.{Machine, Silent, Does}
-use Rattle.pb_core.specs.Flat.{Block, stop, message, compute, together, choice, looped, again}
+use Rattle.pb_core_language.specs.Flat.{Block, stop, message, compute, together, choice, looped, again}
 
 -- what rank r does of straight statements, in order
 abbrev pub mine : ℕ → Block → List Kind

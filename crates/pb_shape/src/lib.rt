@@ -4,7 +4,7 @@
 
 ghost use Rattle.std.specs.Prelude.{◌≡◌};
 ghost use Rattle.pb_shape.specs.Shape.{HasShape};
-ghost use Rattle.pb_core.specs.Plain.{Protocol};
+ghost use Rattle.pb_core_language.specs.Plain.{Protocol};
 ghost use Rattle.pb_local.specs.Tree.{Program};
 
 /// A program of the shape has the protocol's range.

@@ -11,18 +11,18 @@ use Rattle.pb_local.specs.WellMade.{IsPayload}
 use Rattle.pb_local.specs.Tables.{label_at}
 use Rattle.pb_local.specs.Collectives.{word_count, words_of, weight}
 use Rattle.pb_world.specs.Actions.{Action, Choose, Run, Send, Recv, Enter, Leave, Collective, Barrier, Broadcast, Reduce, Allreduce}
-use Rattle.pb_ready.specs.Kept.{kept, put}
-use Rattle.pb_ready.specs.Listed.{Listed, Lists}
+use Rattle.pb_sim_ready.specs.Kept.{kept, put}
+use Rattle.pb_sim_ready.specs.Listed.{Listed, Lists}
 use Rattle.pb_sim.specs.declared.counts.Counts.{Counts}
-use Rattle.pb_event.specs.declared.state.State.{State}
-use Rattle.pb_event.specs.States.{program, total_of, fresh, stand}
+use Rattle.pb_sim_world.specs.declared.state.State.{State}
+use Rattle.pb_sim_world.specs.States.{program, total_of, fresh, stand}
 use Rattle.pb_sim.specs.declared.seen.Seen.{Seen}
-use Rattle.pb_event.specs.Can.{can}
-use Rattle.pb_event.specs.Sound.{IsState}
-use Rattle.pb_event.specs.Events.{IsEvent, IsOther, IsOtherThan, IsAsked, IsSame}
+use Rattle.pb_sim_world.specs.Can.{can}
+use Rattle.pb_sim_world.specs.Sound.{IsState}
+use Rattle.pb_sim_world.specs.Events.{IsEvent, IsOther, IsOtherThan, IsAsked, IsSame}
 use Rattle.pb_sim.specs.Scheduled.{words_asked}
 use Rattle.pb_sim.specs.Seen.{AreFew, counted, counted_all, IsSeen, IsStepped, IsUnchanged}
-use Rattle.pb_event.proofs.Lists.{not_same}
+use Rattle.pb_sim_world.proofs.Lists.{not_same}
 
 pick : (c d : Bool) (xs ys : List ℕ) (s : ℕ) → c ≡ d → xs ≡ ys → (if c then s ∷ xs else xs) ≡ (if d then s ∷ ys else ys)
 pick c d xs ys s e h = cc

@@ -5,13 +5,13 @@ use Rattle.std.proofs.lemmas.Bool.{cases_eq}
 use Rattle.std.proofs.lemmas.Grind.{get_or_default_zero}
 use Rattle.pb_world.specs.World as W
 use Rattle.pb_local.specs.Family.{Sequence, family}
-use Rattle.pb_ready.specs.Kept.{kept}
-use Rattle.pb_event.specs.States.{program, total_of}
-use Rattle.pb_event.specs.Worlds.{world_of}
-use Rattle.pb_event.specs.Can.{can}
-use Rattle.pb_event.specs.Sound.{IsState}
-use Rattle.pb_event.proofs.Stepping.{has_step}
-use Rattle.pb_event.proofs.Converse.{can_of}
+use Rattle.pb_sim_ready.specs.Kept.{kept}
+use Rattle.pb_sim_world.specs.States.{program, total_of}
+use Rattle.pb_sim_world.specs.Worlds.{world_of}
+use Rattle.pb_sim_world.specs.Can.{can}
+use Rattle.pb_sim_world.specs.Sound.{IsState}
+use Rattle.pb_sim_world.proofs.Stepping.{has_step}
+use Rattle.pb_sim_world.proofs.Converse.{can_of}
 use Rattle.pb_sim.specs.declared.seen.Seen.{Seen}
 use Rattle.pb_sim.specs.Seen.{IsReadied}
 use Rattle.std.specs.Bool.{IsTrue}

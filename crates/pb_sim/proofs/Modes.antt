@@ -9,12 +9,12 @@ use Rattle.pb_world.specs.World as W
 use Rattle.pb_local.specs.Family.{Sequence, family}
 use Rattle.pb_chan.specs.declared.message.Message.{Message}
 use Rattle.pb_chan.specs.Lists.{messages}
-use Rattle.pb_event.specs.declared.stand.Waits.{Waits}
-use Rattle.pb_event.specs.declared.state.State.{State}
-use Rattle.pb_event.specs.States.{program, stand}
-use Rattle.pb_event.specs.Worlds.{is_to, mode_if, moded, world_of, waits_for}
-use Rattle.pb_event.specs.Events.{IsEvent}
-use Rattle.pb_event.proofs.Kept.{at_it}
+use Rattle.pb_sim_world.specs.declared.stand.Waits.{Waits}
+use Rattle.pb_sim_world.specs.declared.state.State.{State}
+use Rattle.pb_sim_world.specs.States.{program, stand}
+use Rattle.pb_sim_world.specs.Worlds.{is_to, mode_if, moded, world_of, waits_for}
+use Rattle.pb_sim_world.specs.Events.{IsEvent}
+use Rattle.pb_sim_world.proofs.Kept.{at_it}
 use Rattle.pb_sim.specs.Scheduled.{IsInMode}
 
 some_sequence : Sequence

@@ -7,13 +7,13 @@ use Rattle.pb_machine.specs.Steps.{next_of}
 use Rattle.pb_local.specs.Collectives.{words_of}
 use Rattle.pb_chan.specs.Lists.{words_in}
 use Rattle.std.proofs.lemmas.Bool.Decides.{nat_tests}
-use Rattle.pb_event.specs.declared.stand.Waits.{Waits}
-use Rattle.pb_event.specs.declared.state.State.{State}
-use Rattle.pb_event.specs.States.{program, total_of, stand, state_at, next_step, next_at}
-use Rattle.pb_event.specs.Can.{can_next, unless_waiting, can}
-use Rattle.pb_event.specs.Sound.{IsState}
-use Rattle.pb_event.specs.Events.{MayStep}
-use Rattle.pb_event.proofs.Sending.{send_next}
+use Rattle.pb_sim_world.specs.declared.stand.Waits.{Waits}
+use Rattle.pb_sim_world.specs.declared.state.State.{State}
+use Rattle.pb_sim_world.specs.States.{program, total_of, stand, state_at, next_step, next_at}
+use Rattle.pb_sim_world.specs.Can.{can_next, unless_waiting, can}
+use Rattle.pb_sim_world.specs.Sound.{IsState}
+use Rattle.pb_sim_world.specs.Events.{MayStep}
+use Rattle.pb_sim_world.proofs.Sending.{send_next}
 use Rattle.pb_sim.specs.declared.seen.Seen.{Seen}
 use Rattle.pb_sim.specs.Seen.{is_too_much}
 use Rattle.pb_sim.specs.Made.{IsTooMuch}

@@ -13,11 +13,11 @@ use Rattle.pb_world.specs.World as W
 use Rattle.pb_local.specs.Machine as M
 use Rattle.pb_local.specs.Family.{Sequence, family}
 use Rattle.pb_ctree.specs.declared.tree.CTree.{CTree}
-use Rattle.pb_event.specs.declared.stand.Stand.{Stand}
-use Rattle.pb_event.specs.declared.state.State.{State}
-use Rattle.pb_event.specs.Starts.{IsStart}
-use Rattle.pb_event.specs.States.{program, total_of, fresh, stand}
-use Rattle.pb_event.specs.Worlds.{world_of}
+use Rattle.pb_sim_world.specs.declared.stand.Stand.{Stand}
+use Rattle.pb_sim_world.specs.declared.state.State.{State}
+use Rattle.pb_sim_world.specs.Starts.{IsStart}
+use Rattle.pb_sim_world.specs.States.{program, total_of, fresh, stand}
+use Rattle.pb_sim_world.specs.Worlds.{world_of}
 use Rattle.pb_sim.specs.declared.outcomes.StepDone.{StepDone}
 use Rattle.pb_sim.specs.declared.seen.Seen.{Seen}
 use Rattle.pb_sim.specs.Done.{AreAnswered}

@@ -11,25 +11,25 @@ use Rattle.pb_local.specs.Machine as M
 use Rattle.pb_local.specs.Family.{text_machine, Sequence, family}
 use Rattle.pb_chan.specs.declared.message.Message.{Message}
 use Rattle.pb_chan.specs.Lists.{messages, label_of, IsFirstLeft as IsFirstMessage}
-use Rattle.pb_join.specs.declared.call.Call.{Call}
-use Rattle.pb_join.specs.declared.call.Call.TheVariants as K
-use Rattle.pb_join.specs.Calls.{collective_of}
-use Rattle.pb_join.specs.Joined.{agrees}
+use Rattle.pb_sim_collectives.specs.declared.call.Call.{Call}
+use Rattle.pb_sim_collectives.specs.declared.call.Call.TheVariants as K
+use Rattle.pb_sim_collectives.specs.Calls.{collective_of}
+use Rattle.pb_sim_collectives.specs.Joined.{agrees}
 use Rattle.pb_machine.specs.declared.act.Next.TheVariants as X
 use Rattle.pb_machine.specs.Acts.{op_of, entry_of}
 use Rattle.pb_machine.specs.Steps.{is_there, next_of}
-use Rattle.pb_event.specs.declared.stand.Waits.{Waits}
-use Rattle.pb_event.specs.declared.state.State.{State}
-use Rattle.pb_event.specs.States.{program, total_of, stand, state_at, next_step, next_at}
-use Rattle.pb_event.specs.Worlds.{is_to, mode_if, moded, world_of}
-use Rattle.pb_event.specs.Can.{reads, can_next, unless_waiting, can, undefined_by, is_undefined}
-use Rattle.pb_event.specs.Sound.{IsLast, IsWaiting, IsState}
-use Rattle.pb_event.proofs.Free.{moded_more}
-use Rattle.pb_event.proofs.Entries.{operation_back}
-use Rattle.pb_event.proofs.Joining.{agreed}
-use Rattle.pb_event.proofs.Stepping.{has_step}
-use Rattle.pb_event.proofs.Converse.{first_label, may_enter, enter_can, can_of}
-use Rattle.pb_event.proofs.Laden.{some_branch}
+use Rattle.pb_sim_world.specs.declared.stand.Waits.{Waits}
+use Rattle.pb_sim_world.specs.declared.state.State.{State}
+use Rattle.pb_sim_world.specs.States.{program, total_of, stand, state_at, next_step, next_at}
+use Rattle.pb_sim_world.specs.Worlds.{is_to, mode_if, moded, world_of}
+use Rattle.pb_sim_world.specs.Can.{reads, can_next, unless_waiting, can, undefined_by, is_undefined}
+use Rattle.pb_sim_world.specs.Sound.{IsLast, IsWaiting, IsState}
+use Rattle.pb_sim_world.proofs.Free.{moded_more}
+use Rattle.pb_sim_world.proofs.Entries.{operation_back}
+use Rattle.pb_sim_world.proofs.Joining.{agreed}
+use Rattle.pb_sim_world.proofs.Stepping.{has_step}
+use Rattle.pb_sim_world.proofs.Converse.{first_label, may_enter, enter_can, can_of}
+use Rattle.pb_sim_world.proofs.Laden.{some_branch}
 use Rattle.pb_sim.specs.declared.standing.Cause.{Cause}
 use Rattle.pb_sim.specs.declared.standing.Cause.TheVariants as C
 use Rattle.pb_sim.specs.declared.standing.Standing.TheVariants as S

@@ -3,10 +3,10 @@ use Rattle.std.specs.Prelude.{◌≡◌, ◌≢◌, ℕ, ◌<◌, Bool, true, fa
 use Rattle.pb_machine.specs.declared.act.Act.TheVariants as A
 use Rattle.pb_machine.specs.declared.act.Next.{Next}
 use Rattle.pb_machine.specs.declared.act.Next.TheVariants as N
-use Rattle.pb_event.specs.declared.stand.Waits.{Waits}
-use Rattle.pb_event.specs.declared.state.State.{State}
-use Rattle.pb_event.specs.States.{total_of, stand, next_at}
-use Rattle.pb_event.specs.Can.{is_undefined}
+use Rattle.pb_sim_world.specs.declared.stand.Waits.{Waits}
+use Rattle.pb_sim_world.specs.declared.state.State.{State}
+use Rattle.pb_sim_world.specs.States.{total_of, stand, next_at}
+use Rattle.pb_sim_world.specs.Can.{is_undefined}
 use Rattle.pb_sim.specs.declared.standing.Cause.{Cause}
 use Rattle.pb_sim.specs.declared.standing.Cause.TheVariants as C
 

@@ -2,7 +2,7 @@
 use Rattle.std.specs.Prelude.{◌≡◌, ℕ, ◌+◌, ◌%◌, ◌<◌, List, [], ◌∷◌, length, slice_index}
 use Rattle.pb_text.specs.declared.action.Action.TheVariants as P
 use Rattle.pb_world.specs.Actions.{Action, Choose, Run, Send, Recv, Enter, Leave}
-use Rattle.pb_join.specs.Calls.{joint_of}
+use Rattle.pb_sim_collectives.specs.Calls.{joint_of}
 use Rattle.pb_sim.specs.declared.outcomes.StepDone.{StepDone}
 use Rattle.pb_sim.specs.declared.outcomes.StepDone.TheVariants as D
 

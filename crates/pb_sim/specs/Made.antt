@@ -11,8 +11,8 @@ use Rattle.pb_local.specs.Ranks.{total}
 use Rattle.pb_local.specs.WellMade.{IsInRange}
 use Rattle.pb_chan.specs.Lists.{words_in}
 use Rattle.pb_ctree.specs.declared.tree.CTree.{CTree}
-use Rattle.pb_event.specs.States.{program, total_of, stand, next_step}
-use Rattle.pb_event.specs.Worlds.{world_of}
+use Rattle.pb_sim_world.specs.States.{program, total_of, stand, next_step}
+use Rattle.pb_sim_world.specs.Worlds.{world_of}
 use Rattle.pb_sim.specs.declared.outcomes.StepDone.{StepDone}
 use Rattle.pb_sim.specs.declared.outcomes.StepFault.{StepFault}
 use Rattle.pb_sim.specs.declared.outcomes.StepFault.TheVariants as S

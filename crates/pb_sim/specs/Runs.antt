@@ -6,8 +6,8 @@ use Rattle.pb_world.specs.Family.{Family}
 use Rattle.pb_world.specs.World.{World, CanStep}
 use Rattle.pb_local.specs.Family.{Sequence, family}
 use Rattle.pb_local.specs.Machine as M
-use Rattle.pb_event.specs.States.{program, total_of, stand}
-use Rattle.pb_event.specs.Worlds.{world_of}
+use Rattle.pb_sim_world.specs.States.{program, total_of, stand}
+use Rattle.pb_sim_world.specs.Worlds.{world_of}
 use Rattle.pb_sim.specs.declared.seen.Seen.{Seen}
 use Rattle.pb_sim.specs.declared.outcomes.StepDone.{StepDone}
 use Rattle.pb_sim.specs.Done.{done_of}

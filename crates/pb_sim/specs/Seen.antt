@@ -6,15 +6,15 @@ use Rattle.pb_chan.specs.Lists.{words_in}
 use Rattle.pb_machine.specs.declared.act.Act.TheVariants as A
 use Rattle.pb_machine.specs.declared.act.Next.{Next}
 use Rattle.pb_machine.specs.declared.act.Next.TheVariants as N
-use Rattle.pb_ready.specs.Listed.{Lists}
+use Rattle.pb_sim_ready.specs.Listed.{Lists}
 use Rattle.pb_sim.specs.declared.counts.Counts.{Counts}
 use Rattle.pb_sim.specs.declared.seen.Seen.{Seen}
-use Rattle.pb_event.specs.States.{program, total_of, stand}
-use Rattle.pb_event.specs.declared.state.State.{State}
-use Rattle.pb_event.specs.Worlds.{world_of}
-use Rattle.pb_event.specs.Can.{can}
-use Rattle.pb_event.specs.Sound.{IsState}
-use Rattle.pb_event.specs.Events.{IsEvent, IsAsked}
+use Rattle.pb_sim_world.specs.States.{program, total_of, stand}
+use Rattle.pb_sim_world.specs.declared.state.State.{State}
+use Rattle.pb_sim_world.specs.Worlds.{world_of}
+use Rattle.pb_sim_world.specs.Can.{can}
+use Rattle.pb_sim_world.specs.Sound.{IsState}
+use Rattle.pb_sim_world.specs.Events.{IsEvent, IsAsked}
 use Rattle.pb_sim.specs.Scheduled.{words_asked}
 
 -- the counts once an action was done, and those once actions were done

@@ -8,9 +8,9 @@ ghost use Rattle.pb_sim.specs.Made.{IsNumber, ranks_of, IsBegun};
 use crate::counts::Counts;
 use crate::seen::Seen;
 use pb_affine::NRange;
-use pb_event::State;
 use pb_machine::{CTree, NoMemory};
-use pb_ready::Ready;
+use pb_sim_ready::Ready;
+use pb_sim_world::State;
 use std::alloc::Global;
 
 /// The most ranks of a simulation.

@@ -1,13 +1,13 @@
 ghost use Rattle.std.specs.Prelude.{◌≡◌, ◌<◌, ◌||◌, ◌↔◌, ℕ, Bool, true, false, IsTrue};
-ghost use Rattle.pb_ready.specs.Kept.{put};
-ghost use Rattle.pb_ready.specs.Listed.{Lists};
-ghost use Rattle.pb_event.specs.States.{total_of};
-ghost use Rattle.pb_event.specs.Can.{can};
-ghost use Rattle.pb_event.specs.Sound.{IsState};
+ghost use Rattle.pb_sim_ready.specs.Kept.{put};
+ghost use Rattle.pb_sim_ready.specs.Listed.{Lists};
+ghost use Rattle.pb_sim_world.specs.States.{total_of};
+ghost use Rattle.pb_sim_world.specs.Can.{can};
+ghost use Rattle.pb_sim_world.specs.Sound.{IsState};
 ghost use Rattle.pb_sim.specs.Seen.{IsReadied, is_too_much};
 
 use crate::seen::Seen;
-use pb_event::{Act, Next, words_of};
+use pb_sim_world::{Act, Next, words_of};
 
 /// The most words that may be in flight.
 const MOST_WORDS: u64 = 16777216;

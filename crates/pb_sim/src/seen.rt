@@ -1,6 +1,6 @@
 use crate::counts::Counts;
-use pb_event::State;
-use pb_ready::Ready;
+use pb_sim_ready::Ready;
+use pb_sim_world::State;
 
 /// A simulation but for its answers.
 #[derive(Drop)]

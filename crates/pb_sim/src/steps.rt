@@ -1,21 +1,21 @@
 ghost use Rattle.std.specs.Prelude.{◌≡◌, ◌≤◌, ◌<◌, ◌+◌, ◌^◌, [], ◌∷◌, Some, length, true, OnOk, OnErr, IfOk};
 ghost use Rattle.pb_world.specs.Actions.{Choose, Run, Send, Recv, Enter, Leave};
 ghost use Rattle.pb_local.specs.Collectives.{words_of, weight};
-ghost use Rattle.pb_join.specs.Calls.{collective_of, call_of};
-ghost use Rattle.pb_join.specs.Joined.{agrees};
+ghost use Rattle.pb_sim_collectives.specs.Calls.{collective_of, call_of};
+ghost use Rattle.pb_sim_collectives.specs.Joined.{agrees};
 ghost use Rattle.pb_chan.specs.Lists.{messages, position, words_in};
 ghost use Rattle.pb_machine.specs.Steps.{is_there};
 ghost use Rattle.pb_machine.specs.declared.act.Act.TheVariants as A;
 ghost use Rattle.pb_machine.specs.declared.act.Next.TheVariants.{Silent, Acts, Waits};
-ghost use Rattle.pb_event.specs.States.{program, state_at};
-ghost use Rattle.pb_event.specs.Worlds.{world_of};
-ghost use Rattle.pb_event.specs.Can.{can_read, can_leave};
-ghost use Rattle.pb_event.specs.Events.{MayStep};
+ghost use Rattle.pb_sim_world.specs.States.{program, state_at};
+ghost use Rattle.pb_sim_world.specs.Worlds.{world_of};
+ghost use Rattle.pb_sim_world.specs.Can.{can_read, can_leave};
+ghost use Rattle.pb_sim_world.specs.Events.{MayStep};
 ghost use Rattle.pb_sim.specs.Scheduled.{IsInMode};
 ghost use Rattle.pb_sim.specs.Seen.{IsSeen, IsStepped, IsUnchanged};
 
 use crate::seen::Seen;
-use pb_join::{Call, Joint, Op};
+use pb_sim_collectives::{Call, Joint, Op};
 use pb_text::{Mode, NoMemory, Words};
 use std::alloc::Global;
 

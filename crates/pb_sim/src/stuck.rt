@@ -1,16 +1,16 @@
 ghost use Rattle.std.specs.Prelude.{◌≡◌, ◌≢◌, ℕ, ◌<◌, Some, None, IfSome};
 ghost use Rattle.pb_local.specs.Family.{Sequence, family};
 ghost use Rattle.pb_machine.specs.declared.act.Next.TheVariants.{Ended};
-ghost use Rattle.pb_event.specs.States.{program, total_of, next_at, stand};
-ghost use Rattle.pb_event.specs.Can.{is_undefined};
-ghost use Rattle.pb_event.specs.Worlds.{world_of};
+ghost use Rattle.pb_sim_world.specs.States.{program, total_of, next_at, stand};
+ghost use Rattle.pb_sim_world.specs.Can.{is_undefined};
+ghost use Rattle.pb_sim_world.specs.Worlds.{world_of};
 ghost use Rattle.pb_sim.specs.Seen.{IsSeen};
 ghost use Rattle.pb_sim.specs.Standing.{IsStanding};
 ghost use Rattle.pb_sim.specs.Causes.{IsLeast, cause_at, cause_of};
 
 use crate::seen::Seen;
 use crate::standing::{Cause, Standing};
-use pb_event::{Act, Next};
+use pb_sim_world::{Act, Next};
 
 /// Why a rank has no step that waits for no message of its own to be taken, and is neither lost nor undefined.
 fn waits_at(next: Next) -> Cause

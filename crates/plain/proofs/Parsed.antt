@@ -3,12 +3,12 @@ use Rattle.std.proofs.Common.{◌≡◌, ℕ, ◌≤◌, List, length, None, Ok,
 use Rattle.pb_syntax.specs.Plain.{plain_file}
 use Rattle.pb_syntax.specs.declared.tree.FileTree.{FileTree}
 use Rattle.pb_parse.specs.Parsed.{IsParsedText}
-use Rattle.pb_core.specs.FileRules.{broken}
-use Rattle.pb_core.specs.Meaning.{meaning}
-use Rattle.pb_core.specs.Sound.{is_sound}
-use Rattle.pb_file_rules.specs.Lowering.{IsCountable}
-use Rattle.pb_parsed.proofs.Countable.{parsed_is_countable}
-use Rattle.pb_parsed.proofs.Sound.{parsed_is_sound}
+use Rattle.pb_core_language.specs.FileRules.{broken}
+use Rattle.pb_core_language.specs.Meaning.{meaning}
+use Rattle.pb_core_language.specs.Sound.{is_sound}
+use Rattle.pb_core_file_rules.specs.Lowering.{IsCountable}
+use Rattle.pb_parse_laws.proofs.Countable.{parsed_is_countable}
+use Rattle.pb_parse_laws.proofs.Sound.{parsed_is_sound}
 
 pub countable : (bytes : List ℕ) (file : FileTree) → length bytes ≤ 1048576 → IsParsedText bytes (Ok file) → IsCountable (plain_file file)
 countable bytes file short found = parsed_is_countable bytes (plain_file file) (omega (arith, short)) found

@@ -1,5 +1,5 @@
 use crate::text::Text;
-use pb_core::{Core, CoreKernel, CoreLabel};
+use pb_core_language::{Core, CoreKernel, CoreLabel};
 use pb_plain::Collective;
 use pb_plain_run::{FullAction, RankAction};
 use pb_syntax::Payload;

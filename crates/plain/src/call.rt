@@ -1,9 +1,9 @@
 ghost use Rattle.std.specs.Prelude.{◌≡◌, ◌≤◌, length, None, true};
 ghost use Rattle.pb_syntax.specs.Plain.{plain_file};
-ghost use Rattle.pb_core.specs.FileRules.{broken};
-ghost use Rattle.pb_core.specs.Meaning.{meaning};
-ghost use Rattle.pb_core.specs.Sound.{is_sound};
-ghost use Rattle.pb_file_rules.specs.Lowering.{IsCountable};
+ghost use Rattle.pb_core_language.specs.FileRules.{broken};
+ghost use Rattle.pb_core_language.specs.Meaning.{meaning};
+ghost use Rattle.pb_core_language.specs.Sound.{is_sound};
+ghost use Rattle.pb_core_file_rules.specs.Lowering.{IsCountable};
 
 use crate::fault::Fault;
 use crate::report::report;
@@ -11,8 +11,8 @@ use crate::request::{Request, read_request};
 use crate::status::Status;
 use crate::text::Text;
 use pb_affine::NRange;
+use pb_core::lower;
 use pb_io::{Folder, InFault, OutFault, Sink, read_all, write_all};
-use pb_lower::lower;
 use pb_parse::parse;
 use pb_syntax::FileTree;
 use pb_text::Quantity;

@@ -1,7 +1,7 @@
 use crate::status::Status;
 use crate::text::Text;
 use pb_affine::NRange;
-use pb_core::LowerFault;
+use pb_core_language::LowerFault;
 use pb_parse::{LexError, ParseFault};
 use pb_plain_run::RunFault;
 use pb_text::{NoMemory, Place, Quantity};

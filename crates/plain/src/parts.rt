@@ -1,5 +1,5 @@
 use pb_affine::Lin;
-use pb_core::{Core, CoreBlock, CoreKind, CoreStmt};
+use pb_core_language::{Core, CoreBlock, CoreKind, CoreStmt};
 use pb_text::{NoMemory, Place};
 use std::alloc::Global;
 

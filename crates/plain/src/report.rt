@@ -1,7 +1,7 @@
 ghost use Rattle.std.specs.Prelude.{◌≡◌, true};
 ghost use Rattle.pb_affine.specs.Values.{IsNear};
-ghost use Rattle.pb_core.specs.Plain.{plain};
-ghost use Rattle.pb_core.specs.Sound.{is_sound};
+ghost use Rattle.pb_core_language.specs.Plain.{plain};
+ghost use Rattle.pb_core_language.specs.Sound.{is_sound};
 
 use crate::fault::Fault;
 use crate::parts::parts_of;
@@ -11,7 +11,7 @@ use crate::run::{first_actions, put_run};
 use crate::sizes::{rank_count, statement_count};
 use crate::text::Text;
 use crate::worked::{put_blocks, put_statements};
-use pb_core::Core;
+use pb_core_language::Core;
 use pb_plain::{Flat, flat_of, seats};
 use pb_plain_rules::breaches;
 use pb_plain_run::Setting;

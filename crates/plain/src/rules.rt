@@ -1,5 +1,5 @@
 use crate::text::Text;
-use pb_core::CoreRole;
+use pb_core_language::CoreRole;
 use pb_plain_rules::Breach;
 use pb_text::NoMemory;
 

@@ -3,7 +3,7 @@ ghost use Rattle.std.specs.Prelude.{◌≡◌, take};
 use crate::action::put_action;
 use crate::answers::{Likeness, Table};
 use crate::text::Text;
-use pb_core::Core;
+use pb_core_language::Core;
 use pb_plain::Flat;
 use pb_plain_run::{RankAction, RunFault, Sequence, Setting, sequential_run};
 use pb_text::NoMemory;

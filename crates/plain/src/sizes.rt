@@ -2,7 +2,7 @@ ghost use Rattle.pb_affine.specs.Values.{IsNear};
 
 use crate::parts::{Parts, Rounds};
 use pb_affine::Lin;
-use pb_core::CoreRole;
+use pb_core_language::CoreRole;
 use pb_plain::value;
 
 /// How many ranks there are at N = n, within 2^40 of zero.

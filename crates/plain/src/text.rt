@@ -1,5 +1,5 @@
 use itoa::Buffer;
-use pb_core::{CoreLabel, CoreRole};
+use pb_core_language::{CoreLabel, CoreRole};
 use pb_plain::Seat;
 use pb_text::{NoMemory, Place};
 use std::alloc::Global;

@@ -1,13 +1,13 @@
 ghost use Rattle.std.specs.Prelude.{◌≡◌, true, map};
 ghost use Rattle.pb_affine.specs.Values.{IsNear};
-ghost use Rattle.pb_core.specs.Plain.{plain};
-ghost use Rattle.pb_core.specs.Ranks.{seats};
-ghost use Rattle.pb_core.specs.Sound.{is_sound};
+ghost use Rattle.pb_core_language.specs.Plain.{plain};
+ghost use Rattle.pb_core_language.specs.Ranks.{seats};
+ghost use Rattle.pb_core_language.specs.Sound.{is_sound};
 ghost use Rattle.pb_plain.specs.View.{seat_of};
 
 use crate::parts::{Part, Standing};
 use crate::text::Text;
-use pb_core::{Core, CoreLabel};
+use pb_core_language::{Core, CoreLabel};
 use pb_plain::{Outcome, Seat, firsts_in, takes_part_in};
 use pb_text::NoMemory;
 use std::alloc::Global;

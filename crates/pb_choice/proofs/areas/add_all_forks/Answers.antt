@@ -1,4 +1,4 @@
-use Rattle.pb_first.specs.Firsts.{are_small}
+use Rattle.pb_part_firsts.specs.Firsts.{are_small}
 use Rattle.pb_choice.specs.Clashes.{fork_any}
 use Rattle.pb_choice.proofs.Anys.{far_step, far_done}
 use Rattle.pb_choice.proofs.areas.add_all_forks.Goals as goal

@@ -1,4 +1,4 @@
-use Rattle.pb_first.specs.Firsts.{is_small_kind}
+use Rattle.pb_part_firsts.specs.Firsts.{is_small_kind}
 use Rattle.pb_choice.specs.Clashes.{fork}
 use Rattle.pb_choice.proofs.Anys.{far_step, far_done}
 use Rattle.pb_choice.proofs.areas.add_forks.Goals as goal

@@ -1,5 +1,5 @@
 use Rattle.std.specs.List.{list_any}
-use Rattle.pb_first.specs.Firsts.{is_small_kind}
+use Rattle.pb_part_firsts.specs.Firsts.{is_small_kind}
 use Rattle.pb_choice.specs.Clashes.{fork}
 use Rattle.pb_choice.proofs.Anys.{SoFar}
 use Rattle.pb_choice.proofs.areas.add_forks.Given as goal

@@ -1,6 +1,6 @@
 use Rattle.std.proofs.Common.{◌≡◌, ℕ, ℤ, ◌||◌, drop}
 use Rattle.std.specs.List.{list_any}
-use Rattle.pb_area.specs.Areas.{have}
+use Rattle.pb_part_areas.specs.Areas.{have}
 use Rattle.pb_choice.specs.Clashes.{is_strange}
 use Rattle.pb_choice.proofs.areas.strangers.Given as goal
 

@@ -1,9 +1,9 @@
 use Rattle.std.proofs.Common.{◌≡◌, true, ℕ, ℤ, sym, subst, ◌∙◌}
-use Rattle.pb_core.specs.Plain.{plain}
-use Rattle.pb_core.specs.Sound.{are_roles}
+use Rattle.pb_core_language.specs.Plain.{plain}
+use Rattle.pb_core_language.specs.Sound.{are_roles}
 use Rattle.pb_cases.specs.Breakpoints.{IsInRange}
-use Rattle.pb_area.specs.Areas.{have}
-use Rattle.pb_flat.specs.Seated.{is_rank}
+use Rattle.pb_part_areas.specs.Areas.{have}
+use Rattle.pb_core_flat.specs.Seated.{is_rank}
 use Rattle.pb_choice.proofs.Tops.{is_answer, few_roles}
 use Rattle.pb_choice.proofs.flow.first_flow.Goals as goal
 

@@ -1,6 +1,6 @@
 use Rattle.std.proofs.Common.{ap, ◌∙◌}
-use Rattle.pb_core.specs.Plain.{plain_block}
-use Rattle.pb_part.specs.Loops.{ids_of, held_of}
+use Rattle.pb_core_language.specs.Plain.{plain_block}
+use Rattle.pb_part_takers.specs.Loops.{ids_of, held_of}
 use Rattle.pb_choice.proofs.Bodies.{in_body_are}
 use Rattle.pb_choice.proofs.lone.body_takers.Goals as goal
 

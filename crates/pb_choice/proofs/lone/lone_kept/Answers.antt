@@ -1,4 +1,4 @@
-use Rattle.pb_core.specs.Plain.{plain_block}
+use Rattle.pb_core_language.specs.Plain.{plain_block}
 use Rattle.pb_choice.specs.Found.{mark_of}
 use Rattle.pb_choice.proofs.Lones.{not_round, lone_kept}
 use Rattle.pb_choice.proofs.lone.lone_kept.Goals as goal

@@ -1,5 +1,5 @@
 use Rattle.std.proofs.Common.{◌≡◌, ◌+◌, drop}
-use Rattle.pb_core.specs.FlatOf.{between}
+use Rattle.pb_core_language.specs.FlatOf.{between}
 use Rattle.pb_choice.proofs.round.position.Given as goal
 
 abbrev pub invariant-loop-i : goal.invariant-loop-i

@@ -1,6 +1,6 @@
 use Rattle.std.proofs.Common.{map, not, ◌&&◌, ap, ◌∙◌}
-use Rattle.pb_core.specs.Plain.{plain_block, branches_of}
-use Rattle.pb_area.specs.Areas.{have}
+use Rattle.pb_core_language.specs.Plain.{plain_block, branches_of}
+use Rattle.pb_part_areas.specs.Areas.{have}
 use Rattle.pb_choice.proofs.Tolds.{told_are}
 use Rattle.pb_choice.proofs.told.told_anywhere.Goals as goal
 

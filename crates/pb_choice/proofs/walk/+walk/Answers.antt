@@ -1,6 +1,6 @@
 use Rattle.std.proofs.Common.{ap, sym, ◌∙◌, subst, map}
-use Rattle.pb_core.specs.Plain.{plain_block, plain_stmt, branches_of}
-use Rattle.pb_part.specs.Loops.{ids_of, held_of}
+use Rattle.pb_core_language.specs.Plain.{plain_block, plain_stmt, branches_of}
+use Rattle.pb_part_takers.specs.Loops.{ids_of, held_of}
 use Rattle.pb_choice.specs.Walks.{FirstOf, FirstLone, FirstAmong}
 use Rattle.pb_choice.proofs.Plains.{mark_is, block_mark_is, plain_loop, plain_choice}
 use Rattle.pb_choice.proofs.Blocks.{block_step, block_stops, block_done}

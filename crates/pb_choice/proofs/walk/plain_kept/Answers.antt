@@ -1,4 +1,4 @@
-use Rattle.pb_core.specs.Plain.{plain_stmt}
+use Rattle.pb_core_language.specs.Plain.{plain_stmt}
 use Rattle.pb_choice.proofs.Blocks.{plain_first}
 use Rattle.pb_choice.proofs.walk.plain_kept.Goals as goal
 

@@ -5,7 +5,7 @@ use Rattle.pb_ctree.specs.Frame.{high_text, payload_text, element_text, kernel_l
 use Rattle.pb_ctree.specs.Small.{lin_text, sum_text}
 use Rattle.pb_ctree.specs.Trees.{sum_of}
 use Rattle.pb_cprint.specs.Framed.{take_line}
-use Rattle.pb_cline.proofs.Steps.{done, step, steps, line_of, flat_line}
+use Rattle.pb_cprint_lines.proofs.Steps.{done, step, steps, line_of, flat_line}
 use Rattle.pb_cprint.proofs.frame.push_take_head.Goals as goal
 
 pub returns : goal.returns

@@ -1,5 +1,5 @@
 use Rattle.std.proofs.Common.{Bool, Some, None, sym, ap, ◌∙◌, if◌then◌else◌}
-use Rattle.pb_cframe.specs.Views.{state_of}
+use Rattle.pb_cread_frame.specs.Views.{state_of}
 use Rattle.pb_cread.proofs.Ended.{frame_early}
 use Rattle.pb_cread.proofs.Faulted.{frame_stops}
 use Rattle.pb_cread.proofs.frame.read_frame.Goals as goal

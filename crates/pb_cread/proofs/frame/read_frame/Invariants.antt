@@ -1,5 +1,5 @@
 use Rattle.std.proofs.Common.{length}
-use Rattle.pb_cframe.specs.Views.{state_of, IsReader}
+use Rattle.pb_cread_frame.specs.Views.{state_of, IsReader}
 use Rattle.pb_cread.specs.Reached.{InFrame}
 use Rattle.pb_cread.proofs.frame.read_frame.Given as goal
 

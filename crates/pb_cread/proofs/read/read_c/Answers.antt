@@ -1,7 +1,7 @@
 use Rattle.std.proofs.Common.{map, refl, sym, subst}
 use Rattle.pb_local.specs.Tree.{codes_of, plain, plain_all}
-use Rattle.pb_cframe.specs.Views.{read_of, state_of}
-use Rattle.pb_cmain.specs.Reading.{nothing_read}
+use Rattle.pb_cread_frame.specs.Views.{read_of, state_of}
+use Rattle.pb_cread_statements.specs.Reading.{nothing_read}
 use Rattle.pb_cread.specs.Limits.{KeepsLimits}
 use Rattle.pb_cread.specs.Reached.{with_body, headed}
 use Rattle.pb_cread.proofs.Faulted.{head_of}

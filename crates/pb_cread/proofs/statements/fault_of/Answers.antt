@@ -1,5 +1,5 @@
 use Rattle.std.proofs.Common.{subst}
-use Rattle.pb_cframe.specs.Rows.{bare}
+use Rattle.pb_cread_frame.specs.Rows.{bare}
 use Rattle.pb_cread.specs.Reached.{Does}
 use Rattle.pb_cread.specs.declared.statements.Step.{Step}
 use Rattle.pb_cread.proofs.Faulted.{main_goes, main_stops, main_deepens, main_exceeds}

@@ -1,6 +1,6 @@
 use Rattle.std.proofs.Common.{ℕ, [], sym, map, refl, subst}
 use Rattle.pb_local.specs.Tree.{plain}
-use Rattle.pb_cmain.specs.Views.{state_of}
+use Rattle.pb_cread_statements.specs.Views.{state_of}
 use Rattle.pb_cread.specs.Reached.{InEnd, last_texts}
 use Rattle.pb_cread.proofs.Ended.{end_starts}
 use Rattle.pb_cread.proofs.Faulted.{main_unfinished}

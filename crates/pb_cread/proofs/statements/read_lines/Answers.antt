@@ -1,6 +1,6 @@
 use Rattle.std.proofs.Common.{sym, ◌∙◌}
 use Rattle.pb_local.specs.Tree.{program_of}
-use Rattle.pb_cmain.specs.Views.{state_of}
+use Rattle.pb_cread_statements.specs.Views.{state_of}
 use Rattle.pb_cread.proofs.Ended.{main_early}
 use Rattle.pb_cread.proofs.statements.read_lines.Goals as goal
 

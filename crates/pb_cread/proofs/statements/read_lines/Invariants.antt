@@ -1,7 +1,7 @@
 use Rattle.std.proofs.Common.{◌≡◌, ℕ, List, length}
 use Rattle.pb_local.specs.Tree.{program_of}
-use Rattle.pb_cframe.specs.Reading.{Read}
-use Rattle.pb_cmain.specs.Views.{state_of}
+use Rattle.pb_cread_frame.specs.Reading.{Read}
+use Rattle.pb_cread_statements.specs.Views.{state_of}
 use Rattle.pb_cread.specs.Reached.{InMain}
 use Rattle.pb_cread.proofs.statements.read_lines.Given as goal
 

@@ -1,7 +1,7 @@
 use Rattle.std.proofs.Common.{sym, subst}
 use Rattle.pb_local.specs.Tree.{program_of}
-use Rattle.pb_cmain.specs.Reading.{State, nothing_read}
-use Rattle.pb_cmain.specs.Views.{state_of}
+use Rattle.pb_cread_statements.specs.Reading.{State, nothing_read}
+use Rattle.pb_cread_statements.specs.Views.{state_of}
 use Rattle.pb_cread.specs.Reached.{InMain}
 use Rattle.pb_cread.proofs.Passing.{finish_ok, finish_err}
 use Rattle.pb_cread.proofs.statements.read_statements.Goals as goal

@@ -1,6 +1,6 @@
 use Rattle.pb_local.specs.Tree.{program_of}
-use Rattle.pb_citem.specs.Items.{item_of}
-use Rattle.pb_cmain.specs.Views.{state_of}
+use Rattle.pb_cread_lines.specs.Items.{item_of}
+use Rattle.pb_cread_statements.specs.Views.{state_of}
 use Rattle.pb_cread.proofs.Deciding.{judged_if}
 use Rattle.pb_cread.proofs.statements.take_read.Goals as goal
 

@@ -1,6 +1,6 @@
 use Rattle.std.proofs.Common.{◌≡◌, ◌<◌, ◌^◌, ◌+◌, arith}
 use Rattle.pb_local.specs.Tree.{plain}
-use Rattle.pb_ahead.specs.Heights.{height}
+use Rattle.pb_machine_next.specs.Heights.{height}
 use Rattle.pb_machine.proofs.Counting.{whole_height}
 use Rattle.pb_machine.proofs.sizes.+height.Goals as goal
 

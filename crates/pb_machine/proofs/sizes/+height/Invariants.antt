@@ -1,7 +1,7 @@
 use Rattle.std.proofs.Common.{◌≡◌, ◌<◌, ◌^◌, max, drop}
 use Rattle.pb_local.specs.Tree.{plain_all}
-use Rattle.pb_ahead.specs.Heights.{height_all, height_parts}
-use Rattle.pb_ahead.proofs.Plains.{parts}
+use Rattle.pb_machine_next.specs.Heights.{height_all, height_parts}
+use Rattle.pb_machine_next.proofs.Plains.{parts}
 use Rattle.pb_machine.proofs.sizes.+height.Given as goal
 
 abbrev pub invariant-height-loop-stmt : goal.invariant-height-loop-stmt

@@ -1,6 +1,6 @@
 use Rattle.std.proofs.Common.{◌≡◌, ◌<◌, ◌^◌, ◌+◌, drop}
 use Rattle.pb_local.specs.Tree.{plain_all, size_all, size_parts}
-use Rattle.pb_ahead.proofs.Plains.{parts}
+use Rattle.pb_machine_next.proofs.Plains.{parts}
 use Rattle.pb_machine.proofs.sizes.+size.Given as goal
 
 abbrev pub invariant-size-loop-stmt : goal.invariant-size-loop-stmt

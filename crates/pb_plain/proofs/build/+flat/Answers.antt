@@ -1,6 +1,6 @@
 use Rattle.std.proofs.Common.{length, arith, refl}
-use Rattle.pb_core.specs.declared.tree.CoreBlock.{out-CoreBlock}
-use Rattle.pb_core.specs.Plain.{plain_block, plain_stmt}
+use Rattle.pb_core_language.specs.declared.tree.CoreBlock.{out-CoreBlock}
+use Rattle.pb_core_language.specs.Plain.{plain_block, plain_stmt}
 use Rattle.pb_plain.specs.Loops.{ids_of}
 use Rattle.pb_plain.specs.View.{view, view_branches}
 use Rattle.pb_plain.proofs.BranchSteps.{branch_step, block_start, branch_start}

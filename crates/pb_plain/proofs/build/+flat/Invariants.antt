@@ -1,8 +1,8 @@
 use Rattle.std.proofs.Common.{◌≡◌, ◌≤◌, true, length, map, drop}
 use Rattle.std.specs.List.{All}
-use Rattle.pb_core.specs.declared.tree.CoreBlock.{out-CoreBlock}
-use Rattle.pb_core.specs.Plain.{plain_stmt, plain_block, block_of, branches_of}
-use Rattle.pb_core.specs.FlatOf.{flat_block, flat_branches, for_each}
+use Rattle.pb_core_language.specs.declared.tree.CoreBlock.{out-CoreBlock}
+use Rattle.pb_core_language.specs.Plain.{plain_stmt, plain_block, block_of, branches_of}
+use Rattle.pb_core_language.specs.FlatOf.{flat_block, flat_branches, for_each}
 use Rattle.pb_plain.specs.Loops.{ids_of}
 use Rattle.pb_plain.specs.Small.{is_small_stmt, is_small_block}
 use Rattle.pb_plain.specs.View.{view, view_branches}

@@ -1,7 +1,7 @@
 use Rattle.std.proofs.Common.{◌≡◌, ◌++◌, true, length, map, drop}
 use Rattle.std.specs.List.{All}
-use Rattle.pb_core.specs.Plain.{plain_block, plain_stmt, block_of, branches_of}
-use Rattle.pb_core.specs.Parts.{firsts_within, firsts_across}
+use Rattle.pb_core_language.specs.Plain.{plain_block, plain_stmt, block_of, branches_of}
+use Rattle.pb_core_language.specs.Parts.{firsts_within, firsts_across}
 use Rattle.pb_plain.specs.Finds.{outcome_of}
 use Rattle.pb_plain.specs.Loops.{ids_of, held_at}
 use Rattle.pb_plain.specs.Small.{is_small_stmt, is_small_block}

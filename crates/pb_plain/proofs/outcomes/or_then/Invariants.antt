@@ -1,5 +1,5 @@
 use Rattle.std.proofs.Common.{◌≡◌, ◌++◌, map, drop}
-use Rattle.pb_core.specs.Outcomes.{or_then}
+use Rattle.pb_core_language.specs.Outcomes.{or_then}
 use Rattle.pb_plain.specs.Finds.{outcome_of}
 use Rattle.pb_plain.proofs.outcomes.or_then.Given as goal
 

@@ -1,5 +1,5 @@
 use Rattle.std.proofs.Common.{◌≡◌, ◌+◌, map, drop}
-use Rattle.pb_core.specs.Ranks.{number_in}
+use Rattle.pb_core_language.specs.Ranks.{number_in}
 use Rattle.pb_plain.specs.View.{seat_of}
 use Rattle.pb_plain.proofs.ranks.number_in.Given as goal
 

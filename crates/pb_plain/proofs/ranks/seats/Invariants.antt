@@ -1,5 +1,5 @@
 use Rattle.std.proofs.Common.{◌≡◌, ◌++◌, map, drop}
-use Rattle.pb_core.specs.Ranks.{seats, seats_from}
+use Rattle.pb_core_language.specs.Ranks.{seats, seats_from}
 use Rattle.pb_plain.specs.View.{seat_of}
 use Rattle.pb_plain.proofs.ranks.seats.Given as goal
 

@@ -1,5 +1,5 @@
 use Rattle.std.proofs.Common.{◌≡◌, ◌++◌, map, drop}
-use Rattle.pb_core.specs.Rules.{somebody}
+use Rattle.pb_core_language.specs.Rules.{somebody}
 use Rattle.pb_plain.specs.View.{asked_of}
 use Rattle.pb_plain_rules.specs.Breaches.{breach_of}
 use Rattle.pb_plain_rules.proofs.breach.add_ends.Given as goal

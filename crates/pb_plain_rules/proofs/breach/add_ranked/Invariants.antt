@@ -1,5 +1,5 @@
 use Rattle.std.proofs.Common.{◌≡◌, ◌++◌, map, drop}
-use Rattle.pb_core.specs.Rules.{ranked}
+use Rattle.pb_core_language.specs.Rules.{ranked}
 use Rattle.pb_plain.specs.View.{mark_of, seat_of}
 use Rattle.pb_plain_rules.specs.Breaches.{breach_of}
 use Rattle.pb_plain_rules.proofs.breach.add_ranked.Given as goal

@@ -1,5 +1,5 @@
 use Rattle.std.proofs.Common.{◌≡◌, map, drop}
-use Rattle.pb_core.specs.Rules.{is_seat}
+use Rattle.pb_core_language.specs.Rules.{is_seat}
 use Rattle.pb_plain.specs.View.{seat_of}
 use Rattle.pb_plain_rules.proofs.end_rule.is_seat.Given as goal
 

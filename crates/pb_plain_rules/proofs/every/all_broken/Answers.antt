@@ -1,5 +1,5 @@
 use Rattle.std.proofs.Common.{◌++◌, ◌∙◌, map, refl, ap}
-use Rattle.pb_core.specs.Rules.{nobody}
+use Rattle.pb_core_language.specs.Rules.{nobody}
 use Rattle.pb_plain.specs.View.{view, mark_of}
 use Rattle.pb_plain_rules.specs.Breaches.{breach_of}
 use Rattle.pb_plain_rules.proofs.Parts.{all_parts}

@@ -1,8 +1,8 @@
 use Rattle.std.proofs.Common.{◌∙◌, to_z-of_z, map, ap}
-use Rattle.pb_core.specs.Ranks.{seats}
-use Rattle.pb_core.specs.Rules.{empty_roles}
-use Rattle.pb_core.specs.FlatOf.{flat}
-use Rattle.pb_core.specs.Plain.{plain_block}
+use Rattle.pb_core_language.specs.Ranks.{seats}
+use Rattle.pb_core_language.specs.Rules.{empty_roles}
+use Rattle.pb_core_language.specs.FlatOf.{flat}
+use Rattle.pb_core_language.specs.Plain.{plain_block}
 use Rattle.pb_plain.specs.View.{mark_of, seat_of}
 use Rattle.pb_plain_rules.proofs.Parts.{same_parts}
 use Rattle.pb_plain_rules.proofs.every.breaches.Goals as goal

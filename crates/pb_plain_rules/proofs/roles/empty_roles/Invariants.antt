@@ -1,5 +1,5 @@
 use Rattle.std.proofs.Common.{◌≡◌, ◌++◌, map, drop}
-use Rattle.pb_core.specs.Rules.{empty_roles}
+use Rattle.pb_core_language.specs.Rules.{empty_roles}
 use Rattle.pb_plain.specs.View.{mark_of}
 use Rattle.pb_plain_rules.proofs.roles.empty_roles.Given as goal
 

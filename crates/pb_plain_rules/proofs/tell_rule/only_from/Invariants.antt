@@ -1,5 +1,5 @@
 use Rattle.std.proofs.Common.{◌≡◌, map, drop}
-use Rattle.pb_core.specs.Outcomes.{only_from}
+use Rattle.pb_core_language.specs.Outcomes.{only_from}
 use Rattle.pb_plain.specs.Finds.{outcome_of}
 use Rattle.pb_plain_rules.proofs.tell_rule.only_from.Given as goal
 

@@ -1,6 +1,6 @@
 use Rattle.std.proofs.Common.{◌≡◌}
-use Rattle.pb_core.specs.Collectives.{combined, combine}
-use Rattle.pb_core.specs.FlatOf.{operation_of}
+use Rattle.pb_core_language.specs.Collectives.{combined, combine}
+use Rattle.pb_core_language.specs.FlatOf.{operation_of}
 use Rattle.pb_plain.specs.View.{collective_of}
 use Rattle.pb_plain_run.specs.Setting.{entries}
 use Rattle.pb_plain_run.specs.View.{remaining}

@@ -1,6 +1,6 @@
 use Rattle.std.proofs.Common.{◌≡◌, ◌++◌, drop}
-use Rattle.pb_core.specs.Collectives.{combine, word_by_word}
-use Rattle.pb_core.specs.FlatOf.{operation_of}
+use Rattle.pb_core_language.specs.Collectives.{combine, word_by_word}
+use Rattle.pb_core_language.specs.FlatOf.{operation_of}
 use Rattle.pb_plain_run.proofs.combine.word_by_word.Given as goal
 
 abbrev pub invariant-loop-at : goal.invariant-loop-at

@@ -1,5 +1,5 @@
 use Rattle.std.proofs.Common.{ap}
-use Rattle.pb_core.specs.Run.{first_state}
+use Rattle.pb_core_language.specs.Run.{first_state}
 use Rattle.pb_plain.specs.View.{view}
 use Rattle.pb_plain_run.specs.Setting.{setting_of}
 use Rattle.pb_plain_run.specs.View.{table_of, actions_of}

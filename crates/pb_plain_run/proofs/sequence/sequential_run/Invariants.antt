@@ -1,6 +1,6 @@
 use Rattle.std.proofs.Common.{◌≡◌}
 use Rattle.pb_world.specs.Sequencer.{state_after, emitted}
-use Rattle.pb_core.specs.Run.{emit, next, first_state}
+use Rattle.pb_core_language.specs.Run.{emit, next, first_state}
 use Rattle.pb_plain.specs.View.{view}
 use Rattle.pb_plain_run.specs.Setting.{setting_of}
 use Rattle.pb_plain_run.specs.View.{table_of, actions_of}

@@ -1,6 +1,6 @@
 use Rattle.std.proofs.Common.{◌∙◌, ℕ, List, ap, nat_lt}
 use Rattle.pb_world.specs.Sequencer.{first_or}
-use Rattle.pb_core.specs.Flat as B
+use Rattle.pb_core_language.specs.Flat as B
 use Rattle.pb_plain.specs.View.{view_branches}
 use Rattle.pb_plain_run.proofs.Added.{choice_adds}
 use Rattle.pb_plain_run.proofs.steps.choose.Goals as goal

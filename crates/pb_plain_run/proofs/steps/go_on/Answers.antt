@@ -1,6 +1,6 @@
 use Rattle.std.proofs.Common.{List, ◌∷◌, ◌∙◌, ap}
-use Rattle.pb_core.specs.Flat as B
-use Rattle.pb_core.specs.Run as R
+use Rattle.pb_core_language.specs.Flat as B
+use Rattle.pb_core_language.specs.Run as R
 use Rattle.pb_plain.specs.View.{view, view_branches}
 use Rattle.pb_plain_run.specs.Setting.{setting_of}
 use Rattle.pb_plain_run.specs.View.{remaining}

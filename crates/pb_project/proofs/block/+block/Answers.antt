@@ -1,15 +1,15 @@
 use Rattle.std.proofs.Common.{◌≡◌, sym, subst, ap, ◌∙◌}
-use Rattle.pb_core.specs.Plain.{plain_stmt}
+use Rattle.pb_core_language.specs.Plain.{plain_stmt}
 use Rattle.pb_project.specs.Blocks.{known}
 use Rattle.pb_project.proofs.Sequences.{block_step, block_done, block_stops, parts_step, parts_done}
-use Rattle.pb_core.specs.Tree as T
-use Rattle.pb_core.specs.Plain.{plain_block, branches_of}
+use Rattle.pb_core_language.specs.Tree as T
+use Rattle.pb_core_language.specs.Plain.{plain_block, branches_of}
 use Rattle.std.proofs.Common.{map}
 use Rattle.pb_local.specs.Tree.{nothing, more, plain, plain_all}
-use Rattle.pb_piece.specs.Ones.{only_when}
-use Rattle.pb_piece.specs.Pieces.{IsPieceOf}
-use Rattle.pb_piece.specs.Ranked.{IsThere}
-use Rattle.pb_piece.proofs.Added.{added_one, added_none, added_as}
+use Rattle.pb_project_piece.specs.Ones.{only_when}
+use Rattle.pb_project_piece.specs.Pieces.{IsPieceOf}
+use Rattle.pb_project_piece.specs.Ranked.{IsThere}
+use Rattle.pb_project_piece.proofs.Added.{added_one, added_none, added_as}
 use Rattle.pb_project.specs.Blocks.{IsStmtOf, parts_now}
 use Rattle.pb_project.specs.Learning.{AreTests, AreRelays}
 use Rattle.pb_project.proofs.Looping.{loop_there, loop_gone}

@@ -1,6 +1,6 @@
 use Rattle.std.proofs.Common.{◌≡◌, ◌+◌, drop}
-use Rattle.pb_core.specs.FlatOf.{between}
-use Rattle.pb_part.specs.Loops.{ids_of}
+use Rattle.pb_core_language.specs.FlatOf.{between}
+use Rattle.pb_part_takers.specs.Loops.{ids_of}
 use Rattle.pb_project.proofs.continues.count_inside.Given as goal
 
 abbrev pub invariant-loop-i : goal.invariant-loop-i

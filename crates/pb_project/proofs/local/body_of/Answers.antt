@@ -1,15 +1,15 @@
 use Rattle.std.proofs.Common.{◌≡◌, ℕ, ℤ, true, List, [], length, ap, ◌∙◌, subst}
 use Rattle.std.specs.List.{All}
 use Rattle.pb_affine.specs.declared.lin.Lin.{Lin}
-use Rattle.pb_area.specs.Areas.{have}
-use Rattle.pb_area.specs.Fits.{Fits}
+use Rattle.pb_part_areas.specs.Areas.{have}
+use Rattle.pb_part_areas.specs.Fits.{Fits}
 use Rattle.pb_cases.specs.Breakpoints.{IsInRange}
-use Rattle.pb_core.specs.Cuts.{role_cuts}
-use Rattle.pb_core.specs.Plain.{plain}
-use Rattle.pb_core.specs.Sound.{are_roles}
-use Rattle.pb_flat.specs.Seated.{is_rank}
+use Rattle.pb_core_language.specs.Cuts.{role_cuts}
+use Rattle.pb_core_language.specs.Plain.{plain}
+use Rattle.pb_core_language.specs.Sound.{are_roles}
+use Rattle.pb_core_flat.specs.Seated.{is_rank}
 use Rattle.pb_local.specs.Tree.{plain_all}
-use Rattle.pb_part.specs.Pieces.{AreAmong}
+use Rattle.pb_part_takers.specs.Pieces.{AreAmong}
 use Rattle.pb_project.specs.Blocks.{known, IsBlockOf}
 use Rattle.pb_project.proofs.local.body_of.Goals as goal
 

@@ -1,5 +1,5 @@
 use Rattle.std.proofs.Common.{◌≤◌, ◌+◌, ◌*◌, sym, subst}
-use Rattle.pb_core.specs.Plain.{plain}
+use Rattle.pb_core_language.specs.Plain.{plain}
 use Rattle.pb_local.specs.Tree.{plain_all, program_of, size_all}
 use Rattle.pb_shape.specs.Sizes.{room_all, depth_all, braces_all}
 use Rattle.pb_project.proofs.Wholes.{has_shape, is_well_made}

@@ -1,4 +1,4 @@
-use Rattle.pb_core.specs.Plain.{plain_stmt}
+use Rattle.pb_core_language.specs.Plain.{plain_stmt}
 use Rattle.pb_project.proofs.Takings.{takers_are}
 use Rattle.pb_project.proofs.takers.takers_of.Goals as goal
 

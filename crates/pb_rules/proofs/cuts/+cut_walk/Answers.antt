@@ -1,5 +1,5 @@
-use Rattle.pb_core.specs.Plain.{plain_stmt, plain_block}
-use Rattle.pb_core.specs.Cuts.{stmt_cuts, block_cuts}
+use Rattle.pb_core_language.specs.Plain.{plain_stmt, plain_block}
+use Rattle.pb_core_language.specs.Cuts.{stmt_cuts, block_cuts}
 use Rattle.pb_rules.specs.Traps.{bounds_if}
 use Rattle.pb_rules.proofs.CutSteps.{of_statements, of_branches, statements_more, branches_more, step, choice_added, foreach_added}
 use Rattle.pb_rules.proofs.cuts.+cut_walk.Goals as goal

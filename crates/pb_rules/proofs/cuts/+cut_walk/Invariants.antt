@@ -1,6 +1,6 @@
 use Rattle.std.proofs.Common.{◌≡◌, ◌++◌, map, drop}
-use Rattle.pb_core.specs.Plain.{plain_block, plain_stmt, block_of, branches_of}
-use Rattle.pb_core.specs.Cuts.{block_cuts, branches_cuts}
+use Rattle.pb_core_language.specs.Plain.{plain_block, plain_stmt, block_of, branches_of}
+use Rattle.pb_core_language.specs.Cuts.{block_cuts, branches_cuts}
 use Rattle.pb_rules.specs.Traps.{bounds_if}
 use Rattle.pb_rules.specs.CutLists.{lin_of}
 use Rattle.pb_rules.proofs.cuts.+cut_walk.Given as goal

@@ -1,5 +1,5 @@
 use Rattle.std.proofs.Common.{◌≡◌, ◌++◌, map, drop}
-use Rattle.pb_core.specs.Cuts.{role_cuts}
+use Rattle.pb_core_language.specs.Cuts.{role_cuts}
 use Rattle.pb_rules.specs.CutLists.{lin_of}
 use Rattle.pb_rules.proofs.cuts.add_roles.Given as goal
 

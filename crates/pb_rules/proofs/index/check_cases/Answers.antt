@@ -1,5 +1,5 @@
 use Rattle.std.proofs.Common.{sym, subst}
-use Rattle.pb_core.specs.Plain.{plain}
+use Rattle.pb_core_language.specs.Plain.{plain}
 use Rattle.pb_rules.specs.Verdict.{IsFault}
 use Rattle.pb_rules.proofs.CutsSound.{small_cuts, are_all, few_cases}
 use Rattle.pb_rules.proofs.Answered.{case_fault}

@@ -1,5 +1,5 @@
 use Rattle.std.proofs.Common.{sym, subst}
-use Rattle.pb_core.specs.Plain.{plain}
+use Rattle.pb_core_language.specs.Plain.{plain}
 use Rattle.pb_rules.specs.Verdict.{IsFault}
 use Rattle.pb_rules.proofs.Answered.{keeps_index, is_fault}
 use Rattle.pb_rules.proofs.index.check_ends.Goals as goal

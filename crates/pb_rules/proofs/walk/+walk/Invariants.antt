@@ -1,5 +1,5 @@
 use Rattle.std.proofs.Common.{◌≡◌, map, drop}
-use Rattle.pb_core.specs.Plain.{plain_block, plain_stmt, block_of, branches_of}
+use Rattle.pb_core_language.specs.Plain.{plain_block, plain_stmt, block_of, branches_of}
 use Rattle.pb_rules.specs.Sites.{block_sites, branches_sites, kept_sites}
 use Rattle.pb_rules.proofs.walk.+walk.Given as goal
 

@@ -1,7 +1,7 @@
 use Rattle.std.proofs.Common.{subst}
 use Rattle.pb_local.specs.Family.{family}
-use Rattle.pb_event.specs.States.{program}
-use Rattle.pb_event.specs.Worlds.{world_of}
+use Rattle.pb_sim_world.specs.States.{program}
+use Rattle.pb_sim_world.specs.Worlds.{world_of}
 use Rattle.pb_sim.specs.declared.seen.Seen.{Seen}
 use Rattle.pb_sim.specs.Standing.{IsStanding}
 use Rattle.pb_sim.proofs.held.Held.standing.Goals as goal

@@ -1,14 +1,14 @@
 use Rattle.std.proofs.Common.{◌≡◌, ◌<◌, ◌≤◌, ◌∙◌, ◌∷◌, [], ℕ, true, false, ap, sym, subst, length, List}
 use Rattle.std.specs.Result.{is_ok}
 use Rattle.pb_world.specs.Actions.{Enter}
-use Rattle.pb_join.specs.Calls.{collective_of, call_of}
-use Rattle.pb_join.specs.Joined.{number, all_entered}
-use Rattle.pb_event.specs.declared.state.State.{State}
-use Rattle.pb_event.specs.States.{stand}
-use Rattle.pb_event.specs.Can.{decides}
+use Rattle.pb_sim_collectives.specs.Calls.{collective_of, call_of}
+use Rattle.pb_sim_collectives.specs.Joined.{number, all_entered}
+use Rattle.pb_sim_world.specs.declared.state.State.{State}
+use Rattle.pb_sim_world.specs.States.{stand}
+use Rattle.pb_sim_world.specs.Can.{decides}
 use Rattle.pb_sim.specs.Seen.{counted}
-use Rattle.pb_event.specs.Events.{IsEvent, IsOther, IsAsked}
-use Rattle.pb_event.proofs.Before.{ok_of}
+use Rattle.pb_sim_world.specs.Events.{IsEvent, IsOther, IsAsked}
+use Rattle.pb_sim_world.proofs.Before.{ok_of}
 use Rattle.pb_sim.proofs.Exact.{total_kept, asked_many, one_asked, seen_by, few_enter, weight_few, exact_enter}
 use Rattle.pb_sim.proofs.seen.Seen.enter.Goals as goal
 

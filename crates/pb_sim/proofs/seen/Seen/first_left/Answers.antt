@@ -1,7 +1,7 @@
 use Rattle.std.proofs.Common.{◌≡◌, ◌<◌, ◌≤◌, ◌+◌, ◌∙◌, ◌⊎◌, inl, inr, ℕ, ap, sym, arith}
 use Rattle.std.proofs.lemmas.Bool.{cases_lt}
 use Rattle.pb_machine.specs.declared.act.Next.TheVariants.{Ended}
-use Rattle.pb_event.specs.States.{next_at}
+use Rattle.pb_sim_world.specs.States.{next_at}
 use Rattle.pb_sim.proofs.seen.Seen.first_left.Goals as goal
 
 pub loop-rank-preserved : goal.loop-rank-preserved

@@ -1,6 +1,6 @@
 use Rattle.std.proofs.Common.{refl, ◌∷◌, [], arith}
 use Rattle.pb_world.specs.Actions.{Leave}
-use Rattle.pb_join.specs.Calls.{collective_of}
+use Rattle.pb_sim_collectives.specs.Calls.{collective_of}
 use Rattle.pb_sim.proofs.Exact.{asked_many, seen_one, few_leave}
 use Rattle.pb_sim.proofs.seen.Seen.leave.Goals as goal
 

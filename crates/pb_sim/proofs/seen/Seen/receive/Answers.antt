@@ -1,14 +1,14 @@
 use Rattle.std.proofs.Common.{refl, ◌<◌, ◌∙◌, ◌∷◌, [], ℕ, ap, sym, subst, arith}
 use Rattle.pb_world.specs.Actions.{Recv, Receives}
-use Rattle.pb_ready.specs.Kept.{put}
-use Rattle.pb_ready.specs.Listed.{Lists}
-use Rattle.pb_event.specs.declared.state.State.{State}
-use Rattle.pb_event.specs.States.{program, state_at, next_step, total_of}
-use Rattle.pb_event.specs.Can.{can}
-use Rattle.pb_event.specs.Sound.{IsState}
+use Rattle.pb_sim_ready.specs.Kept.{put}
+use Rattle.pb_sim_ready.specs.Listed.{Lists}
+use Rattle.pb_sim_world.specs.declared.state.State.{State}
+use Rattle.pb_sim_world.specs.States.{program, state_at, next_step, total_of}
+use Rattle.pb_sim_world.specs.Can.{can}
+use Rattle.pb_sim_world.specs.Sound.{IsState}
 use Rattle.pb_sim.proofs.Exact.{total_kept, asked_many, seen_two, few_receive}
-use Rattle.pb_event.proofs.Near.{near}
-use Rattle.pb_event.proofs.Sending.{receive_next}
+use Rattle.pb_sim_world.proofs.Near.{near}
+use Rattle.pb_sim_world.proofs.Sending.{receive_next}
 use Rattle.pb_sim.proofs.seen.Seen.receive.Goals as goal
 
 pub refresh-requires-clause-total : goal.refresh-requires-clause-total

@@ -1,8 +1,8 @@
 use Rattle.std.proofs.Common.{◌≡◌, ◌∙◌, subst, rules}
-use Rattle.pb_ready.specs.Kept.{put}
-use Rattle.pb_ready.specs.Listed.{Lists}
-use Rattle.pb_event.specs.declared.state.State.{State}
-use Rattle.pb_event.specs.Can.{can}
+use Rattle.pb_sim_ready.specs.Kept.{put}
+use Rattle.pb_sim_ready.specs.Listed.{Lists}
+use Rattle.pb_sim_world.specs.declared.state.State.{State}
+use Rattle.pb_sim_world.specs.Can.{can}
 use Rattle.pb_sim.proofs.Exact.{one_further, all_done}
 use Rattle.pb_sim.proofs.seen.Seen.refresh_all.Goals as goal
 

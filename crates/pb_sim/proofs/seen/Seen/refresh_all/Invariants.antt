@@ -1,6 +1,6 @@
 use Rattle.std.proofs.Common.{◌≡◌, ℕ, Bool, nat_lt, if◌then◌else◌}
-use Rattle.pb_ready.specs.Listed.{Lists}
-use Rattle.pb_event.specs.Can.{can}
+use Rattle.pb_sim_ready.specs.Listed.{Lists}
+use Rattle.pb_sim_world.specs.Can.{can}
 use Rattle.pb_sim.proofs.seen.Seen.refresh_all.Given as goal
 
 abbrev pub invariant-loop-rank : goal.invariant-loop-rank

@@ -1,21 +1,21 @@
 use Rattle.std.proofs.Common.{◌≡◌, ◌<◌, ◌≤◌, ◌∙◌, ◌∷◌, [], ℕ, true, false, ap, sym, subst, length, List}
 use Rattle.std.specs.Result.{is_ok}
 use Rattle.pb_world.specs.Actions.{Send, Sends}
-use Rattle.pb_ready.specs.Kept.{put}
-use Rattle.pb_ready.specs.Listed.{Lists}
-use Rattle.pb_event.specs.declared.state.State.{State}
-use Rattle.pb_event.specs.States.{program, state_at, next_step, total_of, stand}
-use Rattle.pb_event.specs.Worlds.{waits_for, world_of}
+use Rattle.pb_sim_ready.specs.Kept.{put}
+use Rattle.pb_sim_ready.specs.Listed.{Lists}
+use Rattle.pb_sim_world.specs.declared.state.State.{State}
+use Rattle.pb_sim_world.specs.States.{program, state_at, next_step, total_of, stand}
+use Rattle.pb_sim_world.specs.Worlds.{waits_for, world_of}
 use Rattle.pb_sim.specs.Scheduled.{IsInMode}
 use Rattle.pb_sim.proofs.Modes.{sent_in_mode}
-use Rattle.pb_event.specs.Can.{can}
-use Rattle.pb_event.specs.Sound.{IsState}
+use Rattle.pb_sim_world.specs.Can.{can}
+use Rattle.pb_sim_world.specs.Sound.{IsState}
 use Rattle.pb_sim.specs.Seen.{counted}
-use Rattle.pb_event.specs.Events.{IsEvent, IsOtherThan, IsAsked, IsSame}
-use Rattle.pb_event.proofs.Before.{ok_of, err_of}
+use Rattle.pb_sim_world.specs.Events.{IsEvent, IsOtherThan, IsAsked, IsSame}
+use Rattle.pb_sim_world.proofs.Before.{ok_of, err_of}
 use Rattle.pb_sim.proofs.Exact.{total_kept, asked_many, one_asked, seen_two, few_send, label_few, unchanged, still_seen}
-use Rattle.pb_event.proofs.Near.{near}
-use Rattle.pb_event.proofs.Sending.{send_next}
+use Rattle.pb_sim_world.proofs.Near.{near}
+use Rattle.pb_sim_world.proofs.Sending.{send_next}
 use Rattle.pb_sim.proofs.seen.Seen.send.Goals as goal
 
 pub returns-then-not-sent-clause-same : goal.returns-then-not-sent-clause-same

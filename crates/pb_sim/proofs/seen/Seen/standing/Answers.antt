@@ -1,10 +1,10 @@
 use Rattle.std.proofs.Common.{◌≡◌, ◌<◌, ◌∙◌, ℕ, length, ap, sym, subst, rules}
-use Rattle.pb_ready.specs.Kept.{kept}
-use Rattle.pb_event.specs.States.{total_of}
-use Rattle.pb_event.specs.Can.{can}
+use Rattle.pb_sim_ready.specs.Kept.{kept}
+use Rattle.pb_sim_world.specs.States.{total_of}
+use Rattle.pb_sim_world.specs.Can.{can}
 use Rattle.pb_local.specs.Family.{family}
-use Rattle.pb_event.specs.States.{program}
-use Rattle.pb_event.specs.Worlds.{world_of}
+use Rattle.pb_sim_world.specs.States.{program}
+use Rattle.pb_sim_world.specs.Worlds.{world_of}
 use Rattle.pb_sim.specs.Standing.{IsStanding}
 use Rattle.pb_sim.specs.declared.standing.Standing.TheVariants.{Stuck}
 use Rattle.pb_sim.proofs.Listing.{none_listed, some_listed}

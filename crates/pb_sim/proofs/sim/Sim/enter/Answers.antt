@@ -1,7 +1,7 @@
 use Rattle.std.proofs.Common.{◌∷◌, ◌∙◌, ℕ, [], List, ap, refl, subst}
 use Rattle.pb_text.specs.declared.action.Action.TheVariants as P
 use Rattle.pb_world.specs.Actions.{Enter}
-use Rattle.pb_join.specs.Calls.{collective_of, call_of, joint_of}
+use Rattle.pb_sim_collectives.specs.Calls.{collective_of, call_of, joint_of}
 use Rattle.pb_sim.specs.declared.outcomes.StepDone.TheVariants as D
 use Rattle.pb_sim.specs.Seen.{IsStepped}
 use Rattle.pb_sim.proofs.Exact.{unchanged_by, err_gives}

@@ -1,7 +1,7 @@
 use Rattle.std.proofs.Common.{◌∷◌, [], ap}
 use Rattle.pb_text.specs.declared.action.Action.TheVariants as P
 use Rattle.pb_world.specs.Actions.{Leave}
-use Rattle.pb_join.specs.Calls.{collective_of}
+use Rattle.pb_sim_collectives.specs.Calls.{collective_of}
 use Rattle.pb_sim.specs.declared.outcomes.StepDone.TheVariants as D
 use Rattle.pb_sim.proofs.Exact.{unchanged_by, err_gives}
 use Rattle.pb_sim.proofs.sim.Sim.leave.Goals as goal

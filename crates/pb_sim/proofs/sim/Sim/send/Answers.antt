@@ -1,6 +1,6 @@
 use Rattle.std.proofs.Common.{◌∷◌, ℕ, [], List, refl, subst}
 use Rattle.pb_world.specs.Actions.{Send}
-use Rattle.pb_event.specs.Worlds.{world_of}
+use Rattle.pb_sim_world.specs.Worlds.{world_of}
 use Rattle.pb_sim.specs.Scheduled.{IsInMode}
 use Rattle.pb_sim.specs.Seen.{IsStepped}
 use Rattle.pb_sim.proofs.Exact.{unchanged_by, err_gives}

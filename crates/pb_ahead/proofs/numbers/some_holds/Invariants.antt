@@ -1,6 +1,0 @@
-use Rattle.std.proofs.Common.{◌≡◌, drop}
-use Rattle.pb_ahead.specs.Numbers.{some_holds}
-use Rattle.pb_ahead.proofs.numbers.some_holds.Given as goal
-
-abbrev pub invariant-loop-guard : goal.invariant-loop-guard
-invariant-loop-guard l = some_holds (drop l.guard-index l.guards) l.me l.i ≡ some_holds l.guards l.me l.i

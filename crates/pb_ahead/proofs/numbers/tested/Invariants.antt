@@ -1,6 +1,0 @@
-use Rattle.std.proofs.Common.{◌≡◌, drop}
-use Rattle.pb_ahead.specs.Numbers.{tested}
-use Rattle.pb_ahead.proofs.numbers.tested.Given as goal
-
-abbrev pub invariant-loop-test : goal.invariant-loop-test
-invariant-loop-test l = tested (drop l.test-index l.tests) l.label l.me l.i ≡ tested l.tests l.label l.me l.i

@@ -1,7 +1,0 @@
-use Rattle.std.proofs.Common.{◌≡◌, drop}
-use Rattle.pb_local.specs.Tree.{plain_all}
-use Rattle.pb_ahead.specs.Place.{block_at}
-use Rattle.pb_ahead.proofs.probe.block.Given as goal
-
-abbrev pub invariant-loop-step : goal.invariant-loop-step
-invariant-loop-step l = block_at (plain_all l.inner) (drop l.step-index l.path) ≡ block_at (plain_all l.body) l.path

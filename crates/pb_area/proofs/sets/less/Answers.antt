@@ -1,9 +1,0 @@
-use Rattle.pb_area.specs.Joins.{blank}
-use Rattle.pb_area.proofs.Lists.{less_step}
-use Rattle.pb_area.proofs.sets.less.Goals as goal
-
-pub loop-a-preserved : goal.loop-a-preserved
-loop-a-preserved c = record {
-  is = λ n role x. less_step _ _ _ _ _ _ n role x c.loop-a-test.true (c.in_ok-minus.ensures.is n role x) (c.loop-a.invariant.is n role x);
-  fits = λ range cuts h f. c.in_ok-minus.ensures.fits range cuts (c.loop-a.invariant.fits range cuts h f) (h c.loop-a.a-index blank c.loop-a-test.true) f;
-}

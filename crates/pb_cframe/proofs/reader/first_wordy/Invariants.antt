@@ -1,6 +1,0 @@
-use Rattle.std.proofs.Common.{◌≡◌, drop}
-use Rattle.pb_cframe.specs.Reading.{first_wordy}
-use Rattle.pb_cframe.proofs.reader.first_wordy.Given as goal
-
-abbrev pub invariant-loop-at : goal.invariant-loop-at
-invariant-loop-at l = first_wordy (drop l.at l.labels) ≡ first_wordy (drop l.from l.labels)

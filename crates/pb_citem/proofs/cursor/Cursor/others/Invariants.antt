@@ -1,6 +1,0 @@
-use Rattle.std.proofs.Common.{◌≡◌, ◌-◌}
-use Rattle.pb_citem.specs.Guess.{others_at}
-use Rattle.pb_citem.proofs.cursor.Cursor.others.Given as goal
-
-abbrev pub invariant-loop : goal.invariant-loop
-invariant-loop l = others_at (l.most - l.counter) l.list l.self.rest.now ≡ others_at l.most l.initial.list l.initial.self.rest.now

@@ -1,0 +1,26 @@
+use Rattle.std.proofs.Common.{◌≡◌, ℤ, pos, length, map, ap, sym, subst, ◌∙◌, rules}
+use Rattle.std.proofs.Common.{List}
+use Rattle.pb_sched.specs.declared.schedule.Turn.{Turn}
+use Rattle.pb_cli_status.specs.Lines as L
+use Rattle.pb_cli_words.specs.declared.options.Shown.TheVariants as H
+use Rattle.pb_sim.specs.Made.{IsNoStart}
+use Rattle.pb_sim_play.specs.Plans.{drawn, given, pair_of}
+use Rattle.pb_sim_play.proofs.Turns.{carry}
+use Rattle.pb_cli_simulate.specs.Endings.{Says}
+use Rattle.pb_cli_simulate.specs.Replies.{SaysReply}
+use Rattle.pb_cli_simulate.proofs.Told.{denied}
+use Rattle.pb_cli_simulate.proofs.simulate.replay_tree.Goals as goal
+
+pub returns-in-Err-clause-told : goal.returns-in-Err-clause-told
+returns-in-Err-clause-told g c =
+    denied c.args.tree c.args.n (λ r k w. g.A.Fn.post c.args.answers (c.args.schedule.now.seed, (r, (k, tt))) w) (given (map pair_of c.args.schedule.now.turns.items)) (length c.args.schedule.now.turns.items) H.Log 0 c.in-Err.fault (g.O.Sink.taken c.args.out.now) (g.O.Sink.taken c.refuse.new.out) c.refuse.result
+    c.in-Err.ensures.out
+    (subst (λ r. Says (L.status_of r) (L.line_of r) c.refuse.result (g.O.Sink.taken c.args.out.now) (g.O.Sink.taken c.refuse.new.out)) c.refusal_of.ensures c.refuse.ensures.said)
+
+pub returns-in-Ok-clause-told : goal.returns-in-Ok-clause-told
+returns-in-Ok-clause-told g c =
+    carry (λ t a s. SaysReply t c.args.n (λ r k w. g.A.Fn.post a (s, (r, (k, tt))) w) (given (map pair_of c.args.schedule.now.turns.items)) (length c.args.schedule.now.turns.items) H.Log 0 c.by_schedule.result (g.O.Sink.taken c.args.out.now) (g.O.Sink.taken c.by_schedule.new.out))
+    c.in-Ok.sim.held.state.tree c.args.tree c.in-Ok.sim.answers.answer c.args.answers c.in-Ok.sim.answers.seed c.args.schedule.now.seed
+    c.in-Ok.ensures.begun.tree_is (ap (λ z. z.answer) c.in-Ok.ensures.answers ∙ c.new-answers.ensures.answer) (ap (λ z. z.seed) c.in-Ok.ensures.answers ∙ c.new-answers.ensures.seed)
+    (subst (λ (ts : List Turn). SaysReply c.in-Ok.sim.held.state.tree c.args.n (λ r k w. g.A.Fn.post c.in-Ok.sim.answers.answer (c.in-Ok.sim.answers.seed, (r, (k, tt))) w) (given (map pair_of ts)) (length ts) H.Log 0 c.by_schedule.result (g.O.Sink.taken c.args.out.now) (g.O.Sink.taken c.by_schedule.new.out))
+    c.as_slice.ensures.value c.by_schedule.ensures.told)

@@ -1,0 +1,49 @@
+use Rattle.pb_cli_status.proofs.refusal.Refusal.write_line.Goals as goal
+
+pub returns-in-FileBytes-clause-front : goal.returns-in-FileBytes-clause-front
+returns-in-FileBytes-clause-front g c = rw c.in-FileBytes.is c.write_all-in-FileBytes.ensures.front
+
+pub returns-in-Syntax-clause-front : goal.returns-in-Syntax-clause-front
+returns-in-Syntax-clause-front g c = rw c.in-Syntax.is c.write_at.ensures.front
+
+pub returns-in-Breakpoints-clause-whole : goal.returns-in-Breakpoints-clause-whole
+returns-in-Breakpoints-clause-whole g c = rw c.in-Breakpoints.is c.write_all-in-Breakpoints.ensures.whole
+
+pub returns-in-Breakpoints-clause-front : goal.returns-in-Breakpoints-clause-front
+returns-in-Breakpoints-clause-front g c = rw c.in-Breakpoints.is c.write_all-in-Breakpoints.ensures.front
+
+pub returns-in-Text-clause-whole : goal.returns-in-Text-clause-whole
+returns-in-Text-clause-whole g c = rw c.in-Text.is c.write_at-in-Text.ensures.whole
+
+pub returns-in-Text-clause-front : goal.returns-in-Text-clause-front
+returns-in-Text-clause-front g c = rw c.in-Text.is c.write_at-in-Text.ensures.front
+
+pub returns-in-Schedule-clause-whole : goal.returns-in-Schedule-clause-whole
+returns-in-Schedule-clause-whole g c = rw c.in-Schedule.is c.write_number.ensures.whole
+
+pub returns-in-Schedule-clause-front : goal.returns-in-Schedule-clause-front
+returns-in-Schedule-clause-front g c = rw c.in-Schedule.is c.write_number.ensures.front
+
+pub returns-in-Events-clause-whole : goal.returns-in-Events-clause-whole
+returns-in-Events-clause-whole g c = rw c.in-Events.is c.write_all-in-Events.ensures.whole
+
+pub returns-in-Events-clause-front : goal.returns-in-Events-clause-front
+returns-in-Events-clause-front g c = rw c.in-Events.is c.write_all-in-Events.ensures.front
+
+pub returns-in-Ranks-clause-whole : goal.returns-in-Ranks-clause-whole
+returns-in-Ranks-clause-whole g c = rw c.in-Ranks.is c.write_all-in-Ranks.ensures.whole
+
+pub returns-in-Ranks-clause-front : goal.returns-in-Ranks-clause-front
+returns-in-Ranks-clause-front g c = rw c.in-Ranks.is c.write_all-in-Ranks.ensures.front
+
+pub returns-in-WordsInFlight-clause-whole : goal.returns-in-WordsInFlight-clause-whole
+returns-in-WordsInFlight-clause-whole g c = rw c.in-WordsInFlight.is c.write_all-in-WordsInFlight.ensures.whole
+
+pub returns-in-WordsInFlight-clause-front : goal.returns-in-WordsInFlight-clause-front
+returns-in-WordsInFlight-clause-front g c = rw c.in-WordsInFlight.is c.write_all-in-WordsInFlight.ensures.front
+
+pub returns-in-Turns-clause-whole : goal.returns-in-Turns-clause-whole
+returns-in-Turns-clause-whole g c = rw c.in-Turns.is c.write_number-in-Turns.ensures.whole
+
+pub returns-in-Turns-clause-front : goal.returns-in-Turns-clause-front
+returns-in-Turns-clause-front g c = rw c.in-Turns.is c.write_number-in-Turns.ensures.front

@@ -1,0 +1,109 @@
+-- The status of a refusal, the line that tells it, and the line of a file that is accepted.
+use Rattle.std.specs.Prelude.{ℕ, ℤ, List, [], ◌++◌, Option, Some, None, codes, decimal}
+use Rattle.std.specs.Fmt.{signed_decimal}
+use Rattle.pb_text.specs.declared.place.Place.{Place}
+use Rattle.pb_affine.specs.declared.range.NRange.{NRange}
+use Rattle.pb_text.specs.declared.quantity.Quantity.{Quantity}
+use Rattle.pb_text.specs.declared.quantity.Quantity.TheVariants as quantity
+use Rattle.pb_cli_status.specs.declared.refusal.Refusal.{Refusal}
+use Rattle.pb_cli_status.specs.declared.refusal.Refusal.TheVariants as refusal
+use Rattle.pb_cli_status.specs.declared.status.Status.{Status}
+use Rattle.pb_cli_status.specs.declared.status.Status.TheVariants as status
+
+abbrev pub status_of : Refusal → Status
+status_of refusal.Usage = status.Usage
+status_of refusal.ReadFault = status.ReadFault
+status_of refusal.FileBytes = status.Limit
+status_of refusal.NoMemory = status.NoMemory
+status_of (refusal.Syntax place) = status.Refused
+status_of (refusal.Limit limit place) = status.Limit
+status_of refusal.Breakpoints = status.Limit
+status_of (refusal.Broken rule place n at) = status.Refused
+status_of (refusal.Text place) = status.Text
+status_of (refusal.Schedule line) = status.Schedule
+status_of refusal.Events = status.Limit
+status_of (refusal.OutOfRange n range) = status.OutOfRange
+status_of refusal.Ranks = status.Limit
+status_of refusal.WordsInFlight = status.Limit
+status_of (refusal.Turns turns) = status.Turns
+
+-- the line's words for a limit
+abbrev pub limit_words : Quantity → List ℕ
+limit_words quantity.FileBytes = codes "pabble: limit file bytes"
+limit_words quantity.NumberSize = codes "pabble: limit number"
+limit_words quantity.NameLength = codes "pabble: limit name"
+limit_words quantity.Nesting = codes "pabble: limit nesting"
+limit_words quantity.Statements = codes "pabble: limit statements"
+limit_words quantity.Roles = codes "pabble: limit roles"
+limit_words quantity.Branches = codes "pabble: limit branches"
+limit_words quantity.Constant = codes "pabble: limit constant"
+limit_words quantity.PayloadCount = codes "pabble: limit payload"
+limit_words quantity.Breakpoints = codes "pabble: limit breakpoints"
+limit_words quantity.Ranks = codes "pabble: limit ranks"
+limit_words quantity.WordsInFlight = codes "pabble: limit words in flight"
+limit_words quantity.TextNesting = codes "pabble: limit text nesting"
+limit_words quantity.TextStatements = codes "pabble: limit text statements"
+limit_words quantity.Events = codes "pabble: limit events"
+
+-- a line that tells a place: what, ` at ` and L:C
+abbrev pub line_at : List ℕ → Place → List ℕ
+line_at what place = what ++ codes " at " ++ decimal place.line ++ codes ":" ++ decimal place.col ++ codes "\n"
+
+-- `pabble: rule K at L:C`
+unfoldable pub rule_words : ℕ → Place → List ℕ
+rule_words rule place = codes "pabble: rule " ++ decimal rule ++ codes " at " ++ decimal place.line ++ codes ":" ++ decimal place.col
+
+-- `, N = n` where an N is told
+abbrev pub n_words : Option ℤ → List ℕ
+n_words None = []
+n_words (Some n) = codes ", N = " ++ signed_decimal n
+
+-- `, W[x]` where a rank is told, and the line's end
+abbrev pub rank_line : Option (List ℕ × ℤ) → List ℕ
+rank_line None = codes "\n"
+rank_line (Some at) = codes ", " ++ at.0 ++ codes "[" ++ signed_decimal at.1 ++ codes "]\n"
+
+abbrev pub told_line : Option ℤ → Option (List ℕ × ℤ) → List ℕ
+told_line n at = n_words n ++ rank_line at
+
+-- a line that tells a broken rule
+abbrev pub rule_line : ℕ → Place → Option ℤ → Option (List ℕ × ℤ) → List ℕ
+rule_line rule place n at = rule_words rule place ++ told_line n at
+
+-- a line that ends with a number
+abbrev pub number_line : List ℕ → ℕ → List ℕ
+number_line what n = what ++ decimal n ++ codes "\n"
+
+-- the upper end of a range, and the line's end
+abbrev pub high_words : Option ℕ → List ℕ
+high_words None = codes "..max\n"
+high_words (Some high) = codes ".." ++ decimal high ++ codes "\n"
+
+-- `pabble: N = n outside LO`
+unfoldable pub low_words : ℕ → ℕ → List ℕ
+low_words n low = codes "pabble: N = " ++ decimal n ++ codes " outside " ++ decimal low
+
+-- and the upper end
+abbrev pub outside_line : ℕ → NRange → List ℕ
+outside_line n range = low_words n range.low ++ high_words range.high
+
+abbrev pub line_of : Refusal → List ℕ
+line_of refusal.Usage = codes "pabble: usage\n"
+line_of refusal.ReadFault = codes "pabble: read fault\n"
+line_of refusal.FileBytes = codes "pabble: limit file bytes\n"
+line_of refusal.NoMemory = codes "pabble: no memory\n"
+line_of (refusal.Syntax place) = line_at (codes "pabble: syntax") place
+line_of (refusal.Limit limit place) = line_at (limit_words limit) place
+line_of refusal.Breakpoints = codes "pabble: limit breakpoints\n"
+line_of (refusal.Broken rule place n at) = rule_line rule place n at
+line_of (refusal.Text place) = line_at (codes "pabble: text") place
+line_of (refusal.Schedule line) = number_line (codes "pabble: schedule line ") line
+line_of refusal.Events = codes "pabble: limit events\n"
+line_of (refusal.OutOfRange n range) = outside_line n range
+line_of refusal.Ranks = codes "pabble: limit ranks\n"
+line_of refusal.WordsInFlight = codes "pabble: limit words in flight\n"
+line_of (refusal.Turns turns) = number_line (codes "pabble: turns ") turns
+
+-- the line of a file that is accepted
+abbrev pub accepted_line : List ℕ
+accepted_line = codes "accepted\n"

@@ -1,5 +1,0 @@
-use Rattle.pb_cmain.proofs.Fitted as Fitted
-use Rattle.pb_cmain.proofs.facts.fits_what_goes_on.Goals as goal
-
-pub returns : goal.returns
-returns c = Fitted.fits

@@ -1,5 +1,0 @@
-use Rattle.pb_cmain.proofs.Relabelled as Relabelled
-use Rattle.pb_cmain.proofs.facts.only_one_goes_on.Goals as goal
-
-pub returns : goal.returns
-returns c = Relabelled.only_one

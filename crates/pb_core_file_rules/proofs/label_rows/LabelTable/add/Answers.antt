@@ -1,0 +1,17 @@
+use Rattle.std.proofs.Common.{◌∙◌, sym, arith}
+use Rattle.pb_core_file_rules.specs.Tables.{labelled_of}
+use Rattle.pb_core_file_rules.proofs.LabelRows.{stays, goes_last, keeps_new, just_behind}
+use Rattle.pb_core_file_rules.proofs.label_rows.LabelTable.add.Goals as goal
+
+pub returns-then-id-len-clause-rows : goal.returns-then-id-len-clause-rows
+returns-then-id-len-clause-rows c = sym (stays c.args.self.now.rows.items (labelled_of c.args.one.now) c.place-id.result c.place-id.ensures (omega (arith, c.if-id-len.true, c.len.ensures)))
+
+pub push-requires-clause-last : goal.push-requires-clause-last
+push-requires-clause-last c = just_behind c.args.self.now.rows.items c.args.one.now.label.name c.place-id.result c.place-id.ensures (omega (arith, c.if-id-len.false, c.len.ensures))
+
+pub returns-clause-rows : goal.returns-clause-rows
+returns-clause-rows c =
+    c.in_ok-push.ensures.rows ∙ sym (goes_last c.args.self.now.rows.items (labelled_of c.args.one.now) c.place-id.result c.place-id.ensures (omega (arith, c.if-id-len.false, c.len.ensures)))
+
+pub returns-clause-keeps : goal.returns-clause-keeps
+returns-clause-keeps c = sym (keeps_new c.args.self.now.rows.items (labelled_of c.args.one.now) c.place-id.result c.place-id.ensures (omega (arith, c.if-id-len.false, c.len.ensures)))

@@ -1,0 +1,31 @@
+ghost use Rattle.std.specs.Prelude.{◌≡◌};
+ghost use Rattle.pb_core_language.specs.Names.{same};
+
+use pb_text::Name;
+
+/// The names of the loops, or of the variables, around a place. The innermost is the first.
+#[derive(Clone, Copy)]
+pub enum Around<'a> {
+    Nothing,
+    Inside(Name, &'a Around<'a>),
+}
+
+impl Around<'_> {
+    ghost use Rattle.pb_core_language.specs.Names.{is_named};
+    ghost use Rattle.pb_core_file_rules.specs.Lowering.{names_of};
+
+    pub fn has(&self, name: &Name) -> bool
+        ensures { result ≡ is_named name.now (names_of self.now) }
+    {
+        match self {
+            Around::Nothing => false,
+            Around::Inside(first, rest) => is_same(name, first) || rest.has(name),
+        }
+    }
+}
+
+pub fn is_same(a: &Name, b: &Name) -> bool
+    ensures { result ≡ same a.now b.now }
+{
+    a.bytes() == b.bytes()
+}

@@ -1,0 +1,6 @@
+mod Bools
+mod Numbers
+mod LeastSets
+mod RunLaws
+mod Rows
+mod FileRows

@@ -1,0 +1,86 @@
+//! Which words are names.
+
+ghost use Rattle.std.specs.Prelude.{◌≡◌, nat_eq, map};
+ghost use Rattle.std.specs.Cmp.Lexicographic.{pointwise};
+ghost use Rattle.std.specs.List.{list_any, list_all};
+ghost use Rattle.pb_local.specs.Names.{is_letter, is_word, is_keyword, is_name};
+ghost use Rattle.pb_cread_rows.specs.Parts.{goes_on_name};
+
+fn is_letter(byte: u8) -> bool
+    ensures { result ≡ is_letter byte }
+{
+    (b'A' <= byte && byte <= b'Z') || (b'a' <= byte && byte <= b'z') || byte == b'_'
+}
+
+pub fn goes_on_name(byte: u8) -> bool
+    ensures { result ≡ goes_on_name byte }
+{
+    is_letter(byte) || (b'0' <= byte && byte <= b'9')
+}
+
+fn go_on_name(bytes: &[u8]) -> bool
+    ensures { result ≡ list_all goes_on_name bytes.now }
+{
+    bytes.iter().all(|byte| goes_on_name(*byte))
+}
+
+fn is_word(word: &[u8]) -> bool
+    ensures { result ≡ is_word word.now }
+{
+    match word {
+        [] => false,
+        [first, others @ ..] => is_letter(*first) && go_on_name(others),
+    }
+}
+
+fn is_one_of(words: &[&[u8]], word: &[u8]) -> bool
+    ensures { result ≡ list_any (λ k. pointwise nat_eq k word.now) (map (λ w. w.now) words.now) }
+{
+    for other in words {
+        if *other == word {
+            return true;
+        }
+    }
+    false
+}
+
+fn is_keyword(word: &[u8]) -> bool
+    ensures { result ≡ is_keyword word.now }
+{
+    is_one_of(
+        &[
+            b"const",
+            b"global",
+            b"protocol",
+            b"role",
+            b"from",
+            b"to",
+            b"foreach",
+            b"rec",
+            b"continue",
+            b"choice",
+            b"at",
+            b"or",
+            b"compute",
+            b"barrier",
+            b"broadcast",
+            b"reduce",
+            b"allreduce",
+            b"with",
+            b"max",
+            b"min",
+            b"sum",
+            b"int32",
+            b"uint32",
+            b"do",
+        ],
+        word,
+    )
+}
+
+/// True where the word is a name: at most 64 letters, digits and underscores, no digit first, and no keyword.
+pub fn is_name(word: &[u8]) -> bool
+    ensures { result ≡ is_name word.now }
+{
+    is_word(word) && word.len() < 65 && !is_keyword(word)
+}

@@ -1,0 +1,10 @@
+pub mod Bodied
+pub mod Held
+pub mod Only
+pub mod Fitted
+pub mod Alike
+pub mod Fronts
+pub mod Rows
+pub mod Framed
+pub mod Pairs
+pub mod Faults

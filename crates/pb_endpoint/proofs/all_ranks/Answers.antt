@@ -1,5 +1,0 @@
-use Rattle.pb_endpoint.proofs.all_ranks.Goals as goal
-use Rattle.pb_endpoint.proofs.CoreDone.{core_ranks}
-
-pub returns : goal.returns
-returns c = core_ranks

@@ -1,5 +1,0 @@
-use Rattle.pb_endpoint.proofs.Accepted.{bridge_is}
-use Rattle.pb_endpoint.proofs.bridge.Goals as goal
-
-pub returns : goal.returns
-returns c = bridge_is

@@ -1,5 +1,0 @@
-use Rattle.pb_exact.proofs.Draws as draws
-use Rattle.pb_exact.proofs.laws.drawn_has_a_step.Goals as goal
-
-pub returns : goal.returns
-returns c = draws.drawn_has_a_step

@@ -1,5 +1,0 @@
-use Rattle.pb_exact.proofs.Texts as texts
-use Rattle.pb_exact.proofs.laws.one_text_tree.Goals as goal
-
-pub returns : goal.returns
-returns c = texts.one_text_tree

@@ -1,5 +1,0 @@
-use Rattle.pb_exact.proofs.Schedules as schedules
-use Rattle.pb_exact.proofs.laws.schedule_has_no_fault.Goals as goal
-
-pub returns : goal.returns
-returns c = schedules.schedule_has_no_fault

@@ -1,5 +1,0 @@
-use Rattle.pb_exact.proofs.Texts as texts
-use Rattle.pb_exact.proofs.laws.text_has_no_fault.Goals as goal
-
-pub returns : goal.returns
-returns c = texts.text_has_no_fault

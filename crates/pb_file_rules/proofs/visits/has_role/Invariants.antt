@@ -1,7 +1,0 @@
-use Rattle.std.proofs.Common.{◌≡◌, drop}
-use Rattle.pb_core.specs.Names.{is_named}
-use Rattle.pb_core.specs.FileRules.{role_names}
-use Rattle.pb_file_rules.proofs.visits.has_role.Given as goal
-
-abbrev pub invariant-loop-role : goal.invariant-loop-role
-invariant-loop-role l = is_named l.name (role_names (drop l.role-index l.roles)) ≡ is_named l.name (role_names l.roles)

@@ -1,5 +1,0 @@
-use Rattle.pb_parsed.proofs.Sound as sound
-use Rattle.pb_parsed.proofs.laws.parsed_is_sound.Goals as goal
-
-pub returns : goal.returns
-returns c = sound.parsed_is_sound

@@ -1,5 +1,0 @@
-use Rattle.pb_part.proofs.EndAreas.{end_is}
-use Rattle.pb_part.proofs.ends.end_area.Goals as goal
-
-pub returns : goal.returns
-returns c = end_is c.args.end c.next_to.result c.next_to.ensures

@@ -1,0 +1,30 @@
+use Rattle.std.proofs.Common.{ap, sym, ◌∙◌, ◌||◌, subst}
+use Rattle.std.specs.List.{All}
+use Rattle.std.proofs.lemmas.List.Elements.{All-push}
+use Rattle.pb_part_areas.specs.Areas.{have}
+use Rattle.pb_part_areas.specs.Fits.{Fits}
+use Rattle.pb_part_areas.specs.Joins.{IsJoin}
+use Rattle.pb_part_areas.proofs.Joins.{join_is, join_fits, All_removed}
+use Rattle.pb_part_areas.proofs.Lists.{have_pushed}
+use Rattle.pb_part_areas.proofs.join.push.Goals as goal
+
+pub loop-join-preserved : goal.loop-join-preserved
+loop-join-preserved c =
+    let j : IsJoin c.loop-join.out.items c.loop-join.last c.in-Some.join.place c.in-Some.join.area = rw c.deref.ensures.value at c.in-Some.ensures in
+    record {
+      is = λ n role x. join_is c.loop-join.out.items c.remove.new.self.items c.in-Some.join.place c.loop-join.last c.in-Some.join.area j c.remove.ensures.items n role x _ (c.loop-join.invariant.is n role x);
+      fits = λ range cuts h f. All_removed range cuts c.loop-join.out.items c.remove.new.self.items c.in-Some.join.place c.remove.ensures.items (c.loop-join.invariant.fits range cuts h f);
+      own = λ range cuts h f. join_fits range cuts c.loop-join.out.items c.in-Some.join.place c.loop-join.last c.in-Some.join.area j (c.loop-join.invariant.fits range cuts h f) (c.loop-join.invariant.own range cuts h f);
+    }
+
+pub returns-clause-is : goal.returns-clause-is
+returns-clause-is c = λ n role x.
+    have_pushed c.loop-join.out.items c.push.new.self.items c.loop-join.last c.in_ok-push.ensures.items n role x
+    ∙ c.loop-join.invariant.is n role x
+    ∙ ap (λ z. have c.args.out.now.items n role x || z) (c.tightened-last.ensures.is n role x)
+
+pub returns-clause-fits : goal.returns-clause-fits
+returns-clause-fits c = λ range cuts h f.
+    let g = c.tightened-last.ensures.fits range cuts f in
+    subst (All (Fits range cuts)) (sym c.in_ok-push.ensures.items)
+    (All-push (Fits range cuts) c.loop-join.out.items c.loop-join.last (c.loop-join.invariant.fits range cuts h g) (c.loop-join.invariant.own range cuts h g))

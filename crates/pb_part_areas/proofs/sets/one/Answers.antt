@@ -1,0 +1,8 @@
+use Rattle.std.proofs.Common.{sym, subst}
+use Rattle.std.specs.List.{All}
+use Rattle.std.proofs.lemmas.List.Elements.{All-nil}
+use Rattle.pb_part_areas.specs.Fits.{Fits}
+use Rattle.pb_part_areas.proofs.sets.one.Goals as goal
+
+pub returns-clause-fits : goal.returns-clause-fits
+returns-clause-fits c = λ range cuts f. c.in_ok-push.ensures.fits range cuts (subst (All (Fits range cuts)) (sym c.new-list.ensures.items) (All-nil (Fits range cuts))) f

@@ -1,0 +1,44 @@
+ghost use Rattle.std.specs.Prelude.{◌≡◌, ℕ, ℤ, ◌&&◌, ◌||◌, not, List, OnOk};
+ghost use Rattle.std.specs.List.{All};
+ghost use Rattle.pb_affine.specs.declared.lin.Lin.{Lin};
+ghost use Rattle.pb_affine.specs.declared.range.NRange.{NRange};
+ghost use Rattle.pb_part_areas.specs.Areas.{has, have};
+ghost use Rattle.pb_part_areas.specs.Fits.{Fits};
+
+use crate::area::{Area, ahead, behind, since, until};
+use crate::cut::{above, below};
+use crate::join::{push, push_two};
+use pb_text::NoMemory;
+
+/// Adds what `a` holds of and `b` doesn't.
+pub(crate) fn minus(out: &mut Vec<Area>, a: Area, b: Area) -> Result<(), NoMemory>
+    ensures is { OnOk result ((n : ℤ) (role : ℕ) (x : ℤ) → have out.new.items n role x ≡ have out.old.items n role x || (has a n role x && not (has b n role x))) }
+    ensures fits { OnOk result ((range : NRange) (cuts : List Lin) → All (Fits range cuts) out.old.items → Fits range cuts a → Fits range cuts b → All (Fits range cuts) out.new.items) }
+{
+    if a.role == b.role {
+        push(out, until(a, b.from))?;
+        push(out, behind(a, b.until))?;
+        let part = ahead(since(a, b.from), b.until);
+        push_two(out, below(part, b.low))?;
+        push_two(out, above(part, b.end))?;
+        Ok(())
+    } else {
+        push(out, a)
+    }
+}
+
+/// Adds what both `a` and `b` hold of.
+pub(crate) fn overlap(out: &mut Vec<Area>, a: Area, b: Area) -> Result<(), NoMemory>
+    ensures is { OnOk result ((n : ℤ) (role : ℕ) (x : ℤ) → have out.new.items n role x ≡ have out.old.items n role x || (has a n role x && has b n role x)) }
+    ensures fits { OnOk result ((range : NRange) (cuts : List Lin) → All (Fits range cuts) out.old.items → Fits range cuts a → Fits range cuts b → All (Fits range cuts) out.new.items) }
+{
+    if a.role == b.role {
+        let part = ahead(since(a, b.from), b.until);
+        let two = above(part, b.low);
+        push_two(out, below(two.first, b.end))?;
+        push_two(out, below(two.second, b.end))?;
+        Ok(())
+    } else {
+        Ok(())
+    }
+}

@@ -1,0 +1,121 @@
+ghost use Rattle.std.specs.Prelude.{◌≡◌, ℕ, ℤ, ◌&&◌, ◌||◌, not, List, OnOk, IfOk};
+ghost use Rattle.std.specs.List.{All};
+ghost use Rattle.pb_affine.specs.declared.lin.Lin.{Lin};
+ghost use Rattle.pb_affine.specs.declared.range.NRange.{NRange};
+ghost use Rattle.pb_part_areas.specs.Areas.{has, have};
+ghost use Rattle.pb_part_areas.specs.Fits.{Fits};
+
+use crate::area::Area;
+use crate::join::push;
+use crate::pair::{minus, overlap};
+use pb_text::NoMemory;
+use std::alloc::Global;
+
+/// What some area of the list holds of and `b` doesn't.
+fn less(alloc: Global, list: &[Area], b: Area) -> Result<Vec<Area>, NoMemory>
+    ensures is { IfOk result (λ v. (n : ℤ) (role : ℕ) (x : ℤ) → have v.items n role x ≡ have list.now n role x && not (has b n role x)) }
+    ensures fits { IfOk result (λ v. (range : NRange) (cuts : List Lin) → All (Fits range cuts) list.now → Fits range cuts b → All (Fits range cuts) v.items) }
+{
+    let mut out = Vec::new(alloc);
+    for a in list {
+        minus(&mut out, *a, b)?;
+    }
+    Ok(out)
+}
+
+/// What some area of `list` holds of and none of `others`.
+pub fn without(alloc: Global, list: Vec<Area>, others: &[Area]) -> Result<Vec<Area>, NoMemory>
+    ensures is { IfOk result (λ v. (n : ℤ) (role : ℕ) (x : ℤ) → have v.items n role x ≡ have list.items n role x && not (have others.now n role x)) }
+    ensures fits { IfOk result (λ v. (range : NRange) (cuts : List Lin) → All (Fits range cuts) list.items → All (Fits range cuts) others.now → All (Fits range cuts) v.items) }
+{
+    let mut left = list;
+    for b in others {
+        left = less(alloc, &left, *b)?;
+    }
+    Ok(left)
+}
+
+/// Adds what both the area and some area of the list hold of.
+fn overlap_all(out: &mut Vec<Area>, a: Area, list: &[Area]) -> Result<(), NoMemory>
+    ensures is { OnOk result ((n : ℤ) (role : ℕ) (x : ℤ) → have out.new.items n role x ≡ have out.old.items n role x || (has a n role x && have list.now n role x)) }
+    ensures fits { OnOk result ((range : NRange) (cuts : List Lin) → All (Fits range cuts) out.old.items → Fits range cuts a → All (Fits range cuts) list.now → All (Fits range cuts) out.new.items) }
+{
+    for b in list {
+        overlap(out, a, *b)?;
+    }
+    Ok(())
+}
+
+/// What some area of each list holds of.
+pub fn common(alloc: Global, list: &[Area], others: &[Area]) -> Result<Vec<Area>, NoMemory>
+    ensures is { IfOk result (λ v. (n : ℤ) (role : ℕ) (x : ℤ) → have v.items n role x ≡ have list.now n role x && have others.now n role x) }
+    ensures fits { IfOk result (λ v. (range : NRange) (cuts : List Lin) → All (Fits range cuts) list.now → All (Fits range cuts) others.now → All (Fits range cuts) v.items) }
+{
+    let mut out = Vec::new(alloc);
+    for a in list {
+        overlap_all(&mut out, *a, others)?;
+    }
+    Ok(out)
+}
+
+/// Adds all areas of the list.
+pub fn add_all(out: &mut Vec<Area>, more: &[Area]) -> Result<(), NoMemory>
+    ensures is { OnOk result ((n : ℤ) (role : ℕ) (x : ℤ) → have out.new.items n role x ≡ have out.old.items n role x || have more.now n role x) }
+    ensures fits { OnOk result ((range : NRange) (cuts : List Lin) → All (Fits range cuts) out.old.items → All (Fits range cuts) more.now → All (Fits range cuts) out.new.items) }
+{
+    for a in more {
+        push(out, *a)?;
+    }
+    Ok(())
+}
+
+/// One area as a list.
+pub fn one(alloc: Global, a: Area) -> Result<Vec<Area>, NoMemory>
+    ensures is { IfOk result (λ v. (n : ℤ) (role : ℕ) (x : ℤ) → have v.items n role x ≡ has a n role x) }
+    ensures fits { IfOk result (λ v. (range : NRange) (cuts : List Lin) → Fits range cuts a → All (Fits range cuts) v.items) }
+{
+    let mut list = Vec::new(alloc);
+    push(&mut list, a)?;
+    Ok(list)
+}
+
+/// What the area holds of and none of the list.
+fn missing(alloc: Global, a: Area, list: &[Area]) -> Result<Vec<Area>, NoMemory>
+    ensures is { IfOk result (λ v. (n : ℤ) (role : ℕ) (x : ℤ) → have v.items n role x ≡ has a n role x && not (have list.now n role x)) }
+    ensures fits { IfOk result (λ v. (range : NRange) (cuts : List Lin) → Fits range cuts a → All (Fits range cuts) list.now → All (Fits range cuts) v.items) }
+{
+    let alone = one(alloc, a)?;
+    let left = without(alloc, alone, list)?;
+    Ok(left)
+}
+
+/// Adds what the area holds of, as far as it isn't there.
+pub fn add_new(alloc: Global, out: &mut Vec<Area>, a: Area) -> Result<(), NoMemory>
+    ensures is { OnOk result ((n : ℤ) (role : ℕ) (x : ℤ) → have out.new.items n role x ≡ have out.old.items n role x || has a n role x) }
+    ensures fits { OnOk result ((range : NRange) (cuts : List Lin) → All (Fits range cuts) out.old.items → Fits range cuts a → All (Fits range cuts) out.new.items) }
+{
+    let new = missing(alloc, a, out)?;
+    add_all(out, &new)?;
+    Ok(())
+}
+
+/// Adds what the list holds of, as far as it isn't there.
+pub fn absorb(alloc: Global, out: &mut Vec<Area>, more: &[Area]) -> Result<(), NoMemory>
+    ensures is { OnOk result ((n : ℤ) (role : ℕ) (x : ℤ) → have out.new.items n role x ≡ have out.old.items n role x || have more.now n role x) }
+    ensures fits { OnOk result ((range : NRange) (cuts : List Lin) → All (Fits range cuts) out.old.items → All (Fits range cuts) more.now → All (Fits range cuts) out.new.items) }
+{
+    for a in more {
+        add_new(alloc, out, *a)?;
+    }
+    Ok(())
+}
+
+/// The same ranks once more.
+pub fn copied(alloc: Global, list: &[Area]) -> Result<Vec<Area>, NoMemory>
+    ensures is { IfOk result (λ v. (n : ℤ) (role : ℕ) (x : ℤ) → have v.items n role x ≡ have list.now n role x) }
+    ensures fits { IfOk result (λ v. (range : NRange) (cuts : List Lin) → All (Fits range cuts) list.now → All (Fits range cuts) v.items) }
+{
+    let mut copy = Vec::new(alloc);
+    add_all(&mut copy, list)?;
+    Ok(copy)
+}

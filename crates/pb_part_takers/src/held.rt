@@ -1,0 +1,51 @@
+ghost use Rattle.std.specs.Prelude.{◌≡◌, ℕ, ℤ, ◌||◌, List, OnOk, IfOk};
+ghost use Rattle.std.specs.List.{All};
+ghost use Rattle.pb_affine.specs.declared.lin.Lin.{Lin};
+ghost use Rattle.pb_affine.specs.declared.range.NRange.{NRange};
+ghost use Rattle.pb_part_areas.specs.Areas.{have};
+ghost use Rattle.pb_part_areas.specs.Fits.{Fits};
+ghost use Rattle.pb_core_language.specs.Flat.{nth};
+ghost use Rattle.pb_core_language.specs.FlatOf.{between};
+ghost use Rattle.pb_part_takers.specs.Loops.{ids_of, held_of, HeldFit, IsInside};
+
+use pb_part_areas::{Area, absorb, copied};
+use pb_text::NoMemory;
+use std::alloc::Global;
+
+/// A loop, with the areas of the ranks that take part in its body for a reason other than its continue.
+#[derive(Debug, Drop)]
+pub struct Held {
+    pub id: u32,
+    pub areas: Vec<Area>,
+}
+
+/// Adds the ranks that the innermost loop with this id holds. None where there is no such loop.
+pub fn add_held(alloc: Global, out: &mut Vec<Area>, id: u32, held: &[Held]) -> Result<(), NoMemory>
+    ensures is { OnOk result ((n : ℤ) (role : ℕ) (x : ℤ) → have out.new.items n role x ≡ have out.old.items n role x || nth (held_of held.now n role x) (between id (ids_of held.now))) }
+    ensures fits { OnOk result ((range : NRange) (cuts : List Lin) → All (Fits range cuts) out.old.items → HeldFit range cuts held.now → All (Fits range cuts) out.new.items) }
+{
+    for h in held {
+        if id == h.id {
+            return absorb(alloc, out, &h.areas);
+        }
+    }
+    Ok(())
+}
+
+/// The loops with one more, which stands inside them.
+pub fn with_loop(
+    alloc: Global,
+    held: &[Held],
+    id: u32,
+    areas: Vec<Area>,
+) -> Result<Vec<Held>, NoMemory>
+    ensures { IfOk result (λ v. IsInside held.now id areas.items v.items) }
+{
+    let mut list = Vec::new(alloc);
+    list.push(Held { id, areas })?;
+    for h in held {
+        let areas = copied(alloc, &h.areas)?;
+        list.push(Held { id: h.id, areas })?;
+    }
+    Ok(list)
+}

@@ -1,0 +1,182 @@
+ghost use Rattle.std.specs.Prelude.{◌≡◌, ℕ, map, List, OnOk};
+ghost use Rattle.pb_part_areas.specs.declared.area.Area.{Area};
+ghost use Rattle.pb_core_language.specs.Plain.{plain_block, plain_stmt, branches_of};
+ghost use Rattle.pb_core_language.specs.Tree.{Mark, message, foreach, loop, again, choice, run, barrier, broadcast, reduce, allreduce};
+ghost use Rattle.pb_core_flat.specs.GoesOn.{is_again};
+ghost use Rattle.pb_part_takers.specs.declared.held.Held.{Held};
+ghost use Rattle.pb_part_takers.specs.Ends.{bounds_of};
+ghost use Rattle.pb_part_takers.specs.Pieces.{IsAdded, joint_piece, stmt_piece, block_piece, branches_piece, stmt_of};
+
+use crate::each::{Over, takers_each};
+use crate::ends::add_end;
+use crate::held::{Held, add_held, with_loop};
+use pb_core_language::{CoreBlock, CoreEnd, CoreKind, CoreStmt};
+use pb_part_areas::{Area, absorb};
+use pb_text::NoMemory;
+use std::alloc::Global;
+
+fn is_again(stmt: &CoreStmt) -> bool
+    ensures { result ≡ is_again (plain_stmt stmt.now).stmt }
+{
+    match &stmt.what {
+        CoreKind::Again { .. } => true,
+        CoreKind::Message { .. }
+        | CoreKind::Foreach { .. }
+        | CoreKind::Loop { .. }
+        | CoreKind::Choice { .. }
+        | CoreKind::Run { .. }
+        | CoreKind::Barrier
+        | CoreKind::Broadcast { .. }
+        | CoreKind::Reduce { .. }
+        | CoreKind::Allreduce { .. } => false,
+    }
+}
+
+fn takers_of_message(
+    alloc: Global,
+    from: CoreEnd,
+    to: CoreEnd,
+    out: &mut Vec<Area>,
+) -> Result<(), NoMemory>
+    ensures { OnOk result ((whole : List Area) (held : List Held) (label : ℕ) (mark : Mark) → IsAdded whole held (stmt_piece held (stmt_of mark (message label from to))) out.old.items out.new.items) }
+{
+    add_end(alloc, out, from)?;
+    add_end(alloc, out, to)?;
+    Ok(())
+}
+
+fn takers_of_each(
+    items: &CoreBlock,
+    over: Over,
+    alloc: Global,
+    out: &mut Vec<Area>,
+) -> Result<(), NoMemory>
+    ensures { OnOk result ((whole : List Area) (held : List Held) (mark : Mark) → IsAdded whole held (stmt_piece held (stmt_of mark (foreach (bounds_of over) (plain_block items.now).mark (plain_block items.now).block))) out.old.items out.new.items) }
+{
+    takers_each(items, alloc, over, out)?;
+    Ok(())
+}
+
+fn takers_of_continue(
+    id: u32,
+    alloc: Global,
+    held: &[Held],
+    out: &mut Vec<Area>,
+) -> Result<(), NoMemory>
+    ensures { OnOk result ((whole : List Area) (mark : Mark) → IsAdded whole held.now (stmt_piece held.now (stmt_of mark (again id))) out.old.items out.new.items) }
+{
+    add_held(alloc, out, id, held)?;
+    Ok(())
+}
+
+/// Adds all ranks.
+fn takers_of_all(alloc: Global, whole: &[Area], out: &mut Vec<Area>) -> Result<(), NoMemory>
+    ensures { OnOk result ((held : List Held) → IsAdded whole.now held joint_piece out.old.items out.new.items) }
+{
+    absorb(alloc, out, whole)?;
+    Ok(())
+}
+
+/// Adds the ranks that take part in the block, which stands inside the loops of `held`, the innermost first.
+#[cycle(taking)]
+pub fn takers_in(
+    block: &CoreBlock,
+    alloc: Global,
+    whole: &[Area],
+    held: &[Held],
+    out: &mut Vec<Area>,
+) -> Result<(), NoMemory>
+    ensures { OnOk result (IsAdded whole.now held.now (block_piece held.now (plain_block block.now).block) out.old.items out.new.items) }
+{
+    for stmt in &block.list {
+        takers_at(stmt, alloc, whole, held, out)?;
+        if is_again(stmt) {
+            return Ok(());
+        }
+    }
+    Ok(())
+}
+
+/// Adds the ranks that take part in the body of a loop.
+#[cycle(taking)]
+fn takers_of_loop(
+    body: &CoreBlock,
+    id: u32,
+    alloc: Global,
+    whole: &[Area],
+    held: &[Held],
+    out: &mut Vec<Area>,
+) -> Result<(), NoMemory>
+    ensures { OnOk result ((mark : Mark) → IsAdded whole.now held.now (stmt_piece held.now (stmt_of mark (loop id (plain_block body.now).mark (plain_block body.now).block))) out.old.items out.new.items) }
+{
+    let inner = with_loop(alloc, held, id, Vec::new(alloc))?;
+    takers_in(body, alloc, whole, &inner, out)?;
+    Ok(())
+}
+
+/// Adds the ranks that take part in some branch.
+#[cycle(taking)]
+fn takers_among(
+    branches: &[CoreBlock],
+    alloc: Global,
+    whole: &[Area],
+    held: &[Held],
+    out: &mut Vec<Area>,
+) -> Result<(), NoMemory>
+    ensures { OnOk result (IsAdded whole.now held.now (branches_piece held.now (branches_of (map plain_block branches.now))) out.old.items out.new.items) }
+{
+    for branch in branches {
+        takers_in(branch, alloc, whole, held, out)?;
+    }
+    Ok(())
+}
+
+/// Adds the chooser and the ranks that take part in some branch.
+#[cycle(taking)]
+fn takers_of_choice(
+    branches: &[CoreBlock],
+    at: CoreEnd,
+    alloc: Global,
+    whole: &[Area],
+    held: &[Held],
+    out: &mut Vec<Area>,
+) -> Result<(), NoMemory>
+    ensures { OnOk result ((kernel : ℕ) (mark : Mark) → IsAdded whole.now held.now (stmt_piece held.now (stmt_of mark (choice kernel at (branches_of (map plain_block branches.now))))) out.old.items out.new.items) }
+{
+    add_end(alloc, out, at)?;
+    takers_among(branches, alloc, whole, held, out)?;
+    Ok(())
+}
+
+/// Adds the ranks that take part in the statement, which stands inside the loops of `held`, the innermost first.
+#[cycle(taking)]
+pub fn takers_at(
+    stmt: &CoreStmt,
+    alloc: Global,
+    whole: &[Area],
+    held: &[Held],
+    out: &mut Vec<Area>,
+) -> Result<(), NoMemory>
+    ensures { OnOk result (IsAdded whole.now held.now (stmt_piece held.now (plain_stmt stmt.now)) out.old.items out.new.items) }
+{
+    match &stmt.what {
+        CoreKind::Message { from, to, .. } => takers_of_message(alloc, *from, *to, out),
+        CoreKind::Foreach { low, high, items } => {
+            let over = Over {
+                low: *low,
+                high: *high,
+            };
+            takers_of_each(items, over, alloc, out)
+        }
+        CoreKind::Loop { id, body } => takers_of_loop(body, *id, alloc, whole, held, out),
+        CoreKind::Again { id } => takers_of_continue(*id, alloc, held, out),
+        CoreKind::Choice { at, branches, .. } => {
+            takers_of_choice(branches, *at, alloc, whole, held, out)
+        }
+        CoreKind::Run { at, .. } => add_end(alloc, out, *at),
+        CoreKind::Barrier => takers_of_all(alloc, whole, out),
+        CoreKind::Broadcast { .. } => takers_of_all(alloc, whole, out),
+        CoreKind::Reduce { .. } => takers_of_all(alloc, whole, out),
+        CoreKind::Allreduce { .. } => takers_of_all(alloc, whole, out),
+    }
+}

@@ -1,6 +1,0 @@
-use Rattle.pb_core.specs.Plain.{plain_stmt}
-use Rattle.pb_piece.proofs.Straight.{item_piece}
-use Rattle.pb_piece.proofs.piece.put_alone.Goals as goal
-
-pub returns : goal.returns
-returns c = λ item. item_piece c.args.setting.now.range c.args.setting.now.roles c.args.setting.now.whole.now (plain_stmt c.args.stmt.now).stmt c.args.out.now.items c.put_item.new.out.items item c.in_ok-put_item.ensures

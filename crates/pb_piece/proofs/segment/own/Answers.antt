@@ -1,7 +1,0 @@
-use Rattle.std.proofs.Common.{refl, sym, subst}
-use Rattle.pb_piece.specs.Weights.{IsSimple}
-use Rattle.pb_piece.proofs.Codes.{own_plain}
-use Rattle.pb_piece.proofs.segment.own.Goals as goal
-
-pub returns-clause-simple : goal.returns-clause-simple
-returns-clause-simple c = subst IsSimple (sym (own_plain _)) (record { one = refl; flat = refl; none = refl })

@@ -1,0 +1,57 @@
+-- Relays that are added for sources.
+use Rattle.std.specs.Prelude.{◌≡◌, ◌<◌, ℕ, ℤ, Bool, true, List, length}
+use Rattle.std.specs.List.{All, list_any}
+use Rattle.pb_affine.specs.declared.lin.Lin.{Lin}
+use Rattle.pb_affine.specs.declared.range.NRange.{NRange}
+use Rattle.pb_affine.specs.Values.{hold}
+use Rattle.pb_part_areas.specs.declared.area.Area.{Area}
+use Rattle.pb_cases.specs.Breakpoints.{IsCut}
+use Rattle.pb_core_language.specs.declared.protocol.CoreRole.{CoreRole}
+use Rattle.pb_core_language.specs.declared.tree.CoreEnd.{CoreEnd}
+use Rattle.pb_core_language.specs.Verdict.{IsIn}
+use Rattle.pb_part_firsts.specs.declared.firsts.Entry.{Entry}
+use Rattle.pb_part_firsts.specs.declared.firsts.Source.{Source}
+use Rattle.pb_part_firsts.specs.Firsts.{are_small}
+use Rattle.pb_part_firsts.specs.Fitting.{EntriesFit}
+use Rattle.pb_core_flat.specs.Seated.{is_rank}
+use Rattle.pb_local.specs.declared.stmt.Relay.{Relay}
+use Rattle.pb_local.specs.Tree.{Program}
+use Rattle.pb_local.specs.WellMade.{IsRange, IsRelay}
+use Rattle.pb_project_piece.specs.Standing.{Stands}
+use Rattle.pb_shape.specs.Shape.{Scope}
+use Rattle.pb_project_choice.specs.Heard.{IsOther}
+use Rattle.pb_project_choice.specs.Sources.{is_listed, hears}
+
+-- the guards of some relay hold of the rank, with its own index for the variable
+abbrev pub relayed : List Relay → ℤ → ℕ → ℤ → Bool
+relayed rs n role x = list_any (λ r. hold r.guards n x role x) rs
+
+-- the ranks of a relay hear first from its source
+abbrev pub IsRight : NRange → List CoreRole → List Entry → Relay → Type 0
+IsRight range roles es r = (n : ℤ) (role : ℕ) (x : ℤ) → IsIn range n → is_rank roles n role x ≡ true → hold r.guards n x role x ≡ true → hears (record { role = r.from.role; at = r.from.at }) es n role x ≡ true
+
+-- the sources are of these roles
+abbrev pub AreOfRoles : NRange → List CoreRole → List Entry → ℕ → Type 0
+AreOfRoles range roles es m = (n : ℤ) (role : ℕ) (x : ℤ) (s : Source) → IsIn range n → is_rank roles n role x ≡ true → hears s es n role x ≡ true → s.role < m
+
+-- the entries are small, and fit some cuts
+pub record AreFit (range : NRange) (es : List Entry) : Type 0 where
+  pub small : are_small es ≡ true
+  pub cuts : List Lin
+  pub are_cuts : All IsCut cuts
+  pub fit : EntriesFit range cuts es
+
+-- of one source
+pub record IsRelayed (range : NRange) (roles : ℕ) (whole : List Area) (chooser : CoreEnd) (es : List Entry) (s : Source) (old new : List Relay) : Type 0 where
+  pub kept : (n : ℤ) (role : ℕ) (x : ℤ) → relayed old n role x ≡ true → relayed new n role x ≡ true
+  pub rest : (sc : Scope) → Stands range roles whole sc → IsRange range → AreFit range es → (n : ℤ) (role : ℕ) (x : ℤ) → IsIn range n → is_rank sc.roles n role x ≡ true → IsOther chooser s n role x →
+      hears s es n role x ≡ true → relayed new n role x ≡ true
+  pub right : (sc : Scope) → Stands range roles whole sc → IsRange range → AreFit range es → All (IsRight range sc.roles es) old → All (IsRight range sc.roles es) new
+  pub each : (p : Program) (sc : Scope) → Stands range roles whole sc → IsRange range → AreFit range es → AreOfRoles range sc.roles es roles → length p.roles ≡ roles → All (IsRelay p) old → All (IsRelay p) new
+
+-- of all sources
+pub record AreRelayed (range : NRange) (roles : ℕ) (whole : List Area) (chooser : CoreEnd) (es : List Entry) (sources : List Source) (new : List Relay) : Type 0 where
+  pub rest : (sc : Scope) → Stands range roles whole sc → IsRange range → AreFit range es → (s : Source) → is_listed s sources ≡ true → (n : ℤ) (role : ℕ) (x : ℤ) → IsIn range n → is_rank sc.roles n role x ≡ true →
+      IsOther chooser s n role x → hears s es n role x ≡ true → relayed new n role x ≡ true
+  pub right : (sc : Scope) → Stands range roles whole sc → IsRange range → AreFit range es → All (IsRight range sc.roles es) new
+  pub each : (p : Program) (sc : Scope) → Stands range roles whole sc → IsRange range → AreFit range es → AreOfRoles range sc.roles es roles → length p.roles ≡ roles → All (IsRelay p) new

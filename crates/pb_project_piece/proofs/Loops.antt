@@ -1,0 +1,312 @@
+-- A foreach: the loop, and the `If` around it and the segments.
+use Rattle.std.proofs.Common.{◌≡◌, ℕ, suc, ◌+◌, ◌≤◌, max, length, ℤ, pos, int_le, Bool, true, false, ◌&&◌, ◌||◌, not, List, [], ◌∷◌, ◌++◌, map, refl, sym, ap, ◌∙◌, subst, arith}
+use Rattle.std.proofs.lemmas.Int.{ints}
+use Rattle.std.proofs.lemmas.Bool.{and_parts, false≢true}
+use Rattle.pb_affine.specs.declared.guard.Guard.{Guard}
+use Rattle.pb_affine.specs.declared.range.NRange.{NRange}
+use Rattle.pb_affine.specs.Values.{value, hold}
+use Rattle.pb_part_areas.specs.declared.area.Area.{Area}
+use Rattle.pb_part_areas.specs.Areas.{have}
+use Rattle.pb_core_language.specs.declared.tree.CoreEnd.{CoreEnd}
+use Rattle.pb_core_language.specs.Plain.{Protocol}
+use Rattle.pb_core_language.specs.Sound.{Rows, rows_of, is_block}
+use Rattle.pb_core_language.specs.Tree as T
+use Rattle.pb_core_language.specs.Tree.{StmtTree, BlockTree}
+use Rattle.pb_core_flat.specs.Meets.{is_met, meets, meet}
+use Rattle.pb_part_takers.specs.declared.each.Over.{Over}
+use Rattle.pb_part_takers.specs.declared.held.Held.{Held}
+use Rattle.pb_part_takers.specs.Pieces.{IsAdded, items_piece}
+use Rattle.pb_local.specs.declared.stmt.Stmt.{Stmt}
+use Rattle.pb_local.specs.Tree as L
+use Rattle.std.specs.List.{All}
+use Rattle.std.proofs.lemmas.List.Elements.{All-cons, All-nil}
+use Rattle.pb_part_takers.proofs.Among.{bound_parts}
+use Rattle.pb_local.specs.Tree.{Code, Codes, Program, size_all, plain, plain_all, codes_of}
+use Rattle.pb_local.specs.WellMade as W
+use Rattle.pb_local.specs.WellMade.{AreMade, IsGuard, AreGuards, behind, loops_in}
+use Rattle.pb_shape.specs.Sizes.{braces_all, room_each}
+use Rattle.pb_project_piece.specs.Weights.{sizes, depths, loop_count, AreFlat, IsWeighed, IsTabledAs, each_room}
+use Rattle.pb_project_piece.proofs.Weights.{weighed_less, weighed_none, sizes_onto, loops_onto, braces_onto, made_onto, small_is, peer_made, guard_made}
+use Rattle.pb_shape.specs.Shape.{Scope, Here, everyone, Nobody, Somebody, is_fixed, is_fixed_at, fixed_in, fixed_here, in_for, but_fixed, Rounds, ForEach, Segments}
+use Rattle.pb_project_piece.specs.Adding.{onto, Added}
+use Rattle.pb_project_piece.specs.Ranked.{Ranked, IsThere}
+use Rattle.pb_project_piece.specs.Comers.{AreBounds}
+use Rattle.pb_project_piece.specs.Standing.{Stands, IsOpen, IsEach}
+use Rattle.pb_project_piece.specs.Ones.{end_guard, AreItemsOf}
+use Rattle.pb_project_piece.specs.Fixed.{at_some, AreFairEnds, AreFixed, AreAreas}
+use Rattle.pb_project_piece.specs.Segments.{bounds_of, IsApart, AreSegments}
+use Rattle.pb_project_piece.specs.Looping.{AreStill, Runs, IsRounds, IsBoth, IsForEach}
+use Rattle.pb_project_piece.proofs.Added.{onto_nothing, added_one, added_none, added_as}
+use Rattle.pb_project_piece.proofs.Ones.{both_true, from_zero, inside_range, outside_range, rank_is, met_at}
+use Rattle.pb_project_piece.proofs.StillEnds.{fixed_at, guards_hold, fair_items}
+
+-- ---- the ranks at ends without the variable
+
+pub still_areas : (b : BlockTree) (ends : List CoreEnd) (areas : List Area) → AreFixed b ends → AreAreas ends areas → AreStill b areas
+still_areas b ends areas fixed are = record {
+  is = λ rows n role x fair h. are.is rows n role x (fixed.sound rows fair) h ∙ fixed.is n (pos 0) role x;
+}
+
+le_itself : (a b : ℤ) → int_le a b ≡ true → int_le a a && int_le a b ≡ true
+le_itself a b h = grind (arith, ints, h)
+
+le_over : (a i b : ℤ) → int_le a i && int_le i b ≡ true → int_le a b ≡ true
+le_over a i b h = grind (arith, ints, h)
+
+or_one : (a b c : Bool) → (a ≡ true → c ≡ true) → (b ≡ true → c ≡ true) → a || b ≡ true → c ≡ true
+or_one true b c f g h = f refl
+or_one false b c f g h = g h
+
+or_first : (a b : Bool) → a ≡ true → a || b ≡ true
+or_first a b h = ap (λ z. z || b) h
+
+or_second : (a b : Bool) → b ≡ true → a || b ≡ true
+or_second true b h = refl
+or_second false b h = h
+
+not_at : (b : Bool) → not b ≡ true → b ≡ false
+not_at true h = sym h
+not_at false h = refl
+
+not_empty : (s : Stmt) → s ∷ [] ≡ [] → ⊥
+not_empty s h = cc
+
+module _ (low high n : ℤ) (role : ℕ) (x : ℤ) (some : int_le low high ≡ true) where
+  end_meets : (e : CoreEnd) → is_fixed e n role x ≡ true → is_met e low high n role x ≡ true
+  end_meets e h = met_at e low high n low role x (le_itself low high some) (fixed_at e n low role x h)
+
+  item_meets : (s : StmtTree) → is_fixed_at s n role x ≡ true → meets s low high n role x ≡ true
+  item_meets (T.message l f t) h =
+      or_one (is_fixed f n role x) (is_fixed t n role x) (is_met f low high n role x || is_met t low high n role x)
+      (λ a. or_first _ _ (end_meets f a)) (λ a. or_second _ _ (end_meets t a)) h
+  item_meets (T.foreach b m items) h = absurd (false≢true h)
+  item_meets (T.loop id m body) h = absurd (false≢true h)
+  item_meets (T.again id) h = absurd (false≢true h)
+  item_meets (T.choice k at bs) h = absurd (false≢true h)
+  item_meets (T.run k e) h = end_meets e h
+  item_meets T.barrier h = absurd (false≢true h)
+  item_meets (T.broadcast l root) h = absurd (false≢true h)
+  item_meets (T.reduce l op root) h = absurd (false≢true h)
+  item_meets (T.allreduce l op) h = absurd (false≢true h)
+
+  pub fixed_meets : (b : BlockTree) → fixed_in b n role x ≡ true → meet b low high n role x ≡ true
+  fixed_meets T.nothing h = absurd (false≢true h)
+  fixed_meets (T.more m s rest) h =
+      or_one (is_fixed_at s n role x) (fixed_in rest n role x) (meets s low high n role x || meet rest low high n role x)
+      (λ a. or_first _ _ (item_meets s a)) (λ a. or_second _ _ (fixed_meets rest a)) h
+
+-- ---- who runs the loop
+
+pub runs_is : (range : NRange) (whole : List Area) (over : Over) (fixed none met runners : List Area) (b : BlockTree) (t : Bool) → none ≡ [] →
+    ((rest : List Area) (held : List Held) (ids : List ℕ) → IsAdded rest held (items_piece (bounds_of over) ids b) none met) →
+    ((n : ℤ) (role : ℕ) (x : ℤ) → have runners n role x ≡ have fixed n role x && have met n role x) → IsThere range whole runners t → Runs range whole over fixed b t
+runs_is range whole over fixed none met runners b true empty added common there = tt
+runs_is range whole over fixed none met runners b false empty added common there = λ rows ids roles n role x bounds sound still within rank is_whole at_end some.
+    let zero = from_zero range n within in
+    let here : have fixed n role x ≡ true = still.is rows n role x (fair_items rows ids b sound) zero ∙ at_end in
+    let meets_it : have met n role x ≡ true =
+    (added whole [] ids).is rows roles n role x (both_true _ _ bounds.0 (both_true _ _ bounds.1 sound)) rank is_whole
+    ∙ or_second _ _ (fixed_meets (value over.low n (pos 0)) (value over.high n (pos 0)) n role x some b at_end) in
+    false≢true (sym (there n role x within is_whole) ∙ common n role x ∙ both_true _ _ here meets_it)
+
+-- ---- how large it is, and that it is made
+
+loop_few : (a w : ℕ) → a ≤ w → suc a + 0 ≤ 1 + w
+loop_few a w h = omega (arith, h)
+
+loop_shallow : (a : ℕ) → a ≤ 1 → max (suc a) 0 ≤ 2
+loop_shallow a h = omega (arith, h)
+
+loop_none : (a : ℕ) → a ≡ 0 → a + 0 ≡ 0
+loop_none a h = omega (arith, h)
+
+room_step : (a b c : ℕ) → a ≡ b + c → 10 + a ≡ (4 + b) + (6 + c)
+room_step a b c h = omega (arith, h)
+
+room_is : (b : BlockTree) → room_each b ≡ each_room 4 b + each_room 6 b
+room_is T.nothing = refl
+room_is (T.more m s rest) = room_step (room_each rest) (each_room 4 rest) (each_room 6 rest) (room_is rest)
+
+both_room : (a c r : ℕ) → r ≡ a + c → 2 + (a + c) ≤ 2 + r
+both_room a c r h = omega (arith, h)
+
+six_room : (a c r : ℕ) → r ≡ a + c → c ≤ 2 + r
+six_room a c r h = omega (arith, h)
+
+three_three : 3 ≤ 3
+three_three = omega arith
+
+one_three : 1 ≤ 3
+one_three = omega arith
+
+both_few : (f o m w : ℕ) (fc oc : ℕ) → f ≤ 1 + m → o ≤ w → fc ≡ f + 0 → oc ≡ o + 0 → suc (fc + oc) + 0 ≤ 2 + (m + w)
+both_few f o m w fc oc h k e g = omega (arith, h, k, e, g)
+
+both_shallow : (f o fc oc : ℕ) → f ≤ 2 → o ≤ 1 → fc ≡ max f 0 → oc ≡ max o 0 → max (suc (max fc oc)) 0 ≤ 3
+both_shallow f o fc oc h k e g = omega (arith, h, k, e, g)
+
+both_none : (f o fc oc : ℕ) → f ≡ 0 → o ≡ 0 → fc ≡ f + 0 → oc ≡ o + 0 → (fc + oc) + 0 ≡ 0
+both_none f o fc oc h k e g = omega (arith, h, k, e, g)
+
+both_weighed : (gs : List Guard) (first other : List Stmt) (m w : ℕ) → IsWeighed (1 + m) 2 (map plain first) → IsWeighed w 1 (map plain other) → IsWeighed (2 + (m + w)) 3 (L.when gs (plain_all first) (plain_all other) ∷ [])
+both_weighed gs first other m w x y =
+    let f = map plain first in
+    let o = map plain other in
+    record {
+      few = both_few (sizes f) (sizes o) m w (size_all (plain_all first)) (size_all (plain_all other)) x.few y.few (ap size_all (sym (onto_nothing f)) ∙ sizes_onto f L.nothing) (ap size_all (sym (onto_nothing o)) ∙ sizes_onto o L.nothing);
+      shallow = both_shallow (depths f) (depths o) (braces_all (plain_all first)) (braces_all (plain_all other)) x.shallow y.shallow (ap braces_all (sym (onto_nothing f)) ∙ braces_onto f L.nothing) (ap braces_all (sym (onto_nothing o)) ∙ braces_onto o L.nothing);
+      none = both_none (loop_count f) (loop_count o) (loops_in (plain_all first)) (loops_in (plain_all other)) x.none y.none (ap loops_in (sym (onto_nothing f)) ∙ loops_onto f L.nothing) (ap loops_in (sym (onto_nothing o)) ∙ loops_onto o L.nothing);
+    }
+
+all_made : (l : Program) (list : List Stmt) (at : W.Scope) → loop_count (map plain list) ≡ 0 → AreFlat l (map plain list) → AreMade l at (plain_all list)
+all_made l list at none flat = subst (AreMade l at) (onto_nothing (map plain list)) (made_onto l (map plain list) at L.nothing none flat tt)
+
+both_flat : (l : Program) (gs : List Guard) (first other : List Stmt) → AreGuards l gs → loop_count (map plain first) ≡ 0 → AreFlat l (map plain first) → loop_count (map plain other) ≡ 0 → AreFlat l (map plain other) →
+    AreFlat l (L.when gs (plain_all first) (plain_all other) ∷ [])
+both_flat l gs first other guards no_first first_flat no_other other_flat =
+    (λ at. (guards, all_made l first at no_first first_flat, all_made l other (behind at (loops_in (plain_all first))) no_other other_flat), tt)
+
+all_guards : (p : Protocol) (l : Program) (ends : List CoreEnd) → IsTabledAs p l → AreFairEnds (rows_of p) ends → All (IsGuard l) (map end_guard ends)
+all_guards p l [] tabled fair = All-nil (IsGuard l)
+all_guards p l (e ∷ es) tabled fair = All-cons (IsGuard l) (end_guard e) (map end_guard es) (guard_made l e (peer_made p l e tabled fair.0)) (all_guards p l es tabled fair.1)
+
+-- a list with an end
+abbrev HasEnd : List CoreEnd → Type 0
+HasEnd [] = ⊥
+HasEnd (e ∷ es) = Unit {0}
+
+some_end : (ends : List CoreEnd) (n : ℤ) (role : ℕ) (x : ℤ) → at_some ends n (pos 0) role x ≡ true → HasEnd ends
+some_end [] n role x h = absurd (false≢true h)
+some_end (e ∷ es) n role x h = tt
+
+long_enough : (n : ℕ) → 1 ≤ suc n
+long_enough n = omega arith
+
+some_length : (ends : List CoreEnd) → HasEnd ends → 1 ≤ length (map end_guard ends)
+some_length [] h = absurd h
+some_length (e ∷ es) h = long_enough (length (map end_guard es))
+
+some_guards : (l : Program) (p : Protocol) (ends : List CoreEnd) (gs : List Guard) → gs ≡ map end_guard ends → IsTabledAs p l → AreFairEnds (rows_of p) ends → HasEnd ends → AreGuards l gs
+some_guards l p ends gs is tabled fair some = subst (AreGuards l) (sym is) (record { some = some_length ends some; each = all_guards p l ends tabled fair })
+
+module _ (range : NRange) (roles : ℕ) (whole : List Area) (over : Over) (fixed : List Area) (b : BlockTree) where
+  pub loop_rounds : (body list : List Stmt) (s : Stmt) → AreItemsOf range roles whole over fixed b (plain_all body) → plain s ≡ L.for_each over.low over.high (plain_all body) → list ≡ s ∷ [] → IsRounds range roles whole over fixed b list
+  loop_rounds body list s items made is = record {
+    is = λ sc h rows ids stands bounds sound still.
+        let here : IsEach over fixed sc (in_for h (bounds_of over) b) = record {
+          bounds = bounds;
+          at = λ n i. refl;
+          comes = λ n i role x within rank comes.
+              still.is rows n role x (fair_items rows ids b sound) (from_zero range n (inside_range range roles whole sc stands n within))
+              ∙ (and_parts (fixed_in b n role x) (h.comes n i role x) comes).0;
+        } in
+        subst (λ l. Rounds sc h (bounds_of over) b (plain_all l)) (sym is)
+        (subst (λ c. Rounds sc h (bounds_of over) b (L.more c L.nothing)) (sym made) (Rounds.rounds (items.are sc (in_for h (bounds_of over) b) rows ids stands here sound)));
+    none = λ sc h rows ids stands bounds sound still empty. absurd (not_empty s (sym is ∙ empty));
+    weighed = subst (λ l. IsWeighed (1 + each_room 4 b) 2 (map plain l)) (sym is)
+        (subst (λ c. IsWeighed (1 + each_room 4 b) 2 (c ∷ [])) (sym made) (record {
+          few = loop_few (size_all (plain_all body)) (each_room 4 b) items.weighed.few;
+          shallow = loop_shallow (braces_all (plain_all body)) items.weighed.shallow;
+          none = loop_none (loops_in (plain_all body)) items.weighed.none;
+        }));
+    made = λ p l ids tabled bounds sound goes.
+        subst (λ z. AreFlat l (map plain z)) (sym is)
+        (subst (λ c. AreFlat l (c ∷ [])) (sym made)
+        (λ at. (small_is over.low.off (bound_parts over.low bounds.0).1, small_is over.high.off (bound_parts over.high bounds.1).1, items.made p l ids tabled sound goes at), tt));
+  }
+
+  pub no_rounds : (list : List Stmt) (t : Bool) → Runs range whole over fixed b t → t ≡ false → list ≡ [] → IsRounds range roles whole over fixed b list
+  no_rounds list t runs is empty =
+      let none : Runs range whole over fixed b false = subst (Runs range whole over fixed b) is runs in
+      let nobody : (sc : Scope) (h : Here) (rows : Rows) (ids : List ℕ) → Stands range roles whole sc → AreBounds over → is_block rows true ids b ≡ true → AreStill b fixed → Nobody sc (in_for h (bounds_of over) b) everyone =
+      λ sc h rows ids stands bounds sound still n i role x within rank at comes.
+      let w = inside_range range roles whole sc stands n within in
+      absurd (none rows ids sc.roles n role x bounds sound still w rank (rank_is range roles whole sc stands n role x w ∙ rank)
+      (and_parts (fixed_in b n role x) (h.comes n i role x) comes).0 (le_over (value over.low n (pos 0)) i (value over.high n (pos 0)) at)) in
+      record {
+        is = λ sc h rows ids stands bounds sound still.
+            subst (λ l. Rounds sc h (bounds_of over) b (plain_all l)) (sym empty) (Rounds.nowhere (nobody sc h rows ids stands bounds sound still));
+        none = λ sc h rows ids stands bounds sound still e. nobody sc h rows ids stands bounds sound still;
+        weighed = subst (λ l. IsWeighed (1 + each_room 4 b) 2 (map plain l)) (sym empty) (weighed_none (1 + each_room 4 b) 2);
+        made = λ p l ids tabled bounds sound goes. subst (λ z. AreFlat l (map plain z)) (sym empty) tt;
+      }
+
+  -- ---- both parts
+
+  apart : (sc : Scope) (h : Here) (rows : Rows) (ids : List ℕ) → Stands range roles whole sc → IsOpen h → is_block rows true ids b ≡ true → AreStill b fixed → IsApart fixed sc (but_fixed h b)
+  apart sc h rows ids stands open_here sound still = record {
+    at = λ n i. open_here.at n i;
+    comes = λ n i role x within rank comes.
+        still.is rows n role x (fair_items rows ids b sound) (from_zero range n (inside_range range roles whole sc stands n within))
+        ∙ not_at (fixed_in b n role x) (and_parts (not (fixed_in b n role x)) (h.comes n i role x) comes).0;
+  }
+
+  some_fixed : (sc : Scope) (h : Here) (rows : Rows) (ids : List ℕ) → Stands range roles whole sc → IsOpen h → is_block rows true ids b ≡ true → AreStill b fixed → Ranked range whole fixed → Somebody sc h (fixed_here b)
+  some_fixed sc h rows ids stands open_here sound still r = record {
+    n = r.n;
+    i = pos 0;
+    role = r.role;
+    index = r.index;
+    within = outside_range range roles whole sc stands r.n r.within;
+    rank = sym (rank_is range roles whole sc stands r.n r.role r.index r.within) ∙ r.rank;
+    at = open_here.at r.n (pos 0);
+    is = sym (still.is rows r.n r.role r.index (fair_items rows ids b sound) (from_zero range r.n r.within)) ∙ r.there;
+  }
+
+  pub both_there : (ends : List CoreEnd) (gs : List Guard) (first other none old new : List Stmt) (s : Stmt) → gs ≡ map end_guard ends → IsRounds range roles whole over fixed b first →
+      none ≡ [] → Added none other (AreSegments range roles whole over fixed b) → plain s ≡ L.when gs (plain_all first) (plain_all other) → new ≡ old ++ s ∷ [] → Added old new (IsBoth range roles whole over ends fixed b)
+  both_there ends gs first other none old new s gs_is rounds empty segments made pushed =
+      let piece_is : map plain other ≡ segments.piece = segments.is ∙ ap (λ l. map plain l ++ segments.piece) empty in
+      added_one (IsBoth range roles whole over ends fixed b) old new s (L.when gs (plain_all first) (plain_all other)) pushed made (record {
+        is = λ sc h rows ids stands open_here bounds sound fixed_ends still r tail.
+            ForEach.both (λ n i role x within rank at. ap (λ g. hold g n i role x) gs_is ∙ guards_hold ends n i role x ∙ fixed_ends.is n i role x)
+            (some_fixed sc h rows ids stands open_here sound still r) (rounds.is sc h rows ids stands bounds sound still)
+            (subst (Segments sc (but_fixed h b) (bounds_of over) b L.nothing 0 sc.roles) (onto_nothing segments.piece ∙ ap codes_of (sym (segments.is ∙ ap (λ l. map plain l ++ segments.piece) empty)))
+            (segments.has.are sc (but_fixed h b) rows ids stands (apart sc h rows ids stands open_here sound still) bounds sound L.nothing));
+        weighed = both_weighed gs first other (each_room 4 b) (each_room 6 b) rounds.weighed (subst (IsWeighed (each_room 6 b) 1) (sym piece_is) segments.has.weighed);
+        made = λ p l ids tabled same bounds sound goes fixed_ends still r.
+            both_flat l gs first other (some_guards l p ends gs gs_is tabled (fixed_ends.sound (rows_of p) (fair_items (rows_of p) ids b sound))
+            (some_end ends r.n r.role r.index (fixed_ends.is r.n (pos 0) r.role r.index ∙ sym (still.is (rows_of p) r.n r.role r.index (fair_items (rows_of p) ids b sound) (from_zero range r.n r.within)) ∙ r.there)))
+            (rounds.weighed).none (rounds.made p l ids tabled bounds sound goes) (subst (IsWeighed (each_room 6 b) 1) (sym piece_is) segments.has.weighed).none
+            (subst (AreFlat l) (sym piece_is) (segments.has.made p l ids tabled same bounds sound goes));
+      })
+
+  pub both_gone : (ends : List CoreEnd) (first other none old : List Stmt) → IsRounds range roles whole over fixed b first → none ≡ [] → Added none other (AreSegments range roles whole over fixed b) →
+      first ≡ [] → other ≡ [] → Added old old (IsBoth range roles whole over ends fixed b)
+  both_gone ends first other none old rounds empty segments no_first no_other =
+      let no_piece : segments.piece ≡ [] = sym (ap (λ l. map plain l ++ segments.piece) empty) ∙ sym segments.is ∙ ap (map plain) no_other in
+      added_none (IsBoth range roles whole over ends fixed b) old (record {
+        is = λ sc h rows ids stands open_here bounds sound fixed_ends still r tail.
+            ForEach.neither (rounds.none sc h rows ids stands bounds sound still no_first)
+            (subst (λ p. Segments sc (but_fixed h b) (bounds_of over) b tail 0 sc.roles (onto p tail)) no_piece
+            (segments.has.are sc (but_fixed h b) rows ids stands (apart sc h rows ids stands open_here sound still) bounds sound tail));
+        weighed = weighed_none (2 + (each_room 4 b + each_room 6 b)) 3;
+        made = λ p l ids tabled same bounds sound goes fixed_ends still r. tt;
+      })
+
+  -- ---- a foreach
+
+  pub foreach_both : (ends : List CoreEnd) (t : Bool) (old new : List Stmt) → AreFixed b ends → AreStill b fixed → IsThere range whole fixed t → t ≡ true → Added old new (IsBoth range roles whole over ends fixed b) →
+      Added old new (IsForEach range roles whole over b)
+  foreach_both ends t old new fixed_ends still there so a =
+      added_as (IsBoth range roles whole over ends fixed b) (IsForEach range roles whole over b) old new
+      (λ p z. record {
+        is = λ sc h rows ids stands open_here bounds sound tail. z.is sc h rows ids stands open_here bounds sound fixed_ends still (subst (IsThere range whole fixed) so there) tail;
+        weighed = weighed_less (2 + (each_room 4 b + each_room 6 b)) (2 + room_each b) 3 3 p (both_room (each_room 4 b) (each_room 6 b) (room_each b) (room_is b)) three_three z.weighed;
+        made = λ pr l ids tabled same bounds sound goes. z.made pr l ids tabled same bounds sound goes fixed_ends still (subst (IsThere range whole fixed) so there);
+      }) a
+
+  pub foreach_segments : (t : Bool) (less : List Area) (old new : List Stmt) → less ≡ [] → AreStill b fixed → IsThere range whole fixed t → t ≡ false → Added old new (AreSegments range roles whole over less b) →
+      Added old new (IsForEach range roles whole over b)
+  foreach_segments t less old new empty still there so a =
+      let none : IsThere range whole fixed false = subst (IsThere range whole fixed) so there in
+      added_as (AreSegments range roles whole over less b) (IsForEach range roles whole over b) old new
+      (λ p z. record {
+        is = λ sc h rows ids stands open_here bounds sound tail.
+            ForEach.segments (λ n i role x within rank at comes.
+            let w = inside_range range roles whole sc stands n within in
+            sym (still.is rows n role x (fair_items rows ids b sound) (from_zero range n w)) ∙ none n role x w (rank_is range roles whole sc stands n role x w ∙ rank))
+            (z.are sc h rows ids stands (record { at = open_here.at; comes = λ n i role x within rank comes. ap (λ l. have l n role x) empty }) bounds sound tail);
+        weighed = weighed_less (each_room 6 b) (2 + room_each b) 1 3 p (six_room (each_room 4 b) (each_room 6 b) (room_each b) (room_is b)) one_three z.weighed;
+        made = z.made;
+      }) a

@@ -1,0 +1,144 @@
+-- An `If` of the rank at an end.
+use Rattle.std.proofs.Common.{◌≡◌, ℕ, ℤ, pos, ◌+ℤ◌, ◌-ℤ◌, ◌≤ℤ◌, int_le, nat_eq, Bool, true, false, ◌&&◌, ◌||◌, Option, Some, None, List, [], ◌∷◌, refl, sym, ap, subst, ◌∙◌, arith}
+use Rattle.std.specs.Ordering.{int_eq}
+use Rattle.std.proofs.lemmas.Int.{ints}
+use Rattle.std.proofs.lemmas.Bool.{and_parts, false≢true}
+use Rattle.std.proofs.lemmas.Bool.Decides.{nat_tests}
+use Rattle.pb_text.specs.declared.place.Place.{Place}
+use Rattle.pb_affine.specs.declared.lin.Base.{Base}
+use Rattle.pb_affine.specs.declared.lin.Base.TheVariants.{Fixed, Param, Var}
+use Rattle.pb_affine.specs.declared.range.NRange.{NRange}
+use Rattle.pb_affine.specs.Values.{value, hold}
+use Rattle.pb_part_areas.specs.declared.area.Area.{Area}
+use Rattle.pb_part_areas.specs.Areas.{have}
+use Rattle.pb_core_language.specs.declared.tree.CoreEnd.{CoreEnd}
+use Rattle.pb_core_language.specs.Sound.{is_small, is_over_n}
+use Rattle.pb_core_language.specs.Verdict.{IsIn}
+use Rattle.pb_core_flat.specs.Seated.{is_rank, is_at}
+use Rattle.pb_core_flat.specs.Meets.{is_met}
+use Rattle.pb_core_flat.proofs.Sources.{over_n_is}
+use Rattle.pb_part_takers.specs.declared.each.Over.{Over}
+use Rattle.pb_local.specs.Tree.{Code}
+use Rattle.pb_shape.specs.Shape.{Scope, Here, Somebody, Nobody, One, is_end, alone}
+use Rattle.pb_project_piece.specs.Ranked.{Ranked, IsThere}
+use Rattle.pb_project_piece.specs.Comers.{AreComers}
+use Rattle.pb_project_piece.specs.Standing.{Stands, IsHere, is_end_if}
+use Rattle.pb_project_piece.specs.Ones.{end_guard, only_when, IsOne}
+
+-- ---- numbers
+
+pub not_true : (b : Bool) → (b ≡ true → ⊥) → b ≡ false
+not_true true h = absurd (h refl)
+not_true false h = refl
+
+pub both_true : (a b : Bool) → a ≡ true → b ≡ true → a && b ≡ true
+both_true a b e f = cc
+
+pub from_zero : (range : NRange) (n : ℤ) → IsIn range n → pos 0 ≤ℤ n
+from_zero range n h = omega (arith, ints, h.low)
+
+alike : (role r : ℕ) (v x : ℤ) → (nat_eq role r && int_le v x && int_le x v && true && true) || false ≡ nat_eq r role && int_eq v x
+alike role r v x = grind (arith, ints, nat_tests)
+
+pub guard_holds : (e : CoreEnd) (n i : ℤ) (role : ℕ) (x : ℤ) → hold (end_guard e ∷ []) n i role x ≡ is_at e n i role x
+guard_holds e n i role x = alike role e.role (value e.at n i) x
+
+-- ---- an end for some value of the variable
+
+pub record IsMetBy (e : CoreEnd) (low high n : ℤ) (role : ℕ) (x : ℤ) : Type 0 where
+  pub i : ℤ
+  pub within : int_le low i && int_le i high ≡ true
+  pub is : is_at e n i role x ≡ true
+
+stay_ints : (r role : ℕ) (low high v x : ℤ) → nat_eq r role && (int_le low high && int_eq v x) ≡ true → (int_le low low && int_le low high ≡ true) × (nat_eq r role && int_eq v x ≡ true)
+stay_ints r role low high v x h = (grind (arith, ints, nat_tests, h), grind (arith, ints, nat_tests, h))
+
+move_ints : (r role : ℕ) (low high c x : ℤ) → nat_eq r role && (int_le (low +ℤ c) x && int_le x (high +ℤ c)) ≡ true →
+    (int_le low (x -ℤ c) && int_le (x -ℤ c) high ≡ true) × (nat_eq r role && int_eq (c +ℤ (x -ℤ c)) x ≡ true)
+move_ints r role low high c x h = (grind (arith, ints, nat_tests, h), grind (arith, ints, nat_tests, h))
+
+met_by : (r : ℕ) (b : Base) (c : ℤ) (p : Place) (low high n : ℤ) (role : ℕ) (x : ℤ) →
+    is_met (record { role = r; at = record { base = b; off = c }; place = p }) low high n role x ≡ true → IsMetBy (record { role = r; at = record { base = b; off = c }; place = p }) low high n role x
+met_by r Fixed c p low high n role x h = let k = stay_ints r role low high (c +ℤ pos 0) x h in record { i = low; within = k.0; is = k.1 }
+met_by r Param c p low high n role x h = let k = stay_ints r role low high (c +ℤ n) x h in record { i = low; within = k.0; is = k.1 }
+met_by r Var c p low high n role x h = let k = move_ints r role low high c x h in record { i = x -ℤ c; within = k.0; is = k.1 }
+
+stays_ints : (r role : ℕ) (low high i v x : ℤ) → int_le low i && int_le i high ≡ true → nat_eq r role && int_eq v x ≡ true → nat_eq r role && (int_le low high && int_eq v x) ≡ true
+stays_ints r role low high i v x h k = grind (arith, ints, nat_tests, h, k)
+
+moves_ints : (r role : ℕ) (low high i c x : ℤ) → int_le low i && int_le i high ≡ true → nat_eq r role && int_eq (c +ℤ i) x ≡ true → nat_eq r role && (int_le (low +ℤ c) x && int_le x (high +ℤ c)) ≡ true
+moves_ints r role low high i c x h k = grind (arith, ints, nat_tests, h, k)
+
+is_met_by : (r : ℕ) (b : Base) (c : ℤ) (p : Place) (low high n i : ℤ) (role : ℕ) (x : ℤ) → int_le low i && int_le i high ≡ true →
+    is_at (record { role = r; at = record { base = b; off = c }; place = p }) n i role x ≡ true → is_met (record { role = r; at = record { base = b; off = c }; place = p }) low high n role x ≡ true
+is_met_by r Fixed c p low high n i role x h k = stays_ints r role low high i (c +ℤ pos 0) x h k
+is_met_by r Param c p low high n i role x h k = stays_ints r role low high i (c +ℤ n) x h k
+is_met_by r Var c p low high n i role x h k = moves_ints r role low high i c x h k
+
+pub met_at : (e : CoreEnd) (low high n i : ℤ) (role : ℕ) (x : ℤ) → int_le low i && int_le i high ≡ true → is_at e n i role x ≡ true → is_met e low high n role x ≡ true
+met_at e low high n i role x h k = is_met_by e.role e.at.base e.at.off e.place low high n i role x h k
+
+-- ---- who comes
+
+module _ (range : NRange) (roles : ℕ) (whole : List Area) (sc : Scope) (stands : Stands range roles whole sc) where
+  pub inside_range : (n : ℤ) → IsIn sc.range n → IsIn range n
+  inside_range n h = subst (λ r. IsIn r n) stands.range_is h
+
+  pub outside_range : (n : ℤ) → IsIn range n → IsIn sc.range n
+  outside_range n h = subst (λ r. IsIn r n) (sym stands.range_is) h
+
+  pub rank_is : (n : ℤ) (role : ℕ) (x : ℤ) → IsIn range n → have whole n role x ≡ is_rank sc.roles n role x
+  rank_is n role x h = stands.whole_is.is n role x h
+
+  pub somewhere : (over : Option Over) (fixed areas : List Area) (h : Here) (e : CoreEnd) → IsHere over fixed sc h → is_end_if over e ≡ true → AreComers over fixed e areas → Ranked range whole areas → Somebody sc h (is_end e)
+  somewhere None fixed areas h e here fair comers r =
+      let k = and_parts (is_over_n e.at.base) (is_small e.at.off) fair in
+      record {
+        n = r.n;
+        i = pos 0;
+        role = r.role;
+        index = r.index;
+        within = outside_range r.n r.within;
+        rank = sym (rank_is r.n r.role r.index r.within) ∙ r.rank;
+        at = here.at r.n (pos 0);
+        is = sym (comers.is r.n r.role r.index (from_zero range r.n r.within) k.1 tt) ∙ r.there;
+      }
+  somewhere (Some over) fixed areas h e here fair comers r =
+      let there = sym (comers.is r.n r.role r.index (from_zero range r.n r.within) fair here.bounds) ∙ r.there in
+      let met = (and_parts (have fixed r.n r.role r.index) (is_met e (value over.low r.n (pos 0)) (value over.high r.n (pos 0)) r.n r.role r.index) there).1 in
+      let by : IsMetBy e (value over.low r.n (pos 0)) (value over.high r.n (pos 0)) r.n r.role r.index = met_by e.role e.at.base e.at.off e.place (value over.low r.n (pos 0)) (value over.high r.n (pos 0)) r.n r.role r.index met in
+      record {
+        n = r.n;
+        i = by.i;
+        role = r.role;
+        index = r.index;
+        within = outside_range r.n r.within;
+        rank = sym (rank_is r.n r.role r.index r.within) ∙ r.rank;
+        at = here.at r.n by.i ∙ by.within;
+        is = by.is;
+      }
+
+  pub nowhere : (over : Option Over) (fixed areas : List Area) (h : Here) (e : CoreEnd) → IsHere over fixed sc h → is_end_if over e ≡ true → AreComers over fixed e areas → IsThere range whole areas false → Nobody sc h (is_end e)
+  nowhere None fixed areas h e here fair comers none = λ n i role x within rank at comes.
+      let k = and_parts (is_over_n e.at.base) (is_small e.at.off) fair in
+      let w = inside_range n within in
+      ap (λ v. nat_eq e.role role && int_eq v x) (over_n_is e.at n i (pos 0) k.0)
+      ∙ sym (comers.is n role x (from_zero range n w) k.1 tt) ∙ none n role x w (rank_is n role x w ∙ rank)
+  nowhere (Some over) fixed areas h e here fair comers none = λ n i role x within rank at comes.
+      let w = inside_range n within in
+      let is = comers.is n role x (from_zero range n w) fair here.bounds in
+      not_true (is_at e n i role x) (λ k.
+      let met = met_at e (value over.low n (pos 0)) (value over.high n (pos 0)) n i role x (sym (here.at n i) ∙ at) k in
+      false≢true (sym (none n role x w (rank_is n role x w ∙ rank)) ∙ is ∙ both_true _ _ (here.comes n i role x within rank comes) met))
+
+  -- ---- the `If`
+
+  pub one_there : (over : Option Over) (fixed areas : List Area) (h : Here) (e : CoreEnd) (c : Code) → IsHere over fixed sc h → is_end_if over e ≡ true → AreComers over fixed e areas → Ranked range whole areas →
+      IsOne sc h (is_end e) (alone c) (only_when (end_guard e ∷ []) (alone c) ∷ [])
+  one_there over fixed areas h e c here fair comers r = record {
+    one = λ tail. One.there (λ n i role x within rank at. guard_holds e n i role x) (somewhere over fixed areas h e here fair comers r);
+  }
+
+  pub one_gone : (over : Option Over) (fixed areas : List Area) (h : Here) (e : CoreEnd) (c : Code) → IsHere over fixed sc h → is_end_if over e ≡ true → AreComers over fixed e areas → IsThere range whole areas false →
+      IsOne sc h (is_end e) (alone c) []
+  one_gone over fixed areas h e c here fair comers none = record { one = λ tail. One.gone (nowhere over fixed areas h e here fair comers none) }

@@ -1,0 +1,43 @@
+-- Where a statement stands, as the program knows it.
+use Rattle.std.specs.Prelude.{◌≡◌, ℕ, ℤ, pos, ◌&&◌, int_le, Bool, true, false, Option, Some, None, List, length}
+use Rattle.pb_affine.specs.declared.range.NRange.{NRange}
+use Rattle.pb_affine.specs.Values.{value}
+use Rattle.pb_part_areas.specs.declared.area.Area.{Area}
+use Rattle.pb_part_areas.specs.Areas.{have}
+use Rattle.pb_core_language.specs.declared.tree.CoreEnd.{CoreEnd}
+use Rattle.pb_core_language.specs.Sound.{is_small, is_over_n}
+use Rattle.pb_core_language.specs.Verdict.{IsIn}
+use Rattle.pb_core_flat.specs.Seated.{is_rank}
+use Rattle.pb_part_takers.specs.declared.each.Over.{Over}
+use Rattle.pb_part_firsts.specs.Takers.{IsWhole}
+use Rattle.pb_shape.specs.Shape.{Scope, Here}
+use Rattle.pb_project_piece.specs.Comers.{AreBounds}
+
+-- the range of N, how many roles there are, and the areas of all ranks
+pub record Stands (range : NRange) (roles : ℕ) (whole : List Area) (sc : Scope) : Type 0 where
+  pub range_is : sc.range ≡ range
+  pub roles_is : roles ≡ length sc.roles
+  pub whole_is : IsWhole range sc.roles whole
+
+-- the variable may have any value
+pub record IsOpen (h : Here) : Type 0 where
+  pub at : (n i : ℤ) → h.at n i ≡ true
+
+-- within the loop of those at ends without the variable
+pub record IsEach (over : Over) (fixed : List Area) (sc : Scope) (h : Here) : Type 0 where
+  pub bounds : AreBounds over
+  pub at : (n i : ℤ) → h.at n i ≡ int_le (value over.low n (pos 0)) i && int_le i (value over.high n (pos 0))
+  pub comes : (n i : ℤ) (role : ℕ) (x : ℤ) → IsIn sc.range n → is_rank sc.roles n role x ≡ true → h.comes n i role x ≡ true → have fixed n role x ≡ true
+
+abbrev pub IsHere : Option Over → List Area → Scope → Here → Type 0
+IsHere None fixed sc h = IsOpen h
+IsHere (Some over) fixed sc h = IsEach over fixed sc h
+
+-- an end of a statement there
+abbrev pub is_end_if : Option Over → CoreEnd → Bool
+is_end_if None e = is_over_n e.at.base && is_small e.at.off
+is_end_if (Some over) e = is_small e.at.off
+
+abbrev pub varies : Option Over → Bool
+varies None = false
+varies (Some over) = true

@@ -1,3 +1,0 @@
-pub mod Bodied
-pub mod Held
-pub mod Only

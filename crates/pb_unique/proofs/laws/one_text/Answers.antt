@@ -1,5 +1,0 @@
-use Rattle.pb_unique.proofs.laws.one_text.Goals as goal
-use Rattle.pb_unique.proofs.Pairs.{one_text}
-
-pub returns : goal.returns
-returns c = one_text
