@@ -10,6 +10,7 @@ mod names;
 mod number;
 mod place;
 mod quantity;
+mod spelling;
 #[cfg(test)]
 mod tests;
 mod token;
@@ -21,7 +22,7 @@ pub use memory::NoMemory;
 pub use mode::Mode;
 pub use name::Name;
 pub use names::Names;
-pub use number::push_number;
+pub use number::{push_decimal, push_number};
 pub use place::{Place, Spot};
 pub use quantity::Quantity;
 pub use token::{Key, Mark, Token, TokenKind};
