@@ -3,7 +3,7 @@ use Rattle.std.specs.Prelude.{ℕ, Bool, true, false}
 use Rattle.pb_syntax.specs.declared.tree.Op.{Op}
 use Rattle.pb_text.specs.declared.place.Place.{Place}
 use Rattle.pb_core_language.specs.declared.tree.CoreEnd.{CoreEnd}
-pub use Rattle.pb_core_language.specs.declared.tree.Bounds.{Bounds}
+use Rattle.pb_core_language.specs.declared.tree.Bounds.{Bounds}
 
 -- the number and the place of a statement or a block
 pub record Mark : Type 0 where

@@ -15,9 +15,8 @@ use Rattle.pb_core_language.specs.Outcomes.{Outcome, firsts}
 use Rattle.pb_core_language.specs.Plain.{Protocol}
 use Rattle.pb_core_language.specs.Rules.{misfits, misfits_among}
 use Rattle.pb_core_language.specs.Sound.{rows_of, is_item, is_end, is_stmt, is_block}
-use Rattle.pb_core_language.specs.Tree.{Mark, StmtTree, message, foreach, loop, again, choice, run, barrier, broadcast, reduce, allreduce, BlockTree, more, BranchTrees, no_branch, branch}
+use Rattle.pb_core_language.specs.Tree.{Mark, StmtTree, message, foreach, loop, again, choice, run, barrier, broadcast, reduce, allreduce, BlockTree, more, BranchTrees, no_branch, branch, is_again}
 use Rattle.pb_core_language.specs.Verdict.{IsIn}
-use Rattle.pb_core_flat.specs.GoesOn.{is_again}
 use Rattle.pb_core_flat.specs.Seated.{rank, is_rank}
 use Rattle.pb_core_flat.proofs.BreachesAdd.{misfits_one_by_one}
 use Rattle.pb_part_takers.specs.Pieces.{AreAmong}

@@ -15,7 +15,7 @@ use Rattle.pb_local.specs.WellMade.{ArePartsMade}
 use Rattle.pb_local.specs.Tree.{Code, Codes, Parts, part, no_part, nothing, more, plain, plain_all}
 use Rattle.pb_part_takers.specs.Loops.{ids_of}
 use Rattle.pb_part_takers.proofs.HeldLoops.{from_place}
-use Rattle.pb_part_takers.proofs.Plains.{plain_list}
+use Rattle.pb_core_language.proofs.Plains.{plain_list}
 use Rattle.pb_project_piece.specs.Adding.{onto, Added}
 use Rattle.pb_project_piece.proofs.Added.{onto_append, onto_nothing}
 use Rattle.pb_rules.proofs.Lists.{Has, contains}

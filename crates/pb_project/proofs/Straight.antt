@@ -7,7 +7,7 @@ use Rattle.pb_core_language.specs.declared.tree.CoreEnd.{CoreEnd}
 use Rattle.pb_core_language.specs.declared.tree.CoreStmt.{CoreStmt}
 use Rattle.pb_core_language.specs.declared.tree.CoreKind.TheVariants.{Message, Foreach, Again, Run, Barrier, Broadcast, Reduce, Allreduce}
 use Rattle.pb_core_language.specs.Plain.{plain_stmt}
-use Rattle.pb_part_takers.proofs.Plains.{plain_message, plain_foreach, plain_again, plain_run, plain_barrier, plain_broadcast, plain_reduce, plain_allreduce}
+use Rattle.pb_core_language.proofs.Plains.{plain_message, plain_foreach, plain_again, plain_run, plain_barrier, plain_broadcast, plain_reduce, plain_allreduce}
 use Rattle.pb_project.specs.Takers.{back_to}
 use Rattle.pb_core_language.specs.Sound.{rows_of}
 use Rattle.pb_core_language.specs.Tree.{Mark, StmtTree, again}

@@ -9,7 +9,7 @@ use Rattle.pb_core_language.specs.Plain.{Protocol}
 use Rattle.pb_core_language.specs.Sound.{rows_of, is_end, is_bound, is_item, is_stmt, is_block}
 use Rattle.pb_core_language.specs.Tree as T
 use Rattle.pb_core_language.specs.Tree.{Mark, StmtTree, BlockTree}
-use Rattle.pb_part_takers.specs.declared.each.Over.{Over}
+use Rattle.pb_core_language.specs.declared.tree.Bounds.{Bounds}
 use Rattle.pb_local.specs.declared.stmt.Stmt.{Stmt}
 use Rattle.pb_local.specs.Tree.{Code, Codes, Program, size_all, plain}
 use Rattle.pb_local.specs.Tables.{label_at}
@@ -22,7 +22,6 @@ use Rattle.pb_project_piece.proofs.Weights.{weighed_less, weighed_none, sizes_on
 use Rattle.pb_shape.specs.Shape.{Scope, Here, Piece}
 use Rattle.pb_project_piece.specs.Adding.{onto, Added}
 use Rattle.pb_project_piece.specs.Ones.{IsItemOf}
-use Rattle.pb_project_piece.specs.Segments.{bounds_of}
 use Rattle.pb_project_piece.specs.Looping.{IsForEach}
 use Rattle.pb_project_piece.specs.Pieces.{is_straight, is_collective, code_of, IsPieceOf, IsCodeOf, IsCollective}
 use Rattle.pb_project_piece.proofs.Added.{added_one, added_none, added_as}
@@ -130,8 +129,8 @@ module _ (range : NRange) (roles : ℕ) (whole : List Area) where
         braces = weighed_braces (room s) (2 * depth s + 1) p (weighed_less (item_room s) (room s) 1 (2 * depth s + 1) p (item_room_is s item).0 (item_room_is s item).1 z.weighed);
       }) a
 
-  pub each_piece : (over : Over) (m : Mark) (b : BlockTree) (old new : List Stmt) → Added old new (IsForEach range roles whole over b) → Added old new (IsPieceOf range roles whole (T.foreach (bounds_of over) m b))
-  each_piece over m b old new a = added_as (IsForEach range roles whole over b) (IsPieceOf range roles whole (T.foreach (bounds_of over) m b)) old new
+  pub each_piece : (over : Bounds) (m : Mark) (b : BlockTree) (old new : List Stmt) → Added old new (IsForEach range roles whole over b) → Added old new (IsPieceOf range roles whole (T.foreach over m b))
+  each_piece over m b old new a = added_as (IsForEach range roles whole over b) (IsPieceOf range roles whole (T.foreach over m b)) old new
       (λ p z. record {
         is = λ sc h rows ids stands open_here sound straight tail.
             let x = and_parts (is_bound over.low) (is_bound over.high && is_block rows true ids b) sound in

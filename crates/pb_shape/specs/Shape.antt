@@ -7,7 +7,8 @@ use Rattle.pb_affine.specs.Values.{value, hold}
 use Rattle.pb_core_language.specs.declared.protocol.CoreRole.{CoreRole}
 use Rattle.pb_core_language.specs.declared.tree.CoreEnd.{CoreEnd}
 use Rattle.pb_core_language.specs.Tree as T
-use Rattle.pb_core_language.specs.Tree.{Mark, Bounds, StmtTree, BlockTree, BranchTrees}
+use Rattle.pb_core_language.specs.Tree.{Mark, StmtTree, BlockTree, BranchTrees}
+use Rattle.pb_core_language.specs.declared.tree.Bounds.{Bounds}
 use Rattle.pb_core_language.specs.Plain.{Protocol}
 use Rattle.pb_core_language.specs.Flat.{stop, takes_part, branch_at}
 use Rattle.pb_core_language.specs.FlatOf.{between, flat_stmt, flat_branches}

@@ -4,13 +4,12 @@ use Rattle.std.proofs.lemmas.Bool.Decides.{nat_tests}
 use Rattle.pb_world.specs.Carry.{Quietly, here, further}
 use Rattle.pb_core_language.specs.Ranks.{total}
 use Rattle.pb_core_language.specs.Tree as T
-use Rattle.pb_core_language.specs.Tree.{Mark, StmtTree, BlockTree}
+use Rattle.pb_core_language.specs.Tree.{Mark, StmtTree, BlockTree, is_again}
 use Rattle.pb_core_language.specs.Plain.{Protocol}
 use Rattle.pb_core_language.specs.Lists.{nth}
 use Rattle.pb_core_language.specs.Flat.{Block, stop, takes_part}
 use Rattle.pb_core_language.specs.FlatOf.{flat_block, between}
 use Rattle.pb_core_language.specs.Run.{at_rank}
-use Rattle.pb_core_flat.specs.GoesOn.{is_again}
 use Rattle.pb_core_endpoint.specs.Core.{has_simple_items, have_simple_items}
 use Rattle.pb_core_endpoint.specs.Endpoint.{Code, Part, loop, again, return_to}
 use Rattle.pb_core_endpoint.proofs.Progress.{and_both}

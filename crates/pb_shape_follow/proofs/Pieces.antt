@@ -1,7 +1,8 @@
 -- What is left of well-made code behind a straight statement.
 use Rattle.std.proofs.Common.{◌≤◌, ℕ, ℤ, List, arith}
 use Rattle.pb_core_language.specs.declared.protocol.CoreRole.{CoreRole}
-use Rattle.pb_core_language.specs.Tree.{Bounds, StmtTree, BlockTree}
+use Rattle.pb_core_language.specs.Tree.{StmtTree, BlockTree}
+use Rattle.pb_core_language.specs.declared.tree.Bounds.{Bounds}
 use Rattle.pb_local.specs.Tree.{Codes, size_all, Program}
 use Rattle.pb_local.specs.WellMade as W
 use Rattle.pb_local.specs.WellMade.{AreMade}

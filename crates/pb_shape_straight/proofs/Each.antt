@@ -8,7 +8,8 @@ use Rattle.pb_affine.specs.Values.{value, base_value, count_from, count_of, IsSm
 use Rattle.pb_world.specs.Actions.{Kind, Runs, Sends, Receives}
 use Rattle.pb_core_language.specs.declared.protocol.CoreRole.{CoreRole}
 use Rattle.pb_core_language.specs.Tree as T
-use Rattle.pb_core_language.specs.Tree.{Bounds, StmtTree, BlockTree}
+use Rattle.pb_core_language.specs.Tree.{StmtTree, BlockTree}
+use Rattle.pb_core_language.specs.declared.tree.Bounds.{Bounds}
 use Rattle.pb_core_language.specs.Plain.{Protocol}
 use Rattle.pb_core_language.specs.FlatOf.{rank_of}
 use Rattle.pb_core_language.specs.Sound.{is_over_n}

@@ -11,7 +11,8 @@ use Rattle.pb_core_language.specs.declared.protocol.CoreRole.{CoreRole}
 use Rattle.pb_core_language.specs.declared.tree.CoreEnd.{CoreEnd}
 use Rattle.pb_core_language.specs.Laws.{IsInRole}
 use Rattle.pb_core_language.specs.Tree as T
-use Rattle.pb_core_language.specs.Tree.{Bounds, StmtTree, BlockTree}
+use Rattle.pb_core_language.specs.Tree.{StmtTree, BlockTree}
+use Rattle.pb_core_language.specs.declared.tree.Bounds.{Bounds}
 use Rattle.pb_core_language.specs.Plain.{Protocol}
 use Rattle.pb_core_language.specs.Flat.{Block}
 use Rattle.pb_core_language.specs.FlatOf.{for_each, rank_of, flat_stmt, flat_block}

@@ -12,7 +12,8 @@ use Rattle.pb_world.specs.Actions.{Sends, Receives}
 use Rattle.pb_core_language.specs.declared.tree.CoreEnd.{CoreEnd}
 use Rattle.pb_core_language.specs.Laws.{Numbered, Totalled}
 use Rattle.pb_core_language.specs.Tree as T
-use Rattle.pb_core_language.specs.Tree.{Mark, Bounds, StmtTree, BlockTree}
+use Rattle.pb_core_language.specs.Tree.{Mark, StmtTree, BlockTree}
+use Rattle.pb_core_language.specs.declared.tree.Bounds.{Bounds}
 use Rattle.pb_core_language.specs.Plain.{Protocol}
 use Rattle.pb_core_flat.specs.Seated.{is_rank}
 use Rattle.pb_core_flat.proofs.Seats.{seat_in_role}
