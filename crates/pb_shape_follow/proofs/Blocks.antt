@@ -166,12 +166,12 @@ module _ (p : Protocol) (l : Program) (n : ℤ) (me : Seat) (g : Given p l n me)
           let q = room.enough in
           let r = room.small in
           let last = at_todo me i (pushed start inner (X.end_of x start inner t')) in
-          let m' = move_is l n (at_todo me i (X.next at_number (L.loop x inner) t')) in
+          let m' = move_is l n (at_todo me i (X.do_next at_number (L.loop x inner) t')) in
           quiets refl (λ h'. record {
             j = 1;
             i = k';
             z = last;
-            steps = further (ap X.next_in m') (subst (λ y. Quietly (X.machine l n) 0 y last) (sym (ap (X.quiet_in (at_todo me i (X.next at_number (L.loop x inner) t'))) m')) here);
+            steps = further (ap X.next_in m') (subst (λ y. Quietly (X.machine l n) 0 y last) (sym (ap (X.quiet_in (at_todo me i (X.do_next at_number (L.loop x inner) t'))) m')) here);
             few = omega arith;
             rel = record {
               twin = last;
@@ -190,7 +190,7 @@ module _ (p : Protocol) (l : Program) (n : ℤ) (me : Seat) (g : Given p l n me)
   again_front {h = h} {a = a} {m = m} {id = id} {rest = rest} {o = o} {K = K} {t = t} c (suc k) number i z over near room =
       let e = between id a.opens in
       let x = number_at a.numbers e in
-      let first = at_todo me i (X.next number (L.again x) t) in
+      let first = at_todo me i (X.do_next number (L.again x) t) in
       let last = at_todo me i (back_to x t) in
       let deep : e < length a.opens = subst (λ d. e < d) z.around.deep z.keeps in
       let sim = over.on_top {h = h} {core = T.more m (T.again id) rest} number (record { shape = S.again; sits = z }) in

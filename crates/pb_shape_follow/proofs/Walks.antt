@@ -44,20 +44,20 @@ module _ (p : Protocol) (l : Program) (n : ℤ) (me : Seat) (g : Given p l n me)
 
   same_next : (i : ℤ) (u v t : Todo) → move_from l n (at_todo me i u) t ≡ move_from l n (at_todo me i v) t
   same_next i u v X.finished = refl
-  same_next i u v (X.next k (L.when gs a b) t) = refl
-  same_next i u v (X.next k (L.for_each low high body) t) = refl
-  same_next i u v (X.next k (L.own off) t) = refl
-  same_next i u v (X.next k (L.loop id body) t) = refl
-  same_next i u v (X.next k (L.again id) t) = refl
-  same_next i u v (X.next k (L.choice who kernel relays source [] parts) t) = refl
-  same_next i u v (X.next k (L.choice who kernel relays source (x ∷ tests) parts) t) = refl
-  same_next i u v (X.next k (L.send lab to) t) = refl
-  same_next i u v (X.next k (L.recv lab source) t) = refl
-  same_next i u v (X.next k (L.run kernel) t) = refl
-  same_next i u v (X.next k L.barrier t) = refl
-  same_next i u v (X.next k (L.broadcast lab root) t) = refl
-  same_next i u v (X.next k (L.reduce lab op root) t) = refl
-  same_next i u v (X.next k (L.allreduce lab op) t) = refl
+  same_next i u v (X.do_next k (L.when gs a b) t) = refl
+  same_next i u v (X.do_next k (L.for_each low high body) t) = refl
+  same_next i u v (X.do_next k (L.own off) t) = refl
+  same_next i u v (X.do_next k (L.loop id body) t) = refl
+  same_next i u v (X.do_next k (L.again id) t) = refl
+  same_next i u v (X.do_next k (L.choice who kernel relays source [] parts) t) = refl
+  same_next i u v (X.do_next k (L.choice who kernel relays source (x ∷ tests) parts) t) = refl
+  same_next i u v (X.do_next k (L.send lab to) t) = refl
+  same_next i u v (X.do_next k (L.recv lab source) t) = refl
+  same_next i u v (X.do_next k (L.run kernel) t) = refl
+  same_next i u v (X.do_next k L.barrier t) = refl
+  same_next i u v (X.do_next k (L.broadcast lab root) t) = refl
+  same_next i u v (X.do_next k (L.reduce lab op root) t) = refl
+  same_next i u v (X.do_next k (L.allreduce lab op) t) = refl
   same_next i u v (X.round_of high k body t) = refl
   same_next i u v (X.end_of id k body t) = same_next i u v t
   same_next i u v (X.leave joint t) = refl

@@ -14,7 +14,7 @@ use Rattle.pb_local.specs.Tree.{Code, Codes, nothing, more, size_all, Program}
 use Rattle.pb_local.specs.Tree as L
 use Rattle.pb_local.specs.WellMade as W
 use Rattle.pb_local.specs.WellMade.{AreMade}
-use Rattle.pb_local.specs.Machine.{Todo, next, does, pushed}
+use Rattle.pb_local.specs.Machine.{Todo, do_next, does, pushed}
 use Rattle.pb_shape.specs.Shape.{Here, Who, One, there, gone, peer_of, alone, Item, message, Items, scope_of}
 use Rattle.pb_shape.specs.Shape as S
 use Rattle.pb_shape.specs.Ways.{renewed}
@@ -109,7 +109,7 @@ module _ (p : Protocol) (l : Program) (n : ℤ) (me : Seat) (g : Setting p l n m
 
   -- the statement is this action
   abbrev pub IsAct : ℤ → Code → Kind → Type 0
-  IsAct i code a = (k number : ℕ) (rest : Todo) → Goes l n bound me k i i (next number code rest) rest 0 (a ∷ [])
+  IsAct i code a = (k number : ℕ) (rest : Todo) → Goes l n bound me k i i (do_next number code rest) rest 0 (a ∷ [])
 
   pub send_act : (i : ℤ) (label : ℕ) (to : CoreEnd) → is_rank p.roles n to.role (value to.at n i) ≡ true → IsAct i (L.send label (peer_of to)) (Sends (rank_of p.roles n to i) label)
   send_act i label to is k number rest =

@@ -20,7 +20,7 @@ use Rattle.pb_local.specs.Ranks.{Seat}
 use Rattle.pb_local.specs.Tree.{Code, Codes, more, size, size_all, Program}
 use Rattle.pb_local.specs.Tree as L
 use Rattle.pb_local.specs.Collectives as M
-use Rattle.pb_local.specs.Machine.{Todo, next, leave, does, pushed, move_from}
+use Rattle.pb_local.specs.Machine.{Todo, do_next, leave, does, pushed, move_from}
 use Rattle.pb_local.specs.Family.{most_silent}
 use Rattle.pb_shape.specs.Shape.{Here, Item, message, Piece, peer_of, scope_of}
 use Rattle.pb_shape.specs.Shape as S
@@ -69,14 +69,14 @@ module _ (p : Protocol) (l : Program) (n : ℤ) (me : Seat) (g : Setting p l n m
 
   -- a statement that is itself
   same_done : (code : Code) (tail : Codes) (rest : Todo) (k number : ℕ) (i : ℤ) (kinds : List Kind) → IsVariable i → 1 ≤ size code →
-      ((behind : ℕ) → Goes l n bound me k i i (next number code (pushed behind tail rest)) (pushed behind tail rest) 0 kinds) → Ends p l n me g bound k number i (more code tail) tail rest kinds
+      ((behind : ℕ) → Goes l n bound me k i i (do_next number code (pushed behind tail rest)) (pushed behind tail rest) 0 kinds) → Ends p l n me g bound k number i (more code tail) tail rest kinds
   same_done code tail rest k number i kinds near le go =
       record { last = i; near = near; done = record { cost = 0; behind = number + size code; small = omega arith; go = go (number + size code) } }
 
   -- both entries to a collective
   joins_go : (k number : ℕ) (i : ℤ) (code : Code) (joint : Collective) (rest : Todo) →
-      move_from l n (at_todo me i (next number code rest)) (next number code rest) ≡ does (Enters joint) (at_todo me i (leave joint rest)) →
-      Goes l n bound me k i i (next number code rest) rest 0 (Enters joint ∷ Leaves joint ∷ [])
+      move_from l n (at_todo me i (do_next number code rest)) (do_next number code rest) ≡ does (Enters joint) (at_todo me i (leave joint rest)) →
+      Goes l n bound me k i i (do_next number code rest) rest 0 (Enters joint ∷ Leaves joint ∷ [])
   joins_go k number i code joint rest e = let a = does_one l n bound me {k = k} e in goes_joined l n bound me a (does_one l n bound me {k = a.left} {first = leave joint rest} refl)
 
   root_is : (i : ℤ) (e : CoreEnd) → IsEnd p n false (pos 0) e → IsNumbered p l n me i (peer_of e)
