@@ -36,7 +36,11 @@ use Rattle.pb_local.specs.Machine as X
 use Rattle.pb_local.specs.Machine.{Todo, Rank, pushed, entered, move, move_from}
 use Rattle.pb_local.specs.Family.{most_silent}
 use Rattle.pb_local.proofs.Moves.{move_is}
-use Rattle.pb_shape.specs.Shape.{Here, inside, Around, takers, told_by, peer_of, is_end, is_told, guards_of, Names, Tests, Relays, scope_of, Shape, Shapes}
+use Rattle.pb_shape.specs.Places.{Here, inside, peer_of, is_end, scope_of}
+use Rattle.pb_shape.specs.Guards.{Names}
+use Rattle.pb_shape.specs.Loops.{Around, takers}
+use Rattle.pb_shape.specs.Choices.{told_by, is_told, guards_of, Tests, Relays}
+use Rattle.pb_shape.specs.Shape.{Shape, Shapes}
 use Rattle.pb_shape.specs.Straight.{IsVariable, at_todo, IsEnd}
 use Rattle.pb_shape_follow.proofs.Stacks.{weight, weight_pushed, all, me_rank, held, coded, Sits, Sim, block}
 use Rattle.pb_shape_follow.proofs.Fronts.{debt, Budget, Rel, stands, acts, asks}

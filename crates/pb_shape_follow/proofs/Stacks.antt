@@ -16,7 +16,9 @@ use Rattle.pb_local.specs.Tree.{Codes, nothing, more, size, size_all, Program}
 use Rattle.pb_local.specs.WellMade as W
 use Rattle.pb_local.specs.WellMade.{AreMade}
 use Rattle.pb_local.specs.Machine.{Todo, finished, do_next, round_of, end_of, leave, pushed, back_to}
-use Rattle.pb_shape.specs.Shape.{Here, Around, outermost, in_loop, number_at, scope_of, Shape}
+use Rattle.pb_shape.specs.Places.{Here, scope_of}
+use Rattle.pb_shape.specs.Loops.{Around, outermost, in_loop, number_at}
+use Rattle.pb_shape.specs.Shape.{Shape}
 use Rattle.pb_shape.specs.Straight.{AreFine, IsOpenTo}
 
 -- ---- what is still to do

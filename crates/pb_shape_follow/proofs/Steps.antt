@@ -21,7 +21,10 @@ use Rattle.pb_local.specs.WellMade.{AreMade, AreGuards, IsGuard, IsPeer}
 use Rattle.pb_local.specs.Machine as X
 use Rattle.pb_local.specs.Machine.{Todo, Rank, pushed, move, move_from}
 use Rattle.pb_local.specs.Family.{most_silent}
-use Rattle.pb_shape.specs.Shape.{Here, Around, Who, One, there, gone, scope_of, told_by, alone}
+use Rattle.pb_shape.specs.Places.{Here, Who, scope_of}
+use Rattle.pb_shape.specs.Guards.{One, there, gone, alone}
+use Rattle.pb_shape.specs.Loops.{Around}
+use Rattle.pb_shape.specs.Choices.{told_by}
 use Rattle.pb_shape.specs.Straight.{IsSeated, IsVariable, at_todo, IsOpenTo, StraightPasses}
 use Rattle.pb_shape.specs.Ways as V
 use Rattle.pb_shape.specs.Ways.{Way, renewed}

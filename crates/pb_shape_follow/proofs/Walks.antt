@@ -25,7 +25,12 @@ use Rattle.pb_local.specs.Machine.{Todo, Rank, pushed, move, move_from}
 use Rattle.pb_local.specs.Family.{most_silent}
 use Rattle.pb_local.proofs.Moves.{move_is}
 use Rattle.pb_shape.specs.Shape as S
-use Rattle.pb_shape.specs.Shape.{Here, Around, outermost, takers, alone, told_by, peer_of, is_end, Names, Tests, Relays, scope_of, One, Piece, Shape, Shapes, number_at, inside}
+use Rattle.pb_shape.specs.Places.{Here, peer_of, is_end, scope_of, inside}
+use Rattle.pb_shape.specs.Guards.{alone, Names, One}
+use Rattle.pb_shape.specs.Pieces.{Piece}
+use Rattle.pb_shape.specs.Loops.{Around, outermost, takers, number_at}
+use Rattle.pb_shape.specs.Choices.{told_by, Tests, Relays}
+use Rattle.pb_shape.specs.Shape.{Shape, Shapes}
 use Rattle.pb_shape.specs.Straight.{IsVariable, at_todo}
 use Rattle.pb_shape.specs.Ways.{mine}
 use Rattle.pb_shape_follow.proofs.Stacks.{weight, weight_pushed, all, me_rank, held, flat, coded, Sits, Stands, Sim, empty}
