@@ -21,7 +21,8 @@ use Rattle.pb_core_flat.specs.Seated.{rank, is_rank}
 use Rattle.pb_core_flat.proofs.BreachesAdd.{misfits_one_by_one}
 use Rattle.pb_part_takers.specs.Pieces.{AreAmong}
 use Rattle.pb_part_takers.proofs.Among.{among_left, among_right}
-use Rattle.pb_shape.specs.Shape.{Around, scope_of, in_loop}
+use Rattle.pb_shape.specs.Places.{scope_of}
+use Rattle.pb_shape.specs.Loops.{Around, in_loop}
 use Rattle.pb_shape.specs.Tabled.{GoAmong}
 use Rattle.pb_project.specs.Places.{IsGoodStmt, IsGood, AreGood}
 use Rattle.pb_project.specs.Takers.{back_to}

@@ -16,7 +16,7 @@ use Rattle.pb_local.specs.Tree.{Code}
 use Rattle.pb_project_piece.specs.Adding.{Added}
 use Rattle.pb_project_piece.specs.Pieces.{IsPieceOf, is_straight}
 use Rattle.pb_shape.specs.Shape as S
-use Rattle.pb_shape.specs.Shape.{scope_of}
+use Rattle.pb_shape.specs.Places.{scope_of}
 use Rattle.pb_project.specs.Blocks.{behind, IsStmtOf}
 use Rattle.pb_project.specs.Places.{Known}
 use Rattle.pb_project.proofs.Guarding.{roles_are}

@@ -22,8 +22,10 @@ use Rattle.pb_local.specs.WellMade.{IsMade, AreMade}
 use Rattle.pb_shape.specs.Tabled.{Goes, GoAll}
 use Rattle.pb_project_piece.specs.Weights.{AreFlat, AreWeighed, IsSimple, IsTabledAs, item_room, each_room}
 use Rattle.pb_project_piece.proofs.Weights.{FewSoFar, few_start, few_step, few_done, weighed_codes, weighed_two, weighed_less, weighed_none, made_onto, flat_append, peer_made, guard_made, one_guard, one_weighed, one_flat, weaker_end, label_below, kernel_below, kind_is, send_simple, recv_simple, run_simple}
-use Rattle.pb_shape.specs.Shape as S
-use Rattle.pb_shape.specs.Shape.{Scope, Here, Item, Items, peer_of, alone}
+use Rattle.pb_shape.specs.Places as S
+use Rattle.pb_shape.specs.Places.{Scope, Here, peer_of}
+use Rattle.pb_shape.specs.Guards.{alone}
+use Rattle.pb_shape.specs.Items.{Item, Items}
 use Rattle.pb_project_piece.specs.Adding.{onto, Added}
 use Rattle.pb_project_piece.specs.Ranked.{IsThere}
 use Rattle.pb_project_piece.specs.Comers.{AreComers}

@@ -27,7 +27,10 @@ use Rattle.pb_local.specs.WellMade.{AreMade, IsGuard, AreGuards, behind, loops_i
 use Rattle.pb_shape.specs.Sizes.{braces_all, room_each}
 use Rattle.pb_project_piece.specs.Weights.{sizes, depths, loop_count, AreFlat, IsWeighed, IsTabledAs, each_room}
 use Rattle.pb_project_piece.proofs.Weights.{weighed_less, weighed_none, sizes_onto, loops_onto, braces_onto, made_onto, small_is, peer_made, guard_made}
-use Rattle.pb_shape.specs.Shape.{Scope, Here, everyone, Nobody, Somebody, is_fixed, is_fixed_at, fixed_in, fixed_here, in_for, but_fixed, Rounds, ForEach, Segments}
+use Rattle.pb_shape.specs.Places.{Scope, Here, everyone}
+use Rattle.pb_shape.specs.Guards.{Nobody, Somebody}
+use Rattle.pb_shape.specs.Segments.{Segments}
+use Rattle.pb_shape.specs.Pieces.{is_fixed, is_fixed_at, fixed_in, fixed_here, in_for, but_fixed, Rounds, ForEach}
 use Rattle.pb_project_piece.specs.Adding.{onto, Added}
 use Rattle.pb_project_piece.specs.Ranked.{Ranked, IsThere}
 use Rattle.pb_project_piece.specs.Comers.{AreBounds}

@@ -19,7 +19,8 @@ use Rattle.pb_core_flat.specs.Meets.{is_met}
 use Rattle.pb_core_flat.proofs.Sources.{over_n_is}
 use Rattle.pb_core_language.specs.declared.tree.Bounds.{Bounds}
 use Rattle.pb_local.specs.Tree.{Code}
-use Rattle.pb_shape.specs.Shape.{Scope, Here, Somebody, Nobody, One, is_end, alone}
+use Rattle.pb_shape.specs.Places.{Scope, Here, is_end}
+use Rattle.pb_shape.specs.Guards.{Somebody, Nobody, One, alone}
 use Rattle.pb_project_piece.specs.Ranked.{Ranked, IsThere}
 use Rattle.pb_project_piece.specs.Comers.{AreComers}
 use Rattle.pb_project_piece.specs.Standing.{Stands, IsHere, is_end_if}

@@ -37,7 +37,9 @@ use Rattle.pb_shape.specs.Sizes.{braces, braces_all}
 use Rattle.pb_shape.specs.Tabled.{Goes, GoAll}
 use Rattle.pb_project_piece.specs.Weights.{IsWeighed, IsSimple, IsTabledAs, AreFlat, each_room, count_in, segment_sum}
 use Rattle.pb_project_piece.proofs.Weights.{weighed_two, weighed_less, weighed_none, flat_append, peer_made, one_guard, label_below, kernel_below, kind_is}
-use Rattle.pb_shape.specs.Shape.{Scope, Here, One, is_at_offset, put, put_end, put_in, segment_code, segment_codes, in_segment, offsets, offsets_at, OfRole, Segments, peer_of}
+use Rattle.pb_shape.specs.Places.{Scope, Here, peer_of}
+use Rattle.pb_shape.specs.Guards.{One}
+use Rattle.pb_shape.specs.Segments.{is_at_offset, put, put_end, put_in, segment_code, segment_codes, in_segment, offsets, offsets_at, OfRole, Segments}
 use Rattle.pb_project_piece.specs.declared.offsets.Off.{Off}
 use Rattle.pb_project_piece.specs.Adding.{onto, Added}
 use Rattle.pb_project_piece.specs.Ranked.{Ranked, IsThere}

@@ -19,7 +19,8 @@ use Rattle.pb_shape.specs.Tabled as P
 use Rattle.pb_shape.specs.Tabled.{Goes}
 use Rattle.pb_project_piece.specs.Weights.{sizes, depths, loop_count, AreFlat, IsWeighed, IsTabledAs, item_room}
 use Rattle.pb_project_piece.proofs.Weights.{weighed_less, weighed_none, sizes_onto, loops_onto, braces_onto, made_onto, peer_made, weaker_end, label_below}
-use Rattle.pb_shape.specs.Shape.{Scope, Here, Piece}
+use Rattle.pb_shape.specs.Places.{Scope, Here}
+use Rattle.pb_shape.specs.Pieces.{Piece}
 use Rattle.pb_project_piece.specs.Adding.{onto, Added}
 use Rattle.pb_project_piece.specs.Ones.{IsItemOf}
 use Rattle.pb_project_piece.specs.Looping.{IsForEach}

@@ -16,7 +16,9 @@ use Rattle.pb_local.specs.declared.stmt.Stmt.{Stmt}
 use Rattle.pb_local.specs.Tree.{Code, Codes, Program, plain, plain_all}
 use Rattle.pb_shape.specs.Sizes.{room_each}
 use Rattle.pb_shape.specs.Tabled.{GoAll}
-use Rattle.pb_shape.specs.Shape.{Scope, Here, everyone, Nobody, fixed_in, in_for, Rounds, ForEach}
+use Rattle.pb_shape.specs.Places.{Scope, Here, everyone}
+use Rattle.pb_shape.specs.Guards.{Nobody}
+use Rattle.pb_shape.specs.Pieces.{fixed_in, in_for, Rounds, ForEach}
 use Rattle.pb_project_piece.specs.Adding.{onto}
 use Rattle.pb_project_piece.specs.Weights.{IsWeighed, IsTabledAs, AreFlat, each_room}
 use Rattle.pb_project_piece.specs.Ranked.{Ranked}

@@ -14,7 +14,9 @@ use Rattle.pb_local.specs.Tree.{Code, Codes, Program}
 use Rattle.pb_local.specs.WellMade as W
 use Rattle.pb_local.specs.WellMade.{IsMade, AreMade}
 use Rattle.pb_shape.specs.Tabled.{Goes, GoAll}
-use Rattle.pb_shape.specs.Shape.{Scope, Here, Who, One, Item, Items, is_end, alone}
+use Rattle.pb_shape.specs.Places.{Scope, Here, Who, is_end}
+use Rattle.pb_shape.specs.Guards.{One, alone}
+use Rattle.pb_shape.specs.Items.{Item, Items}
 use Rattle.pb_project_piece.specs.Adding.{onto}
 use Rattle.pb_project_piece.specs.Weights.{IsSimple, IsTabledAs, IsWeighed, AreWeighed, AreFlat, item_room, each_room}
 use Rattle.pb_project_piece.specs.Standing.{Stands, IsHere, IsEach, is_end_if, varies}

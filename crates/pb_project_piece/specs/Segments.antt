@@ -15,7 +15,8 @@ use Rattle.pb_local.specs.Tree as L
 use Rattle.pb_local.specs.Tree.{Code, Codes, Program}
 use Rattle.pb_local.specs.WellMade.{AreGuards}
 use Rattle.pb_shape.specs.Tabled.{GoAll}
-use Rattle.pb_shape.specs.Shape.{Scope, Here, in_segment, segment_codes, offsets, OfRole, Segments}
+use Rattle.pb_shape.specs.Places.{Scope, Here}
+use Rattle.pb_shape.specs.Segments.{in_segment, segment_codes, offsets, OfRole, Segments}
 use Rattle.pb_project_piece.specs.Adding.{onto}
 use Rattle.pb_project_piece.specs.Weights.{IsWeighed, IsSimple, IsTabledAs, AreFlat, each_room, count_in, segment_sum}
 use Rattle.pb_project_piece.specs.Comers.{AreBounds}

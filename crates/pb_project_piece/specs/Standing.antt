@@ -10,7 +10,7 @@ use Rattle.pb_core_language.specs.Verdict.{IsIn}
 use Rattle.pb_core_flat.specs.Seated.{is_rank}
 use Rattle.pb_core_language.specs.declared.tree.Bounds.{Bounds}
 use Rattle.pb_part_firsts.specs.Takers.{IsWhole}
-use Rattle.pb_shape.specs.Shape.{Scope, Here}
+use Rattle.pb_shape.specs.Places.{Scope, Here}
 use Rattle.pb_project_piece.specs.Comers.{AreBounds}
 
 -- the range of N, how many roles there are, and the areas of all ranks

@@ -2,7 +2,7 @@ ghost use Rattle.std.specs.Prelude.{◌≡◌, [], ◌∷◌, Some, IfOk, OnOk};
 ghost use Rattle.pb_core_language.specs.Plain.{plain_block, plain_stmt};
 ghost use Rattle.pb_core_language.specs.Tree as T;
 ghost use Rattle.pb_local.specs.Tree.{plain, plain_all};
-ghost use Rattle.pb_shape.specs.Shape.{alone};
+ghost use Rattle.pb_shape.specs.Guards.{alone};
 ghost use Rattle.pb_project_piece.specs.Adding.{Added};
 ghost use Rattle.pb_project_piece.specs.Ones.{end_guard, only_when, IsAt, IsItemOf, AreItemsOf};
 

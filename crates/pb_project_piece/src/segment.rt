@@ -7,7 +7,7 @@ ghost use Rattle.pb_core_language.specs.Tree as T;
 ghost use Rattle.pb_local.specs.Tree as L;
 ghost use Rattle.pb_local.specs.Tree.{plain, plain_all, Program};
 ghost use Rattle.pb_local.specs.WellMade.{IsGuard};
-ghost use Rattle.pb_shape.specs.Shape.{is_at_offset, put, segment_code, in_segment};
+ghost use Rattle.pb_shape.specs.Segments.{is_at_offset, put, segment_code, in_segment};
 ghost use Rattle.pb_part_takers.specs.Sums.{IsSum};
 ghost use Rattle.pb_project_piece.specs.Adding.{Added};
 ghost use Rattle.pb_project_piece.specs.Comers.{AreBounds};

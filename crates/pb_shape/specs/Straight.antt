@@ -19,7 +19,9 @@ use Rattle.pb_local.specs.WellMade as W
 use Rattle.pb_local.specs.WellMade.{AreMade, IsWellMade}
 use Rattle.pb_local.specs.Machine.{Todo, pushed, Rank, machine}
 use Rattle.pb_local.specs.Family.{most_silent}
-use Rattle.pb_shape.specs.Shape.{Here, Piece, scope_of, HasShape}
+use Rattle.pb_shape.specs.Places.{Here, scope_of}
+use Rattle.pb_shape.specs.Pieces.{Piece}
+use Rattle.pb_shape.specs.Shape.{HasShape}
 use Rattle.pb_shape.specs.Ways.{mine, Way, renewed}
 
 -- rank r of the program at N = n, with its role and index
