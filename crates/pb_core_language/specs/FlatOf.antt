@@ -7,7 +7,7 @@
 --     message _ 0 1 0 (message _ 1 2 0 (looped _ (looped _
 --         (choice _ 0 0 (branch _ (again 0) (branch _ (again 1) no_branch)) stop) stop) stop))
 --
--- n is N, and i the value of the variable.
+-- n is N, and i and j are values of the variable.
 use Rattle.std.specs.Prelude.{ℕ, suc, ◌+◌, ◌*◌, ℤ, pos, nat_eq, if◌then◌else◌, List, [], ◌∷◌}
 use Rattle.pb_affine.specs.Values.{value, range}
 use Rattle.pb_syntax.specs.declared.tree.Op.{Op}
@@ -60,8 +60,8 @@ module _ (roles : List CoreRole) (n : ℤ) where
   abbrev pub rank_of : CoreEnd → ℤ → ℕ
   rank_of end i = number_in (seat end n i) (seats roles n)
 
-  -- A statement with this mark, inside the loops with the ids `opens`, the innermost first, before what is done after.
-  -- The mark in a foreach or a loop is its block's. What stands behind a continue is dropped.
+  -- A statement with the mark `own`, inside the loops with the ids `opens`, the innermost first, and what is done after it.
+  -- The mark in a foreach or a loop is that of its block. What stands behind a continue is dropped.
   abbrev mutual
     pub flat_stmt : List ℕ → ℤ → Mark → StmtTree → Block → Block
     flat_stmt opens i own (T.message label from to) after = message (from_two own from to n i) (rank_of from i) (rank_of to i) label after
