@@ -1,14 +1,14 @@
 -- What is computed is the least sets.
 use Rattle.std.proofs.Common.{◌≡◌, ℕ, zero, suc, ◌==◌, Bool, true, false, ◌||◌, List, [], ◌∷◌, refl, arith, ap, ◌∙◌, subst, inl, inr}
-use Rattle.std.proofs.lemmas.Bool.{eq-eqb, eqb-true}
-use Rattle.pb_core_language.specs.Flat.{Block, stop, message, compute, together, choice, looped, again, Branches, no_branch, branch, nth, takes_part, takes_part_among}
+use Rattle.std.proofs.lemmas.Bool.{eq-eqb, eqb-true, or_cases, or_right, or_left, cases_Bool}
+use Rattle.pb_core_language.specs.Lists.{nth}
+use Rattle.pb_core_language.specs.Flat.{Block, stop, message, compute, together, choice, looped, again, Branches, no_branch, branch, takes_part, takes_part_among}
 use Rattle.pb_core_language.specs.TakesPart.{BodyIs, from, Takes, sends, receives, after_message, computes, after_compute, joins, chooses, in_branch, after_choice, in_loop, after_loop, continues, Takes_some, in_first, in_later, values, Least}
-use Rattle.pb_core_language.proofs.Bools.{bool_cases, or_one, or_left, or_right}
 
 module _ (r : ℕ) where
   -- a loop's own continue adds nobody
   own_adds : (v : List Bool) (b : Block) → takes_part (takes_part (false ∷ v) r b ∷ v) r b ≡ true → takes_part (false ∷ v) r b ≡ true
-  own_adds v b h = elim (bool_cases (takes_part (false ∷ v) r b)) [ inl y ↦ y | inr y ↦ subst (λ u. takes_part (u ∷ v) r b ≡ true) y h ]
+  own_adds v b h = elim (cases_Bool (takes_part (false ∷ v) r b)) [ inl y ↦ y | inr y ↦ subst (λ u. takes_part (u ∷ v) r b ≡ true) y h ]
 
   value_is : (n : ℕ) (E : List Block) (b : Block) (around : List Block) → from n E ≡ b ∷ around → nth (values r E) n ≡ nth (values r (b ∷ around)) 0
   value_is zero E b around e = ap (λ X. nth (values r X) 0) e
@@ -53,20 +53,20 @@ module _ (r : ℕ) where
     complete : (E : List Block) (barred u : List Bool) (g : Block) → Reasons E barred u → takes_part u r g ≡ true → Takes r E barred g
     complete E barred u stop rs h = cc
     complete E barred u (message a p q l g) rs h =
-        elim (or_one (p == r) _ h) [
+        elim (or_cases (p == r) _ h) [
           | inl y ↦ sends (eqb-true p r y)
-          | inr y ↦ elim (or_one (q == r) _ y) [ inl z ↦ receives (eqb-true q r z) | inr z ↦ after_message (complete E barred u g rs z) ]
+          | inr y ↦ elim (or_cases (q == r) _ y) [ inl z ↦ receives (eqb-true q r z) | inr z ↦ after_message (complete E barred u g rs z) ]
         ]
     complete E barred u (compute a p k g) rs h =
-        elim (or_one (p == r) _ h) [ inl y ↦ computes (eqb-true p r y) | inr y ↦ after_compute (complete E barred u g rs y) ]
+        elim (or_cases (p == r) _ h) [ inl y ↦ computes (eqb-true p r y) | inr y ↦ after_compute (complete E barred u g rs y) ]
     complete E barred u (together a j g) rs h = joins
     complete E barred u (choice a p k bs g) rs h =
-        elim (or_one ((p == r) || takes_part_among u r bs) (takes_part u r g) h) [
-          | inl y ↦ elim (or_one (p == r) _ y) [ inl z ↦ chooses (eqb-true p r z) | inr z ↦ in_branch (complete_some E barred u bs rs z) ]
+        elim (or_cases ((p == r) || takes_part_among u r bs) (takes_part u r g) h) [
+          | inl y ↦ elim (or_cases (p == r) _ y) [ inl z ↦ chooses (eqb-true p r z) | inr z ↦ in_branch (complete_some E barred u bs rs z) ]
           | inr y ↦ after_choice (complete E barred u g rs y)
         ]
     complete E barred u (looped a b g) rs h =
-        elim (or_one (takes_part (false ∷ u) r b) (takes_part u r g) h) [
+        elim (or_cases (takes_part (false ∷ u) r b) (takes_part u r g) h) [
           | inl y ↦ in_loop (complete (b ∷ E) (false ∷ barred) (false ∷ u) b (inner E barred u b false rs) y)
           | inr y ↦ after_loop (complete E barred u g rs y)
         ]
@@ -75,7 +75,7 @@ module _ (r : ℕ) where
     complete_some : (E : List Block) (barred u : List Bool) (bs : Branches) → Reasons E barred u → takes_part_among u r bs ≡ true → Takes_some r E barred bs
     complete_some E barred u no_branch rs h = cc
     complete_some E barred u (branch m b bs) rs h =
-        elim (or_one (takes_part u r b) (takes_part_among u r bs) h) [ inl y ↦ in_first (complete E barred u b rs y) | inr y ↦ in_later (complete_some E barred u bs rs y) ]
+        elim (or_cases (takes_part u r b) (takes_part_among u r bs) h) [ inl y ↦ in_first (complete E barred u b rs y) | inr y ↦ in_later (complete_some E barred u bs rs y) ]
 
   reasons : (E : List Block) → Reasons E [] (values r E)
   reasons [] n h = cc

@@ -1,4 +1,3 @@
-mod Bools
 mod Numbers
 mod LeastSets
 mod RunLaws

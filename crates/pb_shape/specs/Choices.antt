@@ -6,7 +6,8 @@ use Rattle.pb_core_language.specs.declared.tree.CoreEnd.{CoreEnd}
 use Rattle.pb_core_language.specs.Tree.{BranchTrees}
 use Rattle.pb_core_language.specs.Flat.{branch_at}
 use Rattle.pb_core_language.specs.FlatOf.{flat_branches}
-use Rattle.pb_core_language.specs.Outcomes.{labels_of, is_among, firsts, firsts_among, source_of}
+use Rattle.pb_core_language.specs.Lists.{is_among}
+use Rattle.pb_core_language.specs.Outcomes.{labels_of, firsts, firsts_among, source_of}
 use Rattle.pb_core_language.specs.Verdict.{IsIn}
 use Rattle.pb_core_flat.specs.Seated.{rank, is_rank}
 use Rattle.pb_local.specs.declared.stmt.Test.{Test}
