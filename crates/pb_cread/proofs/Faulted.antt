@@ -1,5 +1,5 @@
 -- Which line is at fault where reading stops.
-use Rattle.std.proofs.Common.{◌≡◌, ℕ, suc, Bool, true, false, List, [], ◌∷◌, ◌++◌, map, length, Option, Some, None, refl, sym, ap, subst, ◌∙◌, arith, append_assoc, append-nil}
+use Rattle.std.proofs.Common.{◌≡◌, ℕ, suc, true, false, List, [], ◌∷◌, ◌++◌, map, length, Option, Some, None, refl, sym, ap, subst, ◌∙◌, arith, append_assoc, append-nil}
 use Rattle.std.specs.Prelude.{All}
 use Rattle.std.proofs.lemmas.List.Elements.{All-push}
 use Rattle.pb_text.specs.declared.place.Place.{Place}
@@ -112,9 +112,6 @@ onward text rest n r s i l one front =
     let B : List (List ℕ) → Type 0 = λ xs. Starts h xs (main_lines h c ++ end_lines) in
     let before = inner_lines h i.lines (main_lines h c) rows i.stated.inner (starts_front h (map bare i.lines) (bare l ∷ []) (main_lines h c ++ end_lines) (subst B (bares_push i.lines l) o.behind)) in
     record { body = c; behind = o.behind; before = before }
-
-not_both : (x : Bool) → x ≡ true → x ≡ false → ⊥
-not_both x a b = cc
 
 pub main_stops : (text rest : List ℕ) (n : ℕ) (r : Read) (p : Program) (s : M.State) (l m : List ℕ) (place : Place) → InMain text rest n r p s → IsFirst rest l m → same_line finalize l ≡ false → NoneGoes p s (bare l) → place.line ≡ n → place.col ≡ 1 → Comes text place IsUnexpected
 main_stops text rest n r p s l m place i first inner none a b =
