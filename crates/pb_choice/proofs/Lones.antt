@@ -11,7 +11,8 @@ use Rattle.pb_core_language.specs.Ranks.{seats, seat_at, total}
 use Rattle.pb_core_language.specs.Tree.{Mark, BlockTree}
 use Rattle.pb_core_language.specs.Flat.{stop}
 use Rattle.pb_core_language.specs.FlatOf.{flat_block}
-use Rattle.pb_core_language.specs.Rules.{some_below, holds_again, nobody}
+use Rattle.pb_core_language.specs.Lists.{some_below}
+use Rattle.pb_core_language.specs.Rules.{holds_again, nobody}
 use Rattle.pb_core_language.specs.Sound.{Rows}
 use Rattle.pb_core_language.specs.Verdict.{Broken, IsIn, is_before_seat}
 use Rattle.pb_core_language.specs.Ranks.{Seat}

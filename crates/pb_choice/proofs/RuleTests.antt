@@ -5,7 +5,8 @@ use Rattle.std.proofs.lemmas.Bool.Decides.{nat_tests}
 use Rattle.std.proofs.lemmas.Int.{ints}
 use Rattle.pb_affine.specs.declared.range.NRange.{NRange}
 use Rattle.pb_core_language.specs.declared.protocol.CoreRole.{CoreRole}
-use Rattle.pb_core_language.specs.Outcomes.{Outcome, nothing_first, receives, other_first, again_first, only_receives, comes_from_one, labels_of, none_shared}
+use Rattle.pb_core_language.specs.Lists.{none_shared}
+use Rattle.pb_core_language.specs.Outcomes.{Outcome, nothing_first, receives, other_first, again_first, only_receives, comes_from_one, labels_of}
 use Rattle.pb_core_language.specs.Tree.{Mark}
 use Rattle.pb_core_language.specs.Verdict.{IsIn}
 use Rattle.pb_part_areas.specs.declared.area.Area.{Area}

@@ -22,7 +22,8 @@ use Rattle.pb_core_language.specs.Names.{Name, same, is_named, a_role, declared,
 use Rattle.pb_core_language.specs.FileRules.{role_names, growth, role_growth, total_growth, is_below, is_just, broken_5}
 use Rattle.pb_core_language.specs.Meaning.{lin_of, role_of, roles_of, high_of, meaning}
 use Rattle.pb_core_language.specs.Plain.{Protocol}
-use Rattle.pb_core_language.specs.Rules.{is_empty, empty_roles, nobody, Breach, broken_6, breaches}
+use Rattle.pb_core_language.specs.Lists.{is_empty}
+use Rattle.pb_core_language.specs.Rules.{empty_roles, nobody, Breach, broken_6, breaches}
 use Rattle.pb_core_language.specs.Sound.{is_small, is_over_n, is_bound, are_roles}
 use Rattle.pb_core_language.specs.Verdict.{IsIn, IsUpTo, KeepsAll}
 use Rattle.pb_local.specs.Names.{is_name}

@@ -7,7 +7,8 @@ use Rattle.pb_world.specs.Sequencer.{emitted, state_after}
 use Rattle.pb_world.proofs.Lists.{eqb_cases}
 use Rattle.pb_world.proofs.Sequential.{internal_self, message_sender, message_receiver}
 use Rattle.pb_world.proofs.Theorem.{all_ranks}
-use Rattle.pb_core_language.specs.Flat.{Block, stop, message, compute, together, choice, looped, again, Branches, no_branch, branch, nth, takes_part, takes_part_among, count, branch_at}
+use Rattle.pb_core_language.specs.Lists.{nth}
+use Rattle.pb_core_language.specs.Flat.{Block, stop, message, compute, together, choice, looped, again, Branches, no_branch, branch, takes_part, takes_part_among, count, branch_at}
 use Rattle.pb_core_language.specs.Outcomes.{firsts_among, source_of}
 use Rattle.pb_core_language.specs.Run.{first_state, Setting, Depends, Opener, Top, Chosen, Body, Frame, Env, at_rank, env_over, env_of, live, back, back_over, move, State, branch_now, words_now, taken_at, emit, next, is_over_at}
 use Rattle.pb_core_endpoint.proofs.Kept.{Keeps}

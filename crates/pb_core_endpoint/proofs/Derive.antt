@@ -2,11 +2,12 @@
 use Rattle.std.proofs.Common.{◌≡◌, ◌≢◌, ℕ, zero, suc, ◌<◌, ◌==◌, Bool, cond, true, false, ◌||◌, ◌&&◌, not, MatchBool, List, [], ◌∷◌, ◌++◌, length, refl, sym, ap, ap₂, ◌∙◌, subst, inl, inr, nat_lt, arith}
 use Rattle.std.proofs.lemmas.Bool.{eq-eqb, eqb-true, ltb-true}
 use Rattle.pb_world.proofs.Lists.{eqb_cases}
-use Rattle.pb_core_language.specs.Flat.{Block, stop, message, compute, together, choice, looped, again, Branches, no_branch, branch, nth, takes_part, takes_part_among, count, branch_at, can_end, some_can_end}
+use Rattle.pb_core_language.specs.Lists.{nth, some_below, is_among}
+use Rattle.pb_core_language.specs.Flat.{Block, stop, message, compute, together, choice, looped, again, Branches, no_branch, branch, takes_part, takes_part_among, count, branch_at, can_end, some_can_end}
 use Rattle.pb_core_language.specs.Run.{Setting, Env, at_rank}
-use Rattle.pb_core_language.specs.Outcomes.{Outcome, nothing_first, receives, other_first, again_first, or_then, firsts, firsts_among, only_receives, only_from, source_of, labels_of, is_among}
+use Rattle.pb_core_language.specs.Outcomes.{Outcome, nothing_first, receives, other_first, again_first, or_then, firsts, firsts_among, only_receives, only_from, source_of, labels_of}
 use Rattle.pb_core_endpoint.specs.Rules.{is_formed, are_formed, is_stop, loops_end, loops_end_each, ends_before, ends_before_each, Accepted}
-use Rattle.pb_core_language.specs.Rules.{receives_only, keeps_source, keeps_labels, some_below, holds_again, holds_again_among}
+use Rattle.pb_core_language.specs.Rules.{receives_only, keeps_source, keeps_labels, holds_again, holds_again_among}
 use Rattle.pb_core_endpoint.proofs.Tests.{all_below, is_peopled, are_peopled, at_choices, at_choices_among, all_receives, from_one, labels_fit, peopled_of, choices_of, says_receives, says_source, apart_of}
 use Rattle.pb_core_endpoint.proofs.Kept.{Receives_first, Receives_each, first_label, first_label_among, IsTold, Keeps, Keeps_each, Loops_end, Loops_end_each, Ends_before, Ends_before_each, Has, Continued, Continued_each, Obeys}
 use Rattle.pb_core_endpoint.proofs.Stacks.{bool_cases}

@@ -5,11 +5,12 @@ use Rattle.pb_world.specs.Machine.{Does, Probe}
 use Rattle.pb_world.proofs.Lists.{eqb_cases}
 use Rattle.pb_world.proofs.Sequential.{internal_self, internal_other, message_sender, message_receiver, message_other}
 use Rattle.pb_world.proofs.Local.{Leads, there, by_silent, by_act}
-use Rattle.pb_core_language.specs.Flat.{Origin, Block, stop, message, compute, together, choice, looped, again, Branches, no_branch, branch, nth, takes_part, takes_part_among, in_choice, count, branch_at}
+use Rattle.pb_core_language.specs.Lists.{nth, is_among}
+use Rattle.pb_core_language.specs.Flat.{Origin, Block, stop, message, compute, together, choice, looped, again, Branches, no_branch, branch, takes_part, takes_part_among, in_choice, count, branch_at}
 use Rattle.pb_core_language.specs.Run.{Setting, Opener, Chosen, Body, Frame, at_rank, env_over, env_of, live, back, back_over, is_allowed, branch_now, words_now, entered_now, emit_at}
 use Rattle.pb_core_endpoint.proofs.Kept.{Apart, IsTold}
 use Rattle.pb_core_endpoint.specs.Endpoint.{Code, done, send, receive, run, enter, leave, choose, told, loop, Arms, code, arms, Part, count_arms, arm_at, arm_of, next_at, return_to, read_at, chosen, machine, body_of, shadow}
-use Rattle.pb_core_language.specs.Outcomes.{Outcome, nothing_first, receives, other_first, again_first, firsts, firsts_among, source_of, labels_of, is_among}
+use Rattle.pb_core_language.specs.Outcomes.{Outcome, nothing_first, receives, other_first, again_first, firsts, firsts_among, source_of, labels_of}
 use Rattle.pb_core_endpoint.specs.Endpoint as E
 use Rattle.pb_core_endpoint.proofs.Clean.{top_live, Clean}
 use Rattle.pb_core_endpoint.proofs.Stacks.{or_no, bool_cases, live_env, back_live}

@@ -8,11 +8,11 @@ use Rattle.pb_world.specs.Once.{once_start, once}
 use Rattle.pb_world.proofs.OnceFollows.{KeepsOnce, follows_once}
 use Rattle.pb_world.proofs.OnMachine.{laws_on}
 use Rattle.pb_world.proofs.Theorem.{all_ranks}
-use Rattle.pb_core_language.specs.Flat.{Block, stop, message, compute, together, choice, looped, again, Branches, no_branch, branch, nth, takes_part, takes_part_among}
+use Rattle.pb_core_language.specs.Lists.{nth, is_among}
+use Rattle.pb_core_language.specs.Flat.{Block, stop, message, compute, together, choice, looped, again, Branches, no_branch, branch, takes_part, takes_part_among}
 use Rattle.pb_core_language.specs.Run.{Setting, is_allowed}
 use Rattle.pb_core_endpoint.specs.Endpoint.{Code, done, send, receive, run, enter, leave, choose, told, loop, Arms, no_arm, arm, code, arms, Part, arm_at, arm_of, next_at, return_to, quiet_at, branch_of, act_at, chosen, read_at, machine, endpoint}
 use Rattle.pb_core_endpoint.specs.Endpoint as E
-use Rattle.pb_core_language.specs.Outcomes.{is_among}
 use Rattle.pb_core_endpoint.specs.Theorem.{family}
 use Rattle.pb_core_endpoint.specs.Once.{is_at_again, once_family, EndpointsDoOnce}
 use Rattle.pb_core_endpoint.proofs.Kept.{Obeys}

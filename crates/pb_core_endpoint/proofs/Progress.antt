@@ -4,7 +4,8 @@ use Rattle.pb_world.specs.Actions.{Action, Choose, Run, Send, Recv, Enter, Leave
 use Rattle.pb_world.specs.Sequencer.{behind_first, answers_after, answers_after_all, first_or, emitted, state_after}
 use Rattle.pb_world.proofs.Lists.{eqb_cases, of_append}
 use Rattle.pb_world.proofs.Sequential.{internal_self, message_sender, message_receiver}
-use Rattle.pb_core_language.specs.Flat.{Origin, Block, stop, message, compute, together, choice, looped, again, Branches, no_branch, branch, nth, takes_part, takes_part_among, in_choice, count, branch_at, can_end, some_can_end, first_ending}
+use Rattle.pb_core_language.specs.Lists.{nth}
+use Rattle.pb_core_language.specs.Flat.{Origin, Block, stop, message, compute, together, choice, looped, again, Branches, no_branch, branch, takes_part, takes_part_among, in_choice, count, branch_at, can_end, some_can_end, first_ending}
 use Rattle.pb_core_language.specs.Outcomes.{firsts_among, source_of}
 use Rattle.pb_core_language.specs.Run.{Setting, Opener, Top, Chosen, Body, Frame, at_rank, env_over, env_of, live, back, back_over, move, State, is_allowed, branch_now, words_now, emit, next}
 use Rattle.pb_core_endpoint.proofs.Kept.{Receives_first, Receives_each, Keeps, Loops_end, Loops_end_each, Ends_before}

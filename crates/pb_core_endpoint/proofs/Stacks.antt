@@ -1,6 +1,7 @@
 -- Stacks of the protocol and of a rank.
 use Rattle.std.proofs.Common.{◌≡◌, ℕ, zero, suc, ◌<◌, Bool, cond, true, false, ◌||◌, ◌⊎◌, List, [], ◌∷◌, length, Some, None, refl, sym, ap, ◌∙◌, inl, inr, arith}
-use Rattle.pb_core_language.specs.Flat.{Block, stop, message, compute, together, choice, looped, again, nth, takes_part, branch_at}
+use Rattle.pb_core_language.specs.Lists.{nth}
+use Rattle.pb_core_language.specs.Flat.{Block, stop, message, compute, together, choice, looped, again, takes_part, branch_at}
 use Rattle.pb_core_language.specs.Run.{Opener, Top, Chosen, Body, Frame, at_rank, env_over, env_of, live, back, back_over, move}
 use Rattle.pb_core_endpoint.specs.Endpoint.{code, return_to, shadow}
 use Rattle.pb_core_endpoint.proofs.Clean.{top_live, Clean}

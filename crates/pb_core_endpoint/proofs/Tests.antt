@@ -2,8 +2,9 @@
 use Rattle.std.proofs.Common.{◌≡◌, ◌⊎◌, ℕ, zero, suc, ◌<◌, ◌==◌, Bool, true, false, ◌||◌, ◌&&◌, not, List, [], ◌∷◌, ◌++◌, refl, sym, ap, ap₂, ◌∙◌, subst, inl, inr, append_assoc, append-nil, arith, if◌then◌else◌}
 use Rattle.pb_core_language.specs.Flat.{Block, stop, message, compute, together, choice, looped, again, Branches, no_branch, branch, takes_part, takes_part_among}
 use Rattle.pb_core_language.specs.Run.{Env, at_rank}
-use Rattle.pb_core_language.specs.Outcomes.{Outcome, nothing_first, receives, other_first, again_first, firsts, firsts_among, only_receives, only_from, source_of, comes_from_one, labels_of, is_among, none_shared}
-use Rattle.pb_core_language.specs.Rules.{some_below, holds_again, deserted, deserted_among, misfits, misfits_among, receives_only, keeps_source, keeps_labels}
+use Rattle.pb_core_language.specs.Lists.{some_below, is_among, none_shared}
+use Rattle.pb_core_language.specs.Outcomes.{Outcome, nothing_first, receives, other_first, again_first, firsts, firsts_among, only_receives, only_from, source_of, comes_from_one, labels_of}
+use Rattle.pb_core_language.specs.Rules.{holds_again, deserted, deserted_among, misfits, misfits_among, receives_only, keeps_source, keeps_labels}
 use Rattle.std.proofs.lemmas.Bool.{eqb-true}
 use Rattle.pb_core_endpoint.proofs.Kept.{Apart}
 use Rattle.pb_core_endpoint.proofs.Branches.{or_one, or_left, or_right}

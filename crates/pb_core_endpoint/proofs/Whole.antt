@@ -11,7 +11,8 @@ use Rattle.pb_world.proofs.Shadow.{More, Moves, acts, asks, shadow_laws}
 use Rattle.pb_core_language.specs.Flat.{Block, stop, message, compute, together, choice, looped, again, takes_part, takes_part_among, branch_at}
 use Rattle.pb_core_language.specs.Run.{first_state, Setting, Depends, Opener, Chosen, Frame, at_rank, env_over, env_of, live, State, is_allowed, branch_now, taken_at, emit, next, is_over_at}
 use Rattle.pb_core_endpoint.proofs.Kept.{Receives_first, Keeps}
-use Rattle.pb_core_language.specs.Outcomes.{firsts, firsts_among, source_of, labels_of, is_among}
+use Rattle.pb_core_language.specs.Lists.{is_among}
+use Rattle.pb_core_language.specs.Outcomes.{firsts, firsts_among, source_of, labels_of}
 use Rattle.pb_core_endpoint.specs.Endpoint.{Part, code, machine, body_of, shadow}
 use Rattle.pb_core_endpoint.specs.Theorem.{family}
 use Rattle.pb_core_endpoint.proofs.Clean.{involved, Clean, Stack_keeps}

@@ -11,7 +11,8 @@ use Rattle.pb_core_language.specs.Flat.{Origin, Block, stop, takes_part, takes_p
 use Rattle.pb_core_language.specs.FlatOf.{for_each, rank_of, flat_stmt, flat_block, flat_branches}
 use Rattle.pb_core_language.specs.Outcomes.{Outcome}
 use Rattle.pb_core_language.specs.Run.{Env, at_rank}
-use Rattle.pb_core_language.specs.Rules.{holds_again, holds_again_among, some_below, deserted, deserted_among, misfits, misfits_among}
+use Rattle.pb_core_language.specs.Lists.{some_below}
+use Rattle.pb_core_language.specs.Rules.{holds_again, holds_again_among, deserted, deserted_among, misfits, misfits_among}
 use Rattle.pb_core_language.specs.Sound.{Rows, is_item, is_bound, is_end, has_branch, are_branches, is_stmt, is_block}
 use Rattle.pb_core_flat.specs.GoesOn.{is_again, goes_on, are_items, has_again, have_again, some_have_again}
 use Rattle.pb_core_flat.specs.Laws.{MisfitsOneByOne, MisfitsFirst, DesertedOneByOne, DesertedFirst, HoldsAgainOneByOne, EachKeepsRules, HoldsAgainIs}

@@ -1,7 +1,8 @@
 -- What is computed is the least sets.
 use Rattle.std.proofs.Common.{◌≡◌, ℕ, zero, suc, ◌==◌, Bool, true, false, ◌||◌, List, [], ◌∷◌, refl, arith, ap, ◌∙◌, subst, inl, inr}
 use Rattle.std.proofs.lemmas.Bool.{eq-eqb, eqb-true, or_cases, or_right, or_left, cases_Bool}
-use Rattle.pb_core_language.specs.Flat.{Block, stop, message, compute, together, choice, looped, again, Branches, no_branch, branch, nth, takes_part, takes_part_among}
+use Rattle.pb_core_language.specs.Lists.{nth}
+use Rattle.pb_core_language.specs.Flat.{Block, stop, message, compute, together, choice, looped, again, Branches, no_branch, branch, takes_part, takes_part_among}
 use Rattle.pb_core_language.specs.TakesPart.{BodyIs, from, Takes, sends, receives, after_message, computes, after_compute, joins, chooses, in_branch, after_choice, in_loop, after_loop, continues, Takes_some, in_first, in_later, values, Least}
 
 module _ (r : ℕ) where

@@ -2,6 +2,7 @@
 -- around it by how many stand between. Who takes part in it, and what of it can end.
 use Rattle.std.specs.Prelude.{ℕ, zero, suc, ◌==◌, cond, Bool, true, false, ◌||◌, ◌&&◌, List, [], ◌∷◌, nat_lt}
 use Rattle.pb_world.specs.Actions.{Collective}
+use Rattle.pb_core_language.specs.Lists.{nth}
 use Rattle.pb_core_language.specs.Ranks.{Seat}
 use Rattle.pb_core_language.specs.Tree.{Mark}
 
@@ -30,11 +31,6 @@ mutual
   pub data Branches : Type 0 where
     no_branch : Branches
     branch : (mark : Mark) (first : Block) (rest : Branches) → Branches
-
-abbrev pub nth : List Bool → ℕ → Bool
-nth [] n = false
-nth (b ∷ bs) zero = b
-nth (b ∷ bs) (suc n) = nth bs n
 
 -- A rank takes part in a block. `held` says of each loop around, the innermost first, whether the rank takes part in
 -- its body for a reason other than its continue.

@@ -1,6 +1,7 @@
 -- What a rank finds first in a block.
-use Rattle.std.specs.Prelude.{ℕ, ◌==◌, cond, Bool, true, false, ◌||◌, ◌&&◌, not, List, [], ◌∷◌, ◌++◌}
-use Rattle.pb_core_language.specs.Flat.{Block, stop, message, compute, together, choice, looped, again, Branches, no_branch, branch, nth, takes_part, takes_part_among}
+use Rattle.std.specs.Prelude.{ℕ, ◌==◌, cond, Bool, true, false, ◌&&◌, List, [], ◌∷◌, ◌++◌}
+use Rattle.pb_core_language.specs.Lists.{nth}
+use Rattle.pb_core_language.specs.Flat.{Block, stop, message, compute, together, choice, looped, again, Branches, no_branch, branch, takes_part, takes_part_among}
 
 pub data Outcome : Type 0 where
   nothing_first : Outcome
@@ -65,11 +66,3 @@ labels_of (receives s l ∷ os) = l ∷ labels_of os
 labels_of (nothing_first ∷ os) = labels_of os
 labels_of (other_first ∷ os) = labels_of os
 labels_of (again_first ∷ os) = labels_of os
-
-abbrev pub is_among : ℕ → List ℕ → Bool
-is_among x [] = false
-is_among x (y ∷ ys) = (y == x) || is_among x ys
-
-abbrev pub none_shared : List ℕ → List ℕ → Bool
-none_shared [] ys = true
-none_shared (x ∷ xs) ys = not (is_among x ys) && none_shared xs ys

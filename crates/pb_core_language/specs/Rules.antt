@@ -1,5 +1,5 @@
 -- The rules 6 to 12 at one N: the places at which each is broken, in the order of the file, and for 10 to 12 rank by rank.
-use Rattle.std.specs.Prelude.{ℕ, zero, suc, ℤ, pos, ◌==◌, Bool, true, false, ◌||◌, ◌&&◌, not, if◌then◌else◌, Option, Some, None, List, [], ◌∷◌, ◌++◌, map, filter}
+use Rattle.std.specs.Prelude.{ℕ, suc, ℤ, pos, ◌==◌, Bool, true, false, ◌||◌, ◌&&◌, not, if◌then◌else◌, Option, Some, None, List, [], ◌∷◌, ◌++◌, map, filter}
 use Rattle.pb_affine.specs.Values.{value, range}
 use Rattle.pb_core_language.specs.declared.protocol.CoreRole.{CoreRole}
 use Rattle.pb_core_language.specs.Ranks.{Seat, seat_eq, seats, total, seat_at}
@@ -8,22 +8,10 @@ use Rattle.pb_core_language.specs.Plain.{Protocol}
 use Rattle.pb_core_language.specs.Flat.{Asked, Origin, Block, stop, message, compute, together, choice, looped, again, Branches, no_branch, branch, takes_part, takes_part_among}
 use Rattle.pb_core_language.specs.FlatOf.{flat}
 use Rattle.pb_core_language.specs.Run.{Env, at_rank}
-use Rattle.pb_core_language.specs.Outcomes.{Outcome, firsts, only_receives, comes_from_one, labels_of, none_shared}
-
--- for some number below T, and what there is for each number below T, ascending
-abbrev pub some_below : ℕ → (ℕ → Bool) → Bool
-some_below zero f = false
-some_below (suc n) f = f n || some_below n f
-
-abbrev pub over_below : {A : Type 0} → ℕ → (ℕ → List A) → List A
-over_below zero f = []
-over_below (suc n) f = over_below n f ++ f n
+use Rattle.pb_core_language.specs.Lists.{some_below, over_below, is_empty, none_shared}
+use Rattle.pb_core_language.specs.Outcomes.{Outcome, firsts, only_receives, comes_from_one, labels_of}
 
 -- ---- rule 6: each role has at least one index
-
-abbrev pub is_empty : {A : Type 0} → List A → Bool
-is_empty [] = true
-is_empty (x ∷ xs) = false
 
 -- the roles from number k on that have none
 abbrev pub empty_roles : ℕ → List CoreRole → ℤ → List Mark

@@ -2,7 +2,8 @@
 use Rattle.std.specs.Prelude.{◌≡◌, ℕ, zero, suc, Bool, true, false, List, [], ◌∷◌}
 use Rattle.pb_world.specs.Actions.{Collective}
 use Rattle.pb_core_language.specs.Tree.{Mark}
-use Rattle.pb_core_language.specs.Flat.{Origin, Block, message, compute, together, choice, looped, again, Branches, branch, nth, takes_part}
+use Rattle.pb_core_language.specs.Lists.{nth}
+use Rattle.pb_core_language.specs.Flat.{Origin, Block, message, compute, together, choice, looped, again, Branches, branch, takes_part}
 
 -- from the n-th on
 abbrev pub from : ℕ → List Block → List Block

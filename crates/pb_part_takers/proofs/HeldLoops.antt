@@ -9,7 +9,7 @@ use Rattle.pb_affine.specs.declared.range.NRange.{NRange}
 use Rattle.pb_part_areas.specs.declared.area.Area.{Area}
 use Rattle.pb_part_areas.specs.Areas.{have}
 use Rattle.pb_part_areas.specs.Fits.{Fits}
-use Rattle.pb_core_language.specs.Flat.{nth}
+use Rattle.pb_core_language.specs.Lists.{nth}
 use Rattle.pb_core_language.specs.FlatOf.{between}
 use Rattle.pb_part_takers.specs.declared.held.Held.{Held}
 use Rattle.pb_part_takers.specs.Loops.{ids_of, held_of, HeldFit}

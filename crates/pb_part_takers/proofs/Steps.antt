@@ -13,7 +13,8 @@ use Rattle.pb_core_language.specs.declared.protocol.CoreRole.{CoreRole}
 use Rattle.pb_core_language.specs.declared.tree.CoreEnd.{CoreEnd}
 use Rattle.pb_core_language.specs.declared.tree.CoreStmt.{CoreStmt}
 use Rattle.pb_core_language.specs.Cuts.{end_cuts, stmt_cuts, block_cuts, branches_cuts}
-use Rattle.pb_core_language.specs.Flat.{stop, nth, takes_part, takes_part_among}
+use Rattle.pb_core_language.specs.Lists.{nth}
+use Rattle.pb_core_language.specs.Flat.{stop, takes_part, takes_part_among}
 use Rattle.pb_core_language.specs.FlatOf.{between, rank_of, flat_stmt, flat_block, flat_branches}
 use Rattle.pb_core_language.specs.Plain.{MarkedStmt, plain_stmt}
 use Rattle.pb_core_language.specs.Sound.{Rows, is_small, is_bound, is_over_n, is_end, has_branch, is_stmt, is_block, are_branches}

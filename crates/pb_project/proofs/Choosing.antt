@@ -13,7 +13,8 @@ use Rattle.pb_part_areas.specs.Fits.{Fits}
 use Rattle.pb_core_language.specs.declared.tree.CoreEnd.{CoreEnd}
 use Rattle.pb_core_language.specs.Flat.{Branches, no_branch, branch, branch_at, takes_part_among}
 use Rattle.pb_core_language.specs.FlatOf.{rank_of, flat_branches}
-use Rattle.pb_core_language.specs.Outcomes.{firsts, labels_of, is_among}
+use Rattle.pb_core_language.specs.Lists.{is_among}
+use Rattle.pb_core_language.specs.Outcomes.{firsts, labels_of}
 use Rattle.pb_core_language.specs.Plain.{Protocol}
 use Rattle.pb_core_language.specs.Sound.{rows_of, is_end, is_over_n, is_small, are_branches}
 use Rattle.pb_core_language.specs.Tree as T

@@ -11,7 +11,8 @@ use Rattle.pb_core_language.specs.Tree.{Mark, Bounds, StmtTree, BlockTree, Branc
 use Rattle.pb_core_language.specs.Plain.{Protocol}
 use Rattle.pb_core_language.specs.Flat.{stop, takes_part, branch_at}
 use Rattle.pb_core_language.specs.FlatOf.{between, flat_stmt, flat_branches}
-use Rattle.pb_core_language.specs.Outcomes.{labels_of, is_among, firsts, firsts_among, source_of}
+use Rattle.pb_core_language.specs.Lists.{is_among}
+use Rattle.pb_core_language.specs.Outcomes.{labels_of, firsts, firsts_among, source_of}
 use Rattle.pb_core_language.specs.Parts.{is_in_body}
 use Rattle.pb_core_language.specs.Verdict.{IsIn}
 use Rattle.pb_core_flat.specs.Seated.{rank, is_rank, is_at}

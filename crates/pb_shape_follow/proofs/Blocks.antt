@@ -6,7 +6,8 @@ use Rattle.pb_core_language.specs.Ranks.{total}
 use Rattle.pb_core_language.specs.Tree as T
 use Rattle.pb_core_language.specs.Tree.{Mark, StmtTree, BlockTree}
 use Rattle.pb_core_language.specs.Plain.{Protocol}
-use Rattle.pb_core_language.specs.Flat.{Block, stop, nth, takes_part}
+use Rattle.pb_core_language.specs.Lists.{nth}
+use Rattle.pb_core_language.specs.Flat.{Block, stop, takes_part}
 use Rattle.pb_core_language.specs.FlatOf.{flat_block, between}
 use Rattle.pb_core_language.specs.Run.{at_rank}
 use Rattle.pb_core_flat.specs.GoesOn.{is_again}

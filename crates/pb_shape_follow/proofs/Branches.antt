@@ -7,7 +7,8 @@ use Rattle.pb_core_language.specs.Tree.{BlockTree, BranchTrees}
 use Rattle.pb_core_language.specs.Plain.{Protocol}
 use Rattle.pb_core_language.specs.Flat.{Block, stop, message, compute, together, choice, looped, again, Branches, no_branch, branch, takes_part, takes_part_among, count, branch_at}
 use Rattle.pb_core_language.specs.FlatOf.{flat_block, flat_branches}
-use Rattle.pb_core_language.specs.Outcomes.{firsts, labels_of, is_among}
+use Rattle.pb_core_language.specs.Lists.{is_among}
+use Rattle.pb_core_language.specs.Outcomes.{firsts, labels_of}
 use Rattle.pb_core_language.specs.Run.{Env}
 use Rattle.pb_core_endpoint.specs.Core.{have_simple_items, branches_have_simple_items}
 use Rattle.pb_core_endpoint.specs.Endpoint.{Code, code, arms, count_arms, arm_at, arm_of}

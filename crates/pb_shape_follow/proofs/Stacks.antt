@@ -4,7 +4,8 @@ use Rattle.std.proofs.lemmas.Bool.Decides.{nat_tests}
 use Rattle.pb_core_language.specs.Ranks.{total}
 use Rattle.pb_core_language.specs.Tree.{BlockTree}
 use Rattle.pb_core_language.specs.Plain.{Protocol}
-use Rattle.pb_core_language.specs.Flat.{Block, stop, nth}
+use Rattle.pb_core_language.specs.Lists.{nth}
+use Rattle.pb_core_language.specs.Flat.{Block, stop}
 use Rattle.pb_core_language.specs.FlatOf.{flat_block}
 use Rattle.pb_core_language.specs.Run.{Env, at_rank}
 use Rattle.pb_core_flat.specs.Seated.{rank}
