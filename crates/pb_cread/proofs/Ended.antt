@@ -3,6 +3,7 @@ use Rattle.std.proofs.Common.{◌≡◌, ℕ, suc, ◌+◌, ◌≤◌, ◌<◌, 
 use Rattle.std.specs.Prelude.{All, codes}
 use Rattle.std.proofs.lemmas.List.Elements.{All-push, All-cons}
 use Rattle.std.proofs.lemmas.Bool.{both_ways}
+use Rattle.std.proofs.lemmas.Option.{same_Some}
 use Rattle.pb_text.specs.declared.place.Place.{Place}
 use Rattle.pb_text.specs.Places.{one_more}
 use Rattle.pb_local.specs.Pieces as P
@@ -144,14 +145,11 @@ keeps p lines s done t finished =
     let many = are_many t.items (main_lines p c) are in
     let w = within_all (with_body p c) (length t.items) (t.within c (are_begins t.items (main_lines p c) are)) (at_most (ap length (spelled_same p c 1 outermost c) ∙ sym many)) (at_most (ap length (marks_same p c c) ∙ (marks_statements p c).0 ∙ sym many)) in
     let x = reads_statements p c t.items are in
-    let one : x.0 ≡ s = some_same x.0 s (sym x.1 ∙ t.reads) in
+    let one : x.0 ≡ s = same_Some x.0 s (sym x.1 ∙ t.reads) in
     let size : size_all c ≡ s.begun = sym x.5 ∙ ap (λ (u : M.State). u.begun) one in
     record { deep = w.deep; many = (let e = t.many in omega (arith, e, size)) } where
       at_most : {a b : ℕ} → a ≡ b → a ≤ b
       at_most e = omega (arith, e)
-
-      some_same : (a b : M.State) → Some a ≡ Some b → a ≡ b
-      some_same a b e = cc
 
 good_end : (frame lines last left : List (List ℕ)) (r : Read) (s : M.State) (done : List Code) → Framed frame r → Stated (headed r) lines s → M.finished s ≡ Some done → last ++ left ≡ last_texts → IsGood (frame ++ (lines ++ finalize ∷ last))
 good_end frame lines last left r s done f t finished parts =

@@ -2,6 +2,7 @@
 use Rattle.std.proofs.Common.{◌≡◌, ℕ, suc, true, false, List, [], ◌∷◌, ◌++◌, map, length, Option, Some, None, refl, sym, ap, subst, ◌∙◌, arith, append_assoc, append-nil}
 use Rattle.std.specs.Prelude.{All}
 use Rattle.std.proofs.lemmas.List.Elements.{All-push}
+use Rattle.std.proofs.lemmas.Option.{same_Some}
 use Rattle.pb_text.specs.declared.place.Place.{Place}
 use Rattle.pb_text.specs.Places.{one_more}
 use Rattle.pb_local.specs.Tree.{Codes, Program}
@@ -36,11 +37,8 @@ frame_goes text rest n s t l m f first goes = record {
   name = f.name;
   reads = read_on f.lines l (start_with f.name) s t f.reads goes;
 } where
-  some_is : (s u : State) → Some s ≡ Some u → s ≡ u
-  some_is s u e = cc
-
   read_on : (lines : List (List ℕ)) (l : List ℕ) (r s t : State) → K.read lines r ≡ Some s → step s l ≡ Some t → K.read (lines ++ l ∷ []) r ≡ Some t
-  read_on [] l r s t e goes = ap (λ (u : State). K.then_read (step u l) (K.read [])) (some_is r s e) ∙ ap (λ o. K.then_read o (K.read [])) goes
+  read_on [] l r s t e goes = ap (λ (u : State). K.then_read (step u l) (K.read [])) (same_Some r s e) ∙ ap (λ o. K.then_read o (K.read [])) goes
   read_on (x ∷ xs) l r s t e goes = on (step r x) e (λ n f. read_on xs l n s t f goes) where
     on : (o : Option State) → K.then_read o (K.read xs) ≡ Some s → ((n : State) → K.read xs n ≡ Some s → K.read (xs ++ l ∷ []) n ≡ Some t) → K.then_read o (K.read (xs ++ l ∷ [])) ≡ Some t
     on None e others = absurd cc
