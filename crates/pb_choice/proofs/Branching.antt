@@ -22,7 +22,7 @@ use Rattle.pb_choice.specs.Walks.{FirstAt, FirstAmong, FirstWithin, IsPast}
 use Rattle.pb_choice.proofs.FlawSteps.{SameFlaws, same_back, improves_both, improves_same, improves_empty}
 use Rattle.pb_choice.proofs.Fairs.{fair_branches, fair_branch, fair_others}
 use Rattle.pb_choice.proofs.Parts.{choice_parts, branch_parts}
-use Rattle.pb_choice.proofs.Plains.{drop_is}
+use Rattle.pb_choice.proofs.Lists.{drop_is}
 
 -- the branches from here on, what was found before them, and what is left to find in them
 pub record AmongNow (range : NRange) (roles : List CoreRole) (rows : Rows) (env : ℤ → Env) (opens : List ℕ) (test : ℤ → ℕ → ℤ → Bool) (all now : BranchTrees)

@@ -25,7 +25,7 @@ use Rattle.pb_part_takers.specs.Ends.{IsEndArea}
 use Rattle.pb_choice.specs.Scenes.{Stands, IsFair, AreFair}
 use Rattle.pb_choice.specs.Told.{AreTold, AreAmong}
 use Rattle.pb_choice.proofs.Fairs.{fair_branches, fair_branch, fair_others}
-use Rattle.pb_choice.proofs.Plains.{drop_is}
+use Rattle.pb_choice.proofs.Lists.{drop_is}
 
 or_false : (b : Bool) → b ≡ b || false
 or_false true = refl

@@ -31,7 +31,7 @@ use Rattle.pb_local.specs.Names.{is_name}
 use Rattle.pb_local.specs.Ranks.{Sum, factor, no_ranks, size_with, with_role, ranks_of}
 use Rattle.pb_local.specs.WellMade.{IsInRange, IsRange, IsUpperEnd, IsSingle, IsRole}
 use Rattle.pb_local.specs.WellMade as W
-use Rattle.pb_shape.specs.Shape as S
+use Rattle.pb_shape.specs.Places as S
 use Rattle.pb_core_endpoint.proofs.Tests.{none_both}
 use Rattle.pb_compile_laws.proofs.Bools.{listed_if, listed_unless}
 use Rattle.pb_compile_laws.proofs.Words.{named, swapped}

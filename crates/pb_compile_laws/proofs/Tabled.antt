@@ -11,7 +11,7 @@ use Rattle.pb_core_language.specs.Verdict.{IsAccepted}
 use Rattle.pb_parse.specs.Limits.{at_start}
 use Rattle.pb_parse_laws.proofs.Sound.{parsed_is_sound}
 use Rattle.pb_local.specs.WellMade.{AreRoles}
-use Rattle.pb_shape.specs.Shape as S
+use Rattle.pb_shape.specs.Places as S
 use Rattle.pb_shape.specs.Tabled.{GoAll}
 use Rattle.pb_compile_laws.specs.Laws.{FileIsTabled}
 use Rattle.pb_compile_laws.proofs.Unbroken.{Unbroken, unbroken}

@@ -4,7 +4,7 @@ use Rattle.std.proofs.lemmas.Bool.{and_parts, false≢true}
 use Rattle.std.proofs.Math.Bool.{or-false, or_assoc}
 use Rattle.pb_affine.specs.Values.{value, range}
 use Rattle.pb_core_language.specs.declared.protocol.CoreRole.{CoreRole}
-use Rattle.pb_core_language.specs.Tree.{Mark, StmtTree, message, foreach, loop, again, choice, run, barrier, broadcast, reduce, allreduce, BlockTree, nothing, more, BranchTrees}
+use Rattle.pb_core_language.specs.Tree.{Mark, StmtTree, message, foreach, loop, again, choice, run, barrier, broadcast, reduce, allreduce, BlockTree, nothing, more, BranchTrees, is_again}
 use Rattle.pb_core_language.specs.Tree as T
 use Rattle.pb_core_language.specs.Flat as F
 use Rattle.pb_core_language.specs.Flat.{Origin, Block, stop, takes_part, takes_part_among}
@@ -14,7 +14,7 @@ use Rattle.pb_core_language.specs.Run.{Env, at_rank}
 use Rattle.pb_core_language.specs.Lists.{some_below}
 use Rattle.pb_core_language.specs.Rules.{holds_again, holds_again_among, deserted, deserted_among, misfits, misfits_among}
 use Rattle.pb_core_language.specs.Sound.{Rows, is_item, is_bound, is_end, has_branch, are_branches, is_stmt, is_block}
-use Rattle.pb_core_flat.specs.GoesOn.{is_again, goes_on, are_items, has_again, have_again, some_have_again}
+use Rattle.pb_core_flat.specs.GoesOn.{goes_on, are_items, has_again, have_again, some_have_again}
 use Rattle.pb_core_flat.specs.Laws.{MisfitsOneByOne, MisfitsFirst, DesertedOneByOne, DesertedFirst, HoldsAgainOneByOne, EachKeepsRules, HoldsAgainIs}
 use Rattle.pb_core_flat.proofs.Adding.{Adds, is_single, stmt_adds, first_adds}
 use Rattle.pb_core_flat.proofs.SoundOnes.{sound_items, sound_goes_on, dropped}

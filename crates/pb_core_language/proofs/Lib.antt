@@ -3,3 +3,4 @@ mod LeastSets
 mod RunLaws
 mod Rows
 mod FileRows
+pub mod Plains

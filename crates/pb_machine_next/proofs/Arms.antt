@@ -17,7 +17,7 @@ use Rattle.pb_local.specs.Tree.{Code, when, for_each, own, loop, again, choice, 
 use Rattle.pb_local.specs.WellMade.{count_parts}
 use Rattle.pb_local.specs.Collectives.{operation_of}
 use Rattle.pb_local.specs.Computed.{fits, all_fit, is_for, is_for_some, guard_numbers, numbers_of, relay_numbers, source_of, is_peer, peer_number, branch_for}
-use Rattle.pb_local.specs.Machine.{Todo, finished, next, round_of, end_of, leave, Rank, Move, ends, undefined, silent, does, chooses, probes, pushed, entered, back_to, with_i, with_todo, quietly, told, with_peer, asks, move_at, move_from}
+use Rattle.pb_local.specs.Machine.{Todo, finished, do_next, round_of, end_of, leave, Rank, Move, ends, undefined, silent, does, chooses, probes, pushed, entered, back_to, with_i, with_todo, quietly, told, with_peer, asks, move_at, move_from}
 use Rattle.pb_local.proofs.Plains.{choice_plain}
 use Rattle.pb_ctree.specs.declared.tree.Formula.{Formula}
 use Rattle.pb_machine_next.specs.declared.step.Step.{Step}
@@ -156,7 +156,7 @@ count-parts (b ∷ bs) = ap suc (count-parts bs)
 -- the ends of loops that were reached are passed
 pub move-settled : (p : Program) (n : ℤ) (x : Rank) (t : Todo) → move_from p n x t ≡ move_from p n x (settled t)
 move-settled p n x finished = refl
-move-settled p n x (next k c rest) = refl
+move-settled p n x (do_next k c rest) = refl
 move-settled p n x (round_of high k body rest) = refl
 move-settled p n x (end_of id k body rest) = move-settled p n x rest
 move-settled p n x (leave joint rest) = refl

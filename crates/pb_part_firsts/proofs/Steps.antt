@@ -17,11 +17,10 @@ use Rattle.pb_core_language.specs.FlatOf.{rank_of, flat_block, flat_branches, fr
 use Rattle.pb_core_language.specs.Outcomes.{Outcome, nothing_first, other_first, or_then, firsts}
 use Rattle.pb_core_language.specs.Plain.{plain_block, plain_stmt, block_of, branches_of}
 use Rattle.pb_core_language.specs.Sound.{Rows, is_small, is_end, is_stmt, is_block, are_branches, has_branch}
-use Rattle.pb_core_language.specs.Tree.{Mark, StmtTree, loop, choice, run, BlockTree, more, BranchTrees, no_branch, branch}
+use Rattle.pb_core_language.specs.Tree.{Mark, StmtTree, loop, choice, run, BlockTree, more, BranchTrees, no_branch, branch, is_again}
 use Rattle.pb_part_areas.specs.declared.area.Area.{Area}
 use Rattle.pb_part_areas.specs.Areas.{have}
 use Rattle.pb_core_flat.specs.Seated.{rank, is_at}
-use Rattle.pb_core_flat.specs.GoesOn.{is_again}
 use Rattle.pb_core_flat.specs.OutcomeSets.{is_outcome}
 use Rattle.pb_core_flat.proofs.Choices.{choice_finds}
 use Rattle.pb_core_flat.proofs.OutcomeSets.{or_then_left, or_then_right, is_append}
@@ -34,7 +33,7 @@ use Rattle.pb_part_firsts.specs.Takers.{Adds, part_in}
 use Rattle.pb_part_firsts.specs.Firsts.{finds, Gives, first_in}
 use Rattle.pb_part_firsts.specs.Stopping.{first_at, first_among, AmongGives}
 use Rattle.pb_part_firsts.proofs.Outcomes.{in_turn, given_as, given_set, none_stops}
-use Rattle.pb_part_firsts.proofs.Plains.{plain_list}
+use Rattle.pb_core_language.proofs.Plains.{plain_list}
 use Rattle.pb_part_firsts.proofs.Singles.{end_small}
 
 abbrev pub tree_of : List CoreStmt → BlockTree

@@ -18,8 +18,8 @@ use Rattle.pb_core_language.specs.Flat.{stop, takes_part, takes_part_among}
 use Rattle.pb_core_language.specs.FlatOf.{between, rank_of, flat_stmt, flat_block, flat_branches}
 use Rattle.pb_core_language.specs.Plain.{MarkedStmt, plain_stmt}
 use Rattle.pb_core_language.specs.Sound.{Rows, is_small, is_bound, is_over_n, is_end, has_branch, is_stmt, is_block, are_branches}
-use Rattle.pb_core_language.specs.Tree.{Mark, Bounds, StmtTree, message, foreach, loop, again, choice, run, BlockTree, more, BranchTrees, branch}
-use Rattle.pb_core_flat.specs.GoesOn.{is_again}
+use Rattle.pb_core_language.specs.Tree.{Mark, StmtTree, message, foreach, loop, again, choice, run, BlockTree, more, BranchTrees, branch, is_again}
+use Rattle.pb_core_language.specs.declared.tree.Bounds.{Bounds}
 use Rattle.pb_core_flat.specs.Seated.{rank, is_rank}
 use Rattle.pb_core_flat.proofs.Seats.{end_is_at}
 use Rattle.pb_core_flat.proofs.TakersAdd.{takes_first}

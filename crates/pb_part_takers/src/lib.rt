@@ -11,7 +11,7 @@ mod tests;
 mod walk;
 mod whole;
 
-pub use each::{Over, met_area, takers_each};
+pub use each::{met_area, takers_each};
 pub use ends::{add_end, end_area};
 pub use held::{Held, add_held, with_loop};
 pub use pb_text::NoMemory;

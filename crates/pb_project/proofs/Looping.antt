@@ -15,8 +15,12 @@ use Rattle.pb_part_takers.specs.Loops.{IsInside, held_of}
 use Rattle.pb_project_piece.specs.Ones.{only_when}
 use Rattle.pb_project_piece.specs.Ranked.{IsThere}
 use Rattle.pb_project_piece.specs.Standing.{IsOpen}
+use Rattle.pb_shape.specs.Guards as G
 use Rattle.pb_shape.specs.Shape as S
-use Rattle.pb_shape.specs.Shape.{Here, Around, Shape, One, alone, takers, scope_of, inside, in_loop}
+use Rattle.pb_shape.specs.Places.{Here, scope_of, inside}
+use Rattle.pb_shape.specs.Guards.{One, alone}
+use Rattle.pb_shape.specs.Loops.{Around, takers, in_loop}
+use Rattle.pb_shape.specs.Shape.{Shape}
 use Rattle.pb_project.specs.Blocks.{behind, entered, IsStmtOf, IsLoopOf}
 use Rattle.pb_project.specs.Places.{Known, IsPlace, IsGoodStmt}
 use Rattle.pb_project.specs.Takers.{AreTakers}
@@ -77,7 +81,7 @@ loop_there k before after m mark id body areas gs c ranked of made taken =
     subst (λ d. IsStmtOf k before after m (T.loop id mark body) (only_when gs (alone d) ∷ [])) (sym made.is) (record {
       shape = λ p l cuts a h place fair free rest tail others.
           let who = takers (scope_of p) a m (T.loop id mark body) in
-          S.loop {inner = made.codes} (S.there (names k p l cuts a place m (T.loop id mark body) fair areas taken gs of h) (somebody k p l cuts a place m (T.loop id mark body) fair areas taken h free ranked))
+          S.loop {inner = made.codes} (G.there (names k p l cuts a place m (T.loop id mark body) fair areas taken gs of h) (somebody k p l cuts a place m (T.loop id mark body) fair areas taken h free ranked))
           (made.block.shape p l cuts (in_loop (scope_of p) a id before body) (inside h who) (entered_place k p l cuts a m mark id before body areas made.inner place fair taken made.inside)
           (good_body p cuts a m mark id before body fair) (inside_free h who free)) others;
       made = λ p l cuts a place fair tail others. (
@@ -110,7 +114,7 @@ no_deeper d t = omega arith
 pub loop_gone : (k : Known) (before : ℕ) (m mark : Mark) (id : ℕ) (body : BlockTree) (areas : List Area) → IsThere k.range k.whole areas false → AreTakers k.whole k.held m (T.loop id mark body) areas → IsStmtOf k before before m (T.loop id mark body) []
 loop_gone k before m mark id body areas none taken = record {
   shape = λ p l cuts a h place fair free rest tail others.
-      S.loop {number = 0} {inner = nothing} (S.gone (nobody k p l cuts a place m (T.loop id mark body) fair areas taken none h)) (S.unreached (nobody_inside k p l cuts a place m (T.loop id mark body) fair areas taken none h)) others;
+      S.loop {number = 0} {inner = nothing} (G.gone (nobody k p l cuts a place m (T.loop id mark body) fair areas taken none h)) (S.unreached (nobody_inside k p l cuts a place m (T.loop id mark body) fair areas taken none h)) others;
   made = λ p l cuts a place fair tail others. others;
   loops = λ tail. refl;
   size = λ tail. no_less _ _;

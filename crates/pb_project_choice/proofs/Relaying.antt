@@ -45,7 +45,9 @@ use Rattle.pb_local.specs.Tree.{Program}
 use Rattle.pb_local.specs.WellMade.{IsRange, IsGuard, IsRelay}
 use Rattle.pb_project_piece.specs.Ranked.{Ranked}
 use Rattle.pb_project_piece.specs.Standing.{Stands, IsOpen}
-use Rattle.pb_shape.specs.Shape.{Scope, Here, Around, Tests, Relays, is_told, teller, peer_of}
+use Rattle.pb_shape.specs.Places.{Scope, Here, peer_of}
+use Rattle.pb_shape.specs.Loops.{Around}
+use Rattle.pb_shape.specs.Choices.{Tests, Relays, is_told, teller}
 use Rattle.pb_project_choice.specs.declared.entries.Branch.{Branch}
 use Rattle.pb_project_choice.specs.Found.{entries_at, all_entries, IsFoundIn}
 use Rattle.pb_project_choice.specs.Heard.{IsOther, IsHeard}

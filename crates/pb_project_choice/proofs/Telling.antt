@@ -36,7 +36,9 @@ use Rattle.pb_local.specs.Tree.{Program}
 use Rattle.pb_local.specs.WellMade.{IsRange, IsGuard, IsTest, Ascend, ComesAfter}
 use Rattle.pb_project_piece.specs.Ranked.{Ranked}
 use Rattle.pb_project_piece.specs.Standing.{Stands}
-use Rattle.pb_shape.specs.Shape.{Scope, Around, guards_of, is_told}
+use Rattle.pb_shape.specs.Places.{Scope}
+use Rattle.pb_shape.specs.Loops.{Around}
+use Rattle.pb_shape.specs.Choices.{guards_of, is_told}
 use Rattle.pb_project_choice.specs.declared.entries.Branch.{Branch}
 use Rattle.pb_project_choice.specs.Found.{entries_at, IsFoundIn, has_label, tells, AreKnown}
 use Rattle.pb_project_choice.specs.Sayable.{AreSayable}

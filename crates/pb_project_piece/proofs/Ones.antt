@@ -17,9 +17,10 @@ use Rattle.pb_core_language.specs.Verdict.{IsIn}
 use Rattle.pb_core_flat.specs.Seated.{is_rank, is_at}
 use Rattle.pb_core_flat.specs.Meets.{is_met}
 use Rattle.pb_core_flat.proofs.Sources.{over_n_is}
-use Rattle.pb_part_takers.specs.declared.each.Over.{Over}
+use Rattle.pb_core_language.specs.declared.tree.Bounds.{Bounds}
 use Rattle.pb_local.specs.Tree.{Code}
-use Rattle.pb_shape.specs.Shape.{Scope, Here, Somebody, Nobody, One, is_end, alone}
+use Rattle.pb_shape.specs.Places.{Scope, Here, is_end}
+use Rattle.pb_shape.specs.Guards.{Somebody, Nobody, One, alone}
 use Rattle.pb_project_piece.specs.Ranked.{Ranked, IsThere}
 use Rattle.pb_project_piece.specs.Comers.{AreComers}
 use Rattle.pb_project_piece.specs.Standing.{Stands, IsHere, is_end_if}
@@ -90,7 +91,7 @@ module _ (range : NRange) (roles : ℕ) (whole : List Area) (sc : Scope) (stands
   pub rank_is : (n : ℤ) (role : ℕ) (x : ℤ) → IsIn range n → have whole n role x ≡ is_rank sc.roles n role x
   rank_is n role x h = stands.whole_is.is n role x h
 
-  pub somewhere : (over : Option Over) (fixed areas : List Area) (h : Here) (e : CoreEnd) → IsHere over fixed sc h → is_end_if over e ≡ true → AreComers over fixed e areas → Ranked range whole areas → Somebody sc h (is_end e)
+  pub somewhere : (over : Option Bounds) (fixed areas : List Area) (h : Here) (e : CoreEnd) → IsHere over fixed sc h → is_end_if over e ≡ true → AreComers over fixed e areas → Ranked range whole areas → Somebody sc h (is_end e)
   somewhere None fixed areas h e here fair comers r =
       let k = and_parts (is_over_n e.at.base) (is_small e.at.off) fair in
       record {
@@ -118,7 +119,7 @@ module _ (range : NRange) (roles : ℕ) (whole : List Area) (sc : Scope) (stands
         is = by.is;
       }
 
-  pub nowhere : (over : Option Over) (fixed areas : List Area) (h : Here) (e : CoreEnd) → IsHere over fixed sc h → is_end_if over e ≡ true → AreComers over fixed e areas → IsThere range whole areas false → Nobody sc h (is_end e)
+  pub nowhere : (over : Option Bounds) (fixed areas : List Area) (h : Here) (e : CoreEnd) → IsHere over fixed sc h → is_end_if over e ≡ true → AreComers over fixed e areas → IsThere range whole areas false → Nobody sc h (is_end e)
   nowhere None fixed areas h e here fair comers none = λ n i role x within rank at comes.
       let k = and_parts (is_over_n e.at.base) (is_small e.at.off) fair in
       let w = inside_range n within in
@@ -133,12 +134,12 @@ module _ (range : NRange) (roles : ℕ) (whole : List Area) (sc : Scope) (stands
 
   -- ---- the `If`
 
-  pub one_there : (over : Option Over) (fixed areas : List Area) (h : Here) (e : CoreEnd) (c : Code) → IsHere over fixed sc h → is_end_if over e ≡ true → AreComers over fixed e areas → Ranked range whole areas →
+  pub one_there : (over : Option Bounds) (fixed areas : List Area) (h : Here) (e : CoreEnd) (c : Code) → IsHere over fixed sc h → is_end_if over e ≡ true → AreComers over fixed e areas → Ranked range whole areas →
       IsOne sc h (is_end e) (alone c) (only_when (end_guard e ∷ []) (alone c) ∷ [])
   one_there over fixed areas h e c here fair comers r = record {
     one = λ tail. One.there (λ n i role x within rank at. guard_holds e n i role x) (somewhere over fixed areas h e here fair comers r);
   }
 
-  pub one_gone : (over : Option Over) (fixed areas : List Area) (h : Here) (e : CoreEnd) (c : Code) → IsHere over fixed sc h → is_end_if over e ≡ true → AreComers over fixed e areas → IsThere range whole areas false →
+  pub one_gone : (over : Option Bounds) (fixed areas : List Area) (h : Here) (e : CoreEnd) (c : Code) → IsHere over fixed sc h → is_end_if over e ≡ true → AreComers over fixed e areas → IsThere range whole areas false →
       IsOne sc h (is_end e) (alone c) []
   one_gone over fixed areas h e c here fair comers none = record { one = λ tail. One.gone (nowhere over fixed areas h e here fair comers none) }

@@ -19,8 +19,8 @@ use Rattle.pb_core_language.specs.Tree.{StmtTree, BlockTree}
 use Rattle.pb_core_flat.specs.Seated.{is_at}
 use Rattle.pb_core_flat.specs.Meets.{is_moving}
 use Rattle.pb_part_takers.specs.Ends.{IsEndArea}
-use Rattle.pb_part_takers.proofs.Plains.{plain_list}
-use Rattle.pb_shape.specs.Shape.{is_fixed, is_fixed_at, fixed_in}
+use Rattle.pb_core_language.proofs.Plains.{plain_list}
+use Rattle.pb_shape.specs.Pieces.{is_fixed, is_fixed_at, fixed_in}
 use Rattle.pb_project_piece.specs.Fixed.{at_some, is_fair_item, are_fair_items, AreFairEnds, AddsEnds, Knows, AreFixed, AreAreas}
 use Rattle.pb_project_piece.specs.Ones.{end_guard}
 use Rattle.pb_project_piece.proofs.Items.{drop_is}

@@ -22,7 +22,8 @@ use Rattle.pb_local.specs.Tree.{Code, Codes, Program, size, size_all}
 use Rattle.pb_local.specs.WellMade as W
 use Rattle.pb_local.specs.WellMade.{IsMade, AreMade, IsGuard, AreGuards, IsPeer, behind, loops_at, loops_in}
 use Rattle.pb_shape.specs.Sizes.{braces, braces_all}
-use Rattle.pb_shape.specs.Shape.{peer_of, alone}
+use Rattle.pb_shape.specs.Places.{peer_of}
+use Rattle.pb_shape.specs.Guards.{alone}
 use Rattle.pb_project_piece.specs.Adding.{onto}
 use Rattle.pb_project_piece.specs.Weights.{sizes, depths, loop_count, AreFlat, IsWeighed, AreWeighed, IsSimple, IsTabledAs, each_room}
 use Rattle.pb_project_piece.specs.Ones.{end_guard, only_when}

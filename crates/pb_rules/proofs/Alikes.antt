@@ -7,12 +7,12 @@ use Rattle.pb_affine.specs.declared.range.NRange.{NRange}
 use Rattle.pb_affine.specs.Values.{value}
 use Rattle.pb_core_language.specs.declared.tree.CoreEnd.{CoreEnd}
 use Rattle.pb_core_language.specs.Tree.{Mark}
+use Rattle.pb_core_language.specs.declared.tree.Bounds.{Bounds}
 use Rattle.pb_core_language.specs.Rules.{somebody}
 use Rattle.pb_core_language.specs.Verdict.{Broken, IsIn}
 use Rattle.pb_rules.specs.declared.found.Found.{Found}
 use Rattle.pb_rules.specs.declared.span.Span.{Span}
 use Rattle.pb_rules.specs.declared.trap.Trap.{Trap}
-use Rattle.pb_rules.specs.declared.ends.Over.{Over}
 use Rattle.pb_rules.specs.declared.ends.Reach.{Reach}
 use Rattle.pb_rules.specs.Lines.{value_at, IsInSpan, at_most}
 use Rattle.pb_rules.specs.Traps.{reach, alive, met_with, alike_traps, message_traps}
@@ -22,7 +22,7 @@ use Rattle.pb_rules.proofs.Places.{IsValue}
 use Rattle.pb_rules.proofs.Reaches.{at_most_gives, gives_at_most, IsLive, alive_gives, gives_alive, value_live, IsWithin, within, asked_for, stays, has_first, first_within, vary_value}
 
 -- sender and receiver ask for one seat of index y
-pub record IsAlike (over : Option Over) (f t : CoreEnd) (n y : ℤ) : Type 0 where
+pub record IsAlike (over : Option Bounds) (f t : CoreEnd) (n y : ℤ) : Type 0 where
   pub x : ℤ
   pub value_is : IsValue over n x
   pub sender : value f.at n x ≡ y
@@ -53,7 +53,7 @@ one_number a b h k = omega (arith, ints)
 same_offset : (c d x y : ℤ) → c +ℤ x ≡ d +ℤ x → c +ℤ y ≡ d +ℤ y
 same_offset c d x y e = omega (arith, ints)
 
-module _ (range : NRange) (over : Option Over) (m : Mark) (f t : CoreEnd) where
+module _ (range : NRange) (over : Option Bounds) (m : Mark) (f t : CoreEnd) where
   abbrev F : Reach
   F = reach over f.at
 

@@ -20,7 +20,9 @@ use Rattle.pb_local.specs.WellMade as W
 use Rattle.pb_local.specs.WellMade.{AreMade, ArePartsMade, count_parts}
 use Rattle.pb_local.specs.Machine.{Todo, pushed, entered}
 use Rattle.pb_shape.specs.Shape as S
-use Rattle.pb_shape.specs.Shape.{Scope, Here, Around, Shape, Shapes}
+use Rattle.pb_shape.specs.Places.{Scope, Here}
+use Rattle.pb_shape.specs.Loops.{Around}
+use Rattle.pb_shape.specs.Shape.{Shape, Shapes}
 use Rattle.pb_shape.specs.Straight.{AreFine, BranchesAreFine}
 
 -- ---- by the branch's number

@@ -22,7 +22,10 @@ use Rattle.pb_local.specs.WellMade.{AreMade, AreGuards, IsGuard, IsPeer}
 use Rattle.pb_local.specs.Machine as X
 use Rattle.pb_local.specs.Machine.{Todo, Rank, pushed, move, move_from}
 use Rattle.pb_local.specs.Family.{most_silent}
-use Rattle.pb_shape.specs.Shape.{Here, Around, Who, One, there, gone, scope_of, told_by, alone}
+use Rattle.pb_shape.specs.Places.{Here, Who, scope_of}
+use Rattle.pb_shape.specs.Guards.{One, there, gone, alone}
+use Rattle.pb_shape.specs.Loops.{Around}
+use Rattle.pb_shape.specs.Choices.{told_by}
 use Rattle.pb_shape.specs.Straight.{IsSeated, IsVariable, at_todo, IsOpenTo, StraightPasses}
 use Rattle.pb_shape.specs.Ways as V
 use Rattle.pb_shape.specs.Ways.{Way, renewed}
@@ -158,13 +161,13 @@ module _ (p : Protocol) (l : Program) (n : ℤ) (me : Seat) (g : Given p l n me)
     by_index : {r : Relay} {rs : List Relay} → i ≡ me.index → IsFound i (r ∷ rs)
 
   pub told_front : {c : Bool} {K : List Part} (number : ℕ) (i : ℤ) (t : Todo) (k : ℕ) (relays : List Relay) (code : L.Code) → IsVariable i → size_all (told_by relays code) ≤ k →
-      ((j : ℤ) (number' k' : ℕ) → IsVariable j → IsFound j relays → k + size_all (alone code) ≤ k' + size_all (told_by relays code) → k' ≤ k → Ahead k' c (at j (X.next number' code t)) K) → Ahead k c (at i (pushed number (told_by relays code) t)) K
+      ((j : ℤ) (number' k' : ℕ) → IsVariable j → IsFound j relays → k + size_all (alone code) ≤ k' + size_all (told_by relays code) → k' ≤ k → Ahead k' c (at j (X.do_next number' code t)) K) → Ahead k c (at i (pushed number (told_by relays code) t)) K
   told_front number i t k [] code near le go = go i number k near plainly (omega arith) (omega arith)
   told_front number i t zero (r ∷ rs) code near le go = absurd (omega arith)
   told_front {c = c} {K = K} number i t (suc k) (r ∷ rs) code near le go =
       let e : me.index +ℤ pos 0 ≡ me.index = omega (arith, ints) in
       let near' = subst IsVariable (sym e) g.index in
-      step p l n me (at i (pushed number (told_by (r ∷ rs) code) t)) (at (me.index +ℤ pos 0) (X.next (number + 1) code t)) (own_fits near') (go (me.index +ℤ pos 0) (number + 1) k near' (by_index e) (omega arith) (omega arith))
+      step p l n me (at i (pushed number (told_by (r ∷ rs) code) t)) (at (me.index +ℤ pos 0) (X.do_next (number + 1) code t)) (own_fits near') (go (me.index +ℤ pos 0) (number + 1) k near' (by_index e) (omega arith) (omega arith))
     where
-      own_fits : IsVariable (me.index +ℤ pos 0) → move_from l n (at i (pushed number (told_by (r ∷ rs) code) t)) (pushed number (told_by (r ∷ rs) code) t) ≡ X.silent (at (me.index +ℤ pos 0) (X.next (number + 1) code t))
+      own_fits : IsVariable (me.index +ℤ pos 0) → move_from l n (at i (pushed number (told_by (r ∷ rs) code) t)) (pushed number (told_by (r ∷ rs) code) t) ≡ X.silent (at (me.index +ℤ pos 0) (X.do_next (number + 1) code t))
       own_fits h = rw (variable_fits (me.index +ℤ pos 0) h) refl

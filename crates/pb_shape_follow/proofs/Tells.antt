@@ -13,7 +13,7 @@ use Rattle.pb_local.specs.Ranks.{Seat}
 use Rattle.pb_local.specs.Tree.{Program}
 use Rattle.pb_local.specs.Computed.{all_fit, is_for_some, numbers_of, source_of, relay_numbers, branch_for}
 use Rattle.pb_local.specs.WellMade.{AreGuards, IsPeer, IsRelay, IsTest}
-use Rattle.pb_shape.specs.Shape.{guards_of}
+use Rattle.pb_shape.specs.Choices.{guards_of}
 
 module _ (l : Program) (n : ℤ) (me : Seat) (i : ℤ) (fit : (gs : List Guard) → AreGuards l gs → all_fit (numbers_of n me i gs) ≡ true) where
   -- ---- tests

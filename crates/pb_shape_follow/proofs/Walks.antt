@@ -25,7 +25,12 @@ use Rattle.pb_local.specs.Machine.{Todo, Rank, pushed, move, move_from}
 use Rattle.pb_local.specs.Family.{most_silent}
 use Rattle.pb_local.proofs.Moves.{move_is}
 use Rattle.pb_shape.specs.Shape as S
-use Rattle.pb_shape.specs.Shape.{Here, Around, outermost, takers, alone, told_by, peer_of, is_end, Names, Tests, Relays, scope_of, One, Piece, Shape, Shapes, number_at, inside}
+use Rattle.pb_shape.specs.Places.{Here, peer_of, is_end, scope_of, inside}
+use Rattle.pb_shape.specs.Guards.{alone, Names, One}
+use Rattle.pb_shape.specs.Pieces.{Piece}
+use Rattle.pb_shape.specs.Loops.{Around, outermost, takers, number_at}
+use Rattle.pb_shape.specs.Choices.{told_by, Tests, Relays}
+use Rattle.pb_shape.specs.Shape.{Shape, Shapes}
 use Rattle.pb_shape.specs.Straight.{IsVariable, at_todo}
 use Rattle.pb_shape.specs.Ways.{mine}
 use Rattle.pb_shape_follow.proofs.Stacks.{weight, weight_pushed, all, me_rank, held, flat, coded, Sits, Stands, Sim, empty}
@@ -44,20 +49,20 @@ module _ (p : Protocol) (l : Program) (n : ℤ) (me : Seat) (g : Given p l n me)
 
   same_next : (i : ℤ) (u v t : Todo) → move_from l n (at_todo me i u) t ≡ move_from l n (at_todo me i v) t
   same_next i u v X.finished = refl
-  same_next i u v (X.next k (L.when gs a b) t) = refl
-  same_next i u v (X.next k (L.for_each low high body) t) = refl
-  same_next i u v (X.next k (L.own off) t) = refl
-  same_next i u v (X.next k (L.loop id body) t) = refl
-  same_next i u v (X.next k (L.again id) t) = refl
-  same_next i u v (X.next k (L.choice who kernel relays source [] parts) t) = refl
-  same_next i u v (X.next k (L.choice who kernel relays source (x ∷ tests) parts) t) = refl
-  same_next i u v (X.next k (L.send lab to) t) = refl
-  same_next i u v (X.next k (L.recv lab source) t) = refl
-  same_next i u v (X.next k (L.run kernel) t) = refl
-  same_next i u v (X.next k L.barrier t) = refl
-  same_next i u v (X.next k (L.broadcast lab root) t) = refl
-  same_next i u v (X.next k (L.reduce lab op root) t) = refl
-  same_next i u v (X.next k (L.allreduce lab op) t) = refl
+  same_next i u v (X.do_next k (L.when gs a b) t) = refl
+  same_next i u v (X.do_next k (L.for_each low high body) t) = refl
+  same_next i u v (X.do_next k (L.own off) t) = refl
+  same_next i u v (X.do_next k (L.loop id body) t) = refl
+  same_next i u v (X.do_next k (L.again id) t) = refl
+  same_next i u v (X.do_next k (L.choice who kernel relays source [] parts) t) = refl
+  same_next i u v (X.do_next k (L.choice who kernel relays source (x ∷ tests) parts) t) = refl
+  same_next i u v (X.do_next k (L.send lab to) t) = refl
+  same_next i u v (X.do_next k (L.recv lab source) t) = refl
+  same_next i u v (X.do_next k (L.run kernel) t) = refl
+  same_next i u v (X.do_next k L.barrier t) = refl
+  same_next i u v (X.do_next k (L.broadcast lab root) t) = refl
+  same_next i u v (X.do_next k (L.reduce lab op root) t) = refl
+  same_next i u v (X.do_next k (L.allreduce lab op) t) = refl
   same_next i u v (X.round_of high k body t) = refl
   same_next i u v (X.end_of id k body t) = same_next i u v t
   same_next i u v (X.leave joint t) = refl

@@ -8,7 +8,8 @@ use Rattle.pb_affine.specs.Values.{value, base_value, count_from, count_of, IsSm
 use Rattle.pb_world.specs.Actions.{Kind, Runs, Sends, Receives}
 use Rattle.pb_core_language.specs.declared.protocol.CoreRole.{CoreRole}
 use Rattle.pb_core_language.specs.Tree as T
-use Rattle.pb_core_language.specs.Tree.{Bounds, StmtTree, BlockTree}
+use Rattle.pb_core_language.specs.Tree.{StmtTree, BlockTree}
+use Rattle.pb_core_language.specs.declared.tree.Bounds.{Bounds}
 use Rattle.pb_core_language.specs.Plain.{Protocol}
 use Rattle.pb_core_language.specs.FlatOf.{rank_of}
 use Rattle.pb_core_language.specs.Sound.{is_over_n}
@@ -17,8 +18,12 @@ use Rattle.pb_local.specs.Tree.{Code, Codes, nothing, more, size_all, Program}
 use Rattle.pb_local.specs.Tree as L
 use Rattle.pb_local.specs.Computed.{fits, is_for_some}
 use Rattle.pb_local.specs.Machine.{Todo, round_of, pushed, turn, move_from, machine}
-use Rattle.pb_shape.specs.Shape.{Here, Who, One, peer_of, scope_of, is_at_offset, fixed_in, put, segment_codes, offsets, in_segment, OfRole, Segments, in_for, but_fixed, Rounds, rounds, nowhere, ForEach}
-use Rattle.pb_shape.specs.Shape as S
+use Rattle.pb_shape.specs.Places.{Here, Who, peer_of, scope_of}
+use Rattle.pb_shape.specs.Guards.{One}
+use Rattle.pb_shape.specs.Segments.{is_at_offset, put, segment_codes, offsets, in_segment, OfRole, Segments}
+use Rattle.pb_shape.specs.Pieces.{fixed_in, in_for, but_fixed, Rounds, rounds, nowhere, ForEach}
+use Rattle.pb_shape.specs.Segments as E
+use Rattle.pb_shape.specs.Pieces as P
 use Rattle.pb_shape.specs.Ways as Y
 use Rattle.pb_shape.specs.Ways.{Way, renewed}
 use Rattle.pb_shape.specs.Straight.{IsVariable, AreItems, IsEach, IsOpenTo, at_todo}
@@ -216,19 +221,19 @@ module _ (p : Protocol) (l : Program) (n : ℤ) (me : Seat) (g : Setting p l n m
 
     of_role_done : (role : ℕ) (tail : Codes) (cs : List ℤ) (codes : Codes) (rest : Todo) (k number : ℕ) (i : ℤ) → OfRole (scope_of p) h b items role tail cs codes → IsVariable i → Made l codes → Room p l n me g bound k codes →
         Ends k number i codes tail rest (gathered cs (segment_does p.roles n me b items role))
-    of_role_done role tail [] codes rest k number i S.none near made room = record { last = i; near = near; done = nothing_done p l n me g bound k number i tail rest }
-    of_role_done role tail (c ∷ cs) codes rest k number i (S.segment {middle = middle} one more') near made room =
+    of_role_done role tail [] codes rest k number i E.none near made room = record { last = i; near = near; done = nothing_done p l n me g bound k number i tail rest }
+    of_role_done role tail (c ∷ cs) codes rest k number i (E.segment {middle = middle} one more') near made room =
         ends_joined room (segment_done role c middle codes rest k number i one near made room)
         (λ k' number' i' near' room'. of_role_done role tail cs middle rest k' number' i' more' near' (one_made p l n me g bound one made) room')
 
     of_role_made : (role : ℕ) (tail : Codes) (cs : List ℤ) (codes : Codes) → OfRole (scope_of p) h b items role tail cs codes → Made l codes → Made l tail
-    of_role_made role tail [] codes S.none made = made
-    of_role_made role tail (c ∷ cs) codes (S.segment {middle = middle} one more') made = of_role_made role tail cs middle more' (one_made p l n me g bound one made)
+    of_role_made role tail [] codes E.none made = made
+    of_role_made role tail (c ∷ cs) codes (E.segment {middle = middle} one more') made = of_role_made role tail cs middle more' (one_made p l n me g bound one made)
 
     segments_done : (role : ℕ) (rs : List CoreRole) (tail codes : Codes) (rest : Todo) (k number : ℕ) (i : ℤ) → Segments (scope_of p) h b items tail role rs codes → IsVariable i → Made l codes → Room p l n me g bound k codes →
         Ends k number i codes tail rest (roles_do p.roles n me b items role rs)
-    segments_done role [] tail codes rest k number i S.none near made room = record { last = i; near = near; done = nothing_done p l n me g bound k number i tail rest }
-    segments_done role (r ∷ rs) tail codes rest k number i (S.of_role {middle = middle} one more') near made room =
+    segments_done role [] tail codes rest k number i E.none near made room = record { last = i; near = near; done = nothing_done p l n me g bound k number i tail rest }
+    segments_done role (r ∷ rs) tail codes rest k number i (E.of_role {middle = middle} one more') near made room =
         ends_joined room (of_role_done role middle (offsets role items) codes rest k number i one near made room)
         (λ k' number' i' near' room'. segments_done (suc role) rs tail middle rest k' number' i' more' near' (of_role_made role middle (offsets role items) codes one made) room')
 
@@ -300,10 +305,10 @@ module _ (p : Protocol) (l : Program) (n : ℤ) (me : Seat) (g : Setting p l n m
 
     pub each_done : (tail codes : Codes) (rest : Todo) (k number : ℕ) (i : ℤ) → ForEach (scope_of p) h b items tail codes → IsVariable i → Made l codes → size_all codes ≤ k → 2 * size_all codes ≤ bound →
         Ends k number i codes tail rest all_rounds
-    each_done tail codes rest k number i (S.segments nobody segs) near made room room' =
+    each_done tail codes rest k number i (P.segments nobody segs) near made room room' =
         subst (λ s. Ends k number i codes tail rest s) (free_done (nobody n i me.role me.index g.within g.is (open'.at i) (open'.comes i)))
         (segments_done h b items open' good 0 p.roles tail codes rest k number i segs near made (record { now = room; ever = omega (arith, room') }))
-    each_done tail codes rest k number i (S.neither nobody segs) near made room room' = at (fixed_in items n me.role me.index) refl
+    each_done tail codes rest k number i (P.neither nobody segs) near made room room' = at (fixed_in items n me.role me.index) refl
       where
         at : (t : Bool) → fixed_in items n me.role me.index ≡ t → Ends k number i tail tail rest all_rounds
         at true e =
@@ -312,8 +317,8 @@ module _ (p : Protocol) (l : Program) (n : ℤ) (me : Seat) (g : Setting p l n m
         at false e =
             subst (λ s. Ends k number i tail tail rest s) (free_done e)
             (segments_done (but_fixed h items) b items (record { at = open'.at; comes = λ i. rw e (open'.comes i) }) good 0 p.roles tail tail rest k number i segs near made (record { now = room; ever = omega (arith, room') }))
-    each_done tail codes rest zero number i (S.both {gs = gs} {first = first} {other = other} names some rnds segs) near made room room' = absurd (omega (arith, room))
-    each_done tail codes rest (suc k) number i (S.both {gs = gs} {first = first} {other = other} names some rnds segs) near made room room' = at (fixed_in items n me.role me.index) refl
+    each_done tail codes rest zero number i (P.both {gs = gs} {first = first} {other = other} names some rnds segs) near made room room' = absurd (omega (arith, room))
+    each_done tail codes rest (suc k) number i (P.both {gs = gs} {first = first} {other = other} names some rnds segs) near made room room' = at (fixed_in items n me.role me.index) refl
       where
         behind : ℕ
         behind = number + L.size (L.when gs first other)

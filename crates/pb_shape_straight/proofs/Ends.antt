@@ -6,13 +6,12 @@ use Rattle.pb_affine.specs.Values.{value, count_from, count_of}
 use Rattle.pb_core_language.specs.declared.tree.CoreEnd.{CoreEnd}
 use Rattle.pb_core_language.specs.Ranks.{Seat, seat_eq, seats}
 use Rattle.pb_core_language.specs.Tree as T
-use Rattle.pb_core_language.specs.Tree.{Mark, StmtTree, BlockTree, BranchTrees}
+use Rattle.pb_core_language.specs.Tree.{Mark, StmtTree, BlockTree, BranchTrees, is_again}
 use Rattle.pb_core_language.specs.Plain.{Protocol}
 use Rattle.pb_core_language.specs.Flat.{Asked, Block, stop, Branches}
 use Rattle.pb_core_language.specs.FlatOf.{seat, asked, from_one, from_two, for_each, flat_stmt, flat_block, flat_branches}
 use Rattle.pb_core_language.specs.Rules.{is_seat, each_origin, each_origin_among, strays, loners, somebody, flat_at, broken_6, broken_7, broken_8, broken_9, broken_10, broken_11, broken_12}
 use Rattle.pb_core_language.specs.Sound.{is_end, is_bound, is_item, is_stmt, is_block, are_branches, has_branch, rows_of, are_roles, is_range}
-use Rattle.pb_core_flat.specs.GoesOn.{is_again}
 use Rattle.pb_core_flat.proofs.Seats.{same_number}
 use Rattle.pb_shape.specs.Straight.{IsEnd, IsItem, AreItems, IsFine, AreFine, BranchesAreFine}
 use Rattle.pb_shape_straight.specs.Ends.{EndsAreFine}

@@ -29,7 +29,8 @@ use Rattle.pb_local.specs.Computed.{fits, all_fit, place_at, peer_number, peer_n
 use Rattle.pb_local.specs.Tree.{Program}
 use Rattle.pb_local.specs.WellMade as W
 use Rattle.pb_local.specs.WellMade.{IsRange, IsInRange, IsRole, IsWellMade}
-use Rattle.pb_shape.specs.Shape.{role_of, HasShape}
+use Rattle.pb_shape.specs.Places.{role_of}
+use Rattle.pb_shape.specs.Shape.{HasShape}
 use Rattle.pb_shape.specs.Straight.{IsVariable}
 use Rattle.pb_shape_straight.proofs.Fits.{IsSize, fits_is}
 

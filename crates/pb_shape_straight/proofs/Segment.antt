@@ -11,7 +11,8 @@ use Rattle.pb_core_language.specs.declared.protocol.CoreRole.{CoreRole}
 use Rattle.pb_core_language.specs.declared.tree.CoreEnd.{CoreEnd}
 use Rattle.pb_core_language.specs.Laws.{IsInRole}
 use Rattle.pb_core_language.specs.Tree as T
-use Rattle.pb_core_language.specs.Tree.{Bounds, StmtTree, BlockTree}
+use Rattle.pb_core_language.specs.Tree.{StmtTree, BlockTree}
+use Rattle.pb_core_language.specs.declared.tree.Bounds.{Bounds}
 use Rattle.pb_core_language.specs.Plain.{Protocol}
 use Rattle.pb_core_language.specs.Flat.{Block}
 use Rattle.pb_core_language.specs.FlatOf.{for_each, rank_of, flat_stmt, flat_block}
@@ -19,7 +20,8 @@ use Rattle.pb_core_flat.specs.Seated.{rank, is_rank, is_at}
 use Rattle.pb_core_flat.specs.Meets.{is_var, is_moving}
 use Rattle.pb_core_flat.proofs.Seats.{end_is_at}
 use Rattle.pb_local.specs.Ranks.{Seat}
-use Rattle.pb_shape.specs.Shape.{is_fixed, is_fixed_at, fixed_in, is_at_offset, put_in, put_end, offsets, in_segment}
+use Rattle.pb_shape.specs.Segments.{is_at_offset, put_in, put_end, offsets, in_segment}
+use Rattle.pb_shape.specs.Pieces.{is_fixed, is_fixed_at, fixed_in}
 use Rattle.pb_shape.specs.Ways.{mine}
 use Rattle.pb_shape.specs.Straight.{IsItem, AreItems}
 use Rattle.pb_shape_straight.proofs.Order.{gathered, only_if, is_within, IsBelow, Descends, is_in, Only, in_order}

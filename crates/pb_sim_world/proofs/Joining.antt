@@ -185,14 +185,14 @@ module _ (x : Joined) (r : ℕ) (call : Call) (w : List ℕ) (joined : IsJoined 
   -- the places of the others are as they were
   pub still_joining : (q left : ℕ) (t : M.Todo) → (q ≡ r → ⊥) → IsJoining x q left t → IsJoining (entered x r call w) q left t
   still_joining q left M.finished n j = number_other q n ∙ j
-  still_joining q left (M.next k code rest) n j = (j.0, number_other q n ∙ j.1)
+  still_joining q left (M.do_next k code rest) n j = (j.0, number_other q n ∙ j.1)
   still_joining q left (M.round_of high k body rest) n j = (j.0, number_other q n ∙ j.1)
   still_joining q left (M.end_of id k body rest) n j = (j.0, number_other q n ∙ j.1)
   still_joining q left (M.leave joint rest) n j = record { out = j.out; one = number_other q n ∙ j.one; call = j.call; there = calls_kept left j.call j.there; same = j.same }
 
   pub now_inside : (left : ℕ) (t : M.Todo) → number x r ≡ left → IsExit (collective_of call) t → IsJoining (entered x r call w) r left t
   now_inside left M.finished n exit = absurd exit
-  now_inside left (M.next k code rest) n exit = absurd exit
+  now_inside left (M.do_next k code rest) n exit = absurd exit
   now_inside left (M.round_of high k body rest) n exit = absurd exit
   now_inside left (M.end_of id k body rest) n exit = absurd exit
   now_inside left (M.leave joint rest) n exit =
