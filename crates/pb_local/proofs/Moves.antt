@@ -2,6 +2,7 @@
 use Rattle.std.proofs.Common.{◌≡◌, ◌≢◌, ℕ, zero, suc, ◌<◌, ◌≤◌, ℤ, pos, negsuc, Bool, true, false, ◌&&◌, if◌then◌else◌, cond, nat_le, int_le, int_lt, List, [], ◌∷◌, Option, Some, None, refl, sym, ap, ◌∙◌, subst, arith}
 use Rattle.std.proofs.lemmas.Int.{ints}
 use Rattle.std.proofs.lemmas.Bool.Decides.{nat_tests}
+use Rattle.std.proofs.lemmas.Bool.{and_parts}
 use Rattle.pb_affine.specs.declared.lin.Lin.{Lin}
 use Rattle.pb_affine.specs.Values.{count_of}
 use Rattle.pb_world.specs.Actions.{Action, Barrier, Broadcast, Reduce, Allreduce, Kind, Runs, Sends, Receives, Enters, Leaves}
@@ -123,10 +124,6 @@ keeps_rank p n = record {
 
 -- ---- a step names ranks of the world alone
 
-and_right : (a b : Bool) → a && b ≡ true → b ≡ true
-and_right true b h = h
-and_right false b h = cc
-
 below_total : (x : ℤ) (t : ℕ) → int_le (pos 0) x && int_lt x (pos t) ≡ true → count_of x < t
 below_total (pos k) t h = grind (arith, ints)
 below_total (negsuc k) t h = cc
@@ -158,7 +155,7 @@ module _ (p : Program) (n : ℤ) where
   names_peer : (x : Rank) (e : Peer) {go : ℕ → Move} → ((q : ℕ) → q < total p.roles n → Names (total p.roles n) (go q)) → Names (total p.roles n) (with_peer p n x e go)
   names_peer x e h =
       names_so (is_peer n x.seat x.i p e)
-      (λ is. h _ (below_total (peer_number n x.seat x.i p e) (total p.roles n) (and_right (all_fit (peer_numbers n x.seat x.i p e)) (is_rank p n (peer_number n x.seat x.i p e)) is)))
+      (λ is. h _ (below_total (peer_number n x.seat x.i p e) (total p.roles n) (and_parts (all_fit (peer_numbers n x.seat x.i p e)) (is_rank p n (peer_number n x.seat x.i p e)) is).1))
 
   names_asks : (x : Rank) (relays : List Relay) (from : Peer) (tests : List Test) (k : ℕ) (bs : Parts) (rest : Todo) → Names (total p.roles n) (asks p n x relays from tests k bs rest)
   names_asks x relays from [] k bs rest = record { within = λ q e. cc }

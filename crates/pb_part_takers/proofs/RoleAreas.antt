@@ -1,8 +1,9 @@
 -- The areas of all ranks.
-use Rattle.std.proofs.Common.{◌≡◌, ◌<◌, ◌≤◌, ◌+◌, inr, ℕ, zero, suc, ℤ, pos, ◌+ℤ◌, ◌≤ℤ◌, int_le, int_lt, nat_eq, Bool, true, false, ◌&&◌, ◌||◌, List, [], ◌∷◌, length, get_or, drop, drop_of_length-le, Option, Some, refl, sym, ap, subst, ◌∙◌, arith}
+use Rattle.std.proofs.Common.{◌≡◌, ◌<◌, ◌≤◌, ◌+◌, inr, ℕ, zero, suc, ℤ, pos, ◌+ℤ◌, ◌≤ℤ◌, int_le, int_lt, nat_eq, Bool, true, false, ◌&&◌, ◌||◌, List, [], ◌∷◌, length, get_or, drop, drop_of_length-le, Option, Some, sym, ap, subst, ◌∙◌, arith}
 use Rattle.std.proofs.lemmas.Int.{ints}
 use Rattle.std.proofs.lemmas.Bool.{and_parts}
 use Rattle.std.proofs.lemmas.Bool.Decides.{nat_tests}
+use Rattle.std.proofs.Math.Bool.{or-false}
 use Rattle.pb_affine.specs.declared.lin.Lin.{Lin}
 use Rattle.pb_affine.specs.declared.range.NRange.{NRange}
 use Rattle.pb_affine.specs.Values.{value, shifted, is_up_to}
@@ -113,9 +114,5 @@ role_step roles i r n role x old new a l lt is e ea h =
     ∙ ap (λ z. have old n role x || z) (sym (seat_in_role i r (drop (i + 1) roles) n role x) ∙ ap (λ z. seated i z n role x) (sym (from_place roles i r lt is)))
     ∙ h)
 
-or_false : (o : Bool) → o ≡ o || false
-or_false true = refl
-or_false false = refl
-
 pub role_end : (roles : List CoreRole) (i : ℕ) (n : ℤ) (role : ℕ) (x : ℤ) (o l : Bool) → length roles ≤ i → o || seated i (drop i roles) n role x ≡ l → o ≡ l
-role_end roles i n role x o l le h = or_false o ∙ sym (ap (λ z. o || seated i z n role x) (drop_of_length-le roles le)) ∙ h
+role_end roles i n role x o l le h = sym (or-false o) ∙ sym (ap (λ z. o || seated i z n role x) (drop_of_length-le roles le)) ∙ h

@@ -1,5 +1,6 @@
 -- A loop, and a loop that nobody takes part in.
-use Rattle.std.proofs.Common.{◌≡◌, ◌≤◌, ◌+◌, ◌*◌, ℕ, suc, ℤ, pos, max, Bool, true, false, ◌||◌, List, [], ◌∷◌, refl, sym, ap, ◌∙◌, subst, arith}
+use Rattle.std.proofs.Common.{◌≡◌, ◌≤◌, ◌+◌, ◌*◌, ℕ, suc, ℤ, pos, max, Bool, true, false, List, [], ◌∷◌, refl, sym, ap, ◌∙◌, subst, arith}
+use Rattle.std.proofs.Math.Bool.{or-false}
 use Rattle.pb_affine.specs.declared.guard.Guard.{Guard}
 use Rattle.pb_affine.specs.declared.lin.Lin.{Lin}
 use Rattle.pb_part_areas.specs.declared.area.Area.{Area}
@@ -29,10 +30,6 @@ use Rattle.pb_project.proofs.Guarding.{AreGuardsOf, areas_are, areas_fit, names,
 
 -- ---- inside the loop
 
-or_none : (b : Bool) → b || false ≡ b
-or_none true = refl
-or_none false = refl
-
 pub entered_place : (k : Known) (p : Protocol) (l : Program) (cuts : List Lin) (a : Around) (m mark : Mark) (id number : ℕ) (body : BlockTree) (areas : List Area) (inner : List Held) → IsPlace k p l cuts a →
     IsGoodStmt p cuts a m (T.loop id mark body) → AreTakers k.whole k.held m (T.loop id mark body) areas → IsInside k.held id areas inner → IsPlace (entered k inner number) p l cuts (in_loop (scope_of p) a id number body)
 entered_place k p l cuts a m mark id number body areas inner place fair taken within_loop = record {
@@ -41,7 +38,7 @@ entered_place k p l cuts a m mark id number body areas inner place fair taken wi
     opens = ap (λ o. id ∷ o) place.around.opens ∙ sym within_loop.ids;
     within = λ n role x within r.
         within_loop.held n role x
-        ∙ ap (λ b. b ∷ held_of k.held n role x) (areas_are k p l cuts a place m (T.loop id mark body) fair areas taken n (pos 0) role x within r ∙ or_none (is_in_body p.roles n (rank p.roles n role x) a.opens (a.held n role x) id body))
+        ∙ ap (λ b. b ∷ held_of k.held n role x) (areas_are k p l cuts a place m (T.loop id mark body) fair areas taken n (pos 0) role x within r ∙ or-false (is_in_body p.roles n (rank p.roles n role x) a.opens (a.held n role x) id body))
         ∙ ap (λ h. is_in_body p.roles n (rank p.roles n role x) a.opens (a.held n role x) id body ∷ h) (place.around.within n role x within r);
   };
   numbers_are = ap (λ ns. number ∷ ns) place.numbers_are;

@@ -1,7 +1,7 @@
 -- A foreach: the loop, and the `If` around it and the segments.
 use Rattle.std.proofs.Common.{◌≡◌, ℕ, suc, ◌+◌, ◌≤◌, max, length, ℤ, pos, int_le, Bool, true, false, ◌&&◌, ◌||◌, not, List, [], ◌∷◌, ◌++◌, map, refl, sym, ap, ◌∙◌, subst, arith}
 use Rattle.std.proofs.lemmas.Int.{ints}
-use Rattle.std.proofs.lemmas.Bool.{and_parts, false≢true}
+use Rattle.std.proofs.lemmas.Bool.{and_parts, false≢true, not-true, or_right, or_left, and_from}
 use Rattle.pb_affine.specs.declared.guard.Guard.{Guard}
 use Rattle.pb_affine.specs.declared.range.NRange.{NRange}
 use Rattle.pb_affine.specs.Values.{value, hold}
@@ -40,7 +40,7 @@ use Rattle.pb_project_piece.specs.Fixed.{at_some, AreFairEnds, AreFixed, AreArea
 use Rattle.pb_project_piece.specs.Segments.{IsApart, AreSegments}
 use Rattle.pb_project_piece.specs.Looping.{AreStill, Runs, IsRounds, IsBoth, IsForEach}
 use Rattle.pb_project_piece.proofs.Added.{onto_nothing, added_one, added_none, added_as}
-use Rattle.pb_project_piece.proofs.Ones.{both_true, from_zero, inside_range, outside_range, rank_is, met_at}
+use Rattle.pb_project_piece.proofs.Ones.{from_zero, inside_range, outside_range, rank_is, met_at}
 use Rattle.pb_project_piece.proofs.StillEnds.{fixed_at, guards_hold, fair_items}
 
 -- ---- the ranks at ends without the variable
@@ -60,17 +60,6 @@ or_one : (a b c : Bool) → (a ≡ true → c ≡ true) → (b ≡ true → c �
 or_one true b c f g h = f refl
 or_one false b c f g h = g h
 
-or_first : (a b : Bool) → a ≡ true → a || b ≡ true
-or_first a b h = ap (λ z. z || b) h
-
-or_second : (a b : Bool) → b ≡ true → a || b ≡ true
-or_second true b h = refl
-or_second false b h = h
-
-not_at : (b : Bool) → not b ≡ true → b ≡ false
-not_at true h = sym h
-not_at false h = refl
-
 not_empty : (s : Stmt) → s ∷ [] ≡ [] → ⊥
 not_empty s h = cc
 
@@ -81,7 +70,7 @@ module _ (low high n : ℤ) (role : ℕ) (x : ℤ) (some : int_le low high ≡ t
   item_meets : (s : StmtTree) → is_fixed_at s n role x ≡ true → meets s low high n role x ≡ true
   item_meets (T.message l f t) h =
       or_one (is_fixed f n role x) (is_fixed t n role x) (is_met f low high n role x || is_met t low high n role x)
-      (λ a. or_first _ _ (end_meets f a)) (λ a. or_second _ _ (end_meets t a)) h
+      (λ a. or_left _ _ (end_meets f a)) (λ a. or_right _ _ (end_meets t a)) h
   item_meets (T.foreach b m items) h = absurd (false≢true h)
   item_meets (T.loop id m body) h = absurd (false≢true h)
   item_meets (T.again id) h = absurd (false≢true h)
@@ -96,7 +85,7 @@ module _ (low high n : ℤ) (role : ℕ) (x : ℤ) (some : int_le low high ≡ t
   fixed_meets T.nothing h = absurd (false≢true h)
   fixed_meets (T.more m s rest) h =
       or_one (is_fixed_at s n role x) (fixed_in rest n role x) (meets s low high n role x || meet rest low high n role x)
-      (λ a. or_first _ _ (item_meets s a)) (λ a. or_second _ _ (fixed_meets rest a)) h
+      (λ a. or_left _ _ (item_meets s a)) (λ a. or_right _ _ (fixed_meets rest a)) h
 
 -- ---- who runs the loop
 
@@ -108,9 +97,9 @@ runs_is range whole over fixed none met runners b false empty added common there
     let zero = from_zero range n within in
     let here : have fixed n role x ≡ true = still.is rows n role x (fair_items rows ids b sound) zero ∙ at_end in
     let meets_it : have met n role x ≡ true =
-    (added whole [] ids).is rows roles n role x (both_true _ _ bounds.0 (both_true _ _ bounds.1 sound)) rank is_whole
-    ∙ or_second _ _ (fixed_meets (value over.low n (pos 0)) (value over.high n (pos 0)) n role x some b at_end) in
-    false≢true (sym (there n role x within is_whole) ∙ common n role x ∙ both_true _ _ here meets_it)
+    (added whole [] ids).is rows roles n role x (and_from _ _ bounds.0 (and_from _ _ bounds.1 sound)) rank is_whole
+    ∙ or_right _ _ (fixed_meets (value over.low n (pos 0)) (value over.high n (pos 0)) n role x some b at_end) in
+    false≢true (sym (there n role x within is_whole) ∙ common n role x ∙ and_from _ _ here meets_it)
 
 -- ---- how large it is, and that it is made
 
@@ -241,7 +230,7 @@ module _ (range : NRange) (roles : ℕ) (whole : List Area) (over : Bounds) (fix
     at = λ n i. open_here.at n i;
     comes = λ n i role x within rank comes.
         still.is rows n role x (fair_items rows ids b sound) (from_zero range n (inside_range range roles whole sc stands n within))
-        ∙ not_at (fixed_in b n role x) (and_parts (not (fixed_in b n role x)) (h.comes n i role x) comes).0;
+        ∙ not-true (fixed_in b n role x) (and_parts (not (fixed_in b n role x)) (h.comes n i role x) comes).0;
   }
 
   some_fixed : (sc : Scope) (h : Here) (rows : Rows) (ids : List ℕ) → Stands range roles whole sc → IsOpen h → is_block rows true ids b ≡ true → AreStill b fixed → Ranked range whole fixed → Somebody sc h (fixed_here b)

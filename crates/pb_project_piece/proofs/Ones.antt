@@ -1,8 +1,8 @@
 -- An `If` of the rank at an end.
-use Rattle.std.proofs.Common.{◌≡◌, ℕ, ℤ, pos, ◌+ℤ◌, ◌-ℤ◌, ◌≤ℤ◌, int_le, nat_eq, Bool, true, false, ◌&&◌, ◌||◌, Option, Some, None, List, [], ◌∷◌, refl, sym, ap, subst, ◌∙◌, arith}
+use Rattle.std.proofs.Common.{◌≡◌, ℕ, ℤ, pos, ◌+ℤ◌, ◌-ℤ◌, ◌≤ℤ◌, int_le, nat_eq, true, false, ◌&&◌, ◌||◌, Option, Some, None, List, [], ◌∷◌, sym, ap, subst, ◌∙◌, arith}
 use Rattle.std.specs.Ordering.{int_eq}
 use Rattle.std.proofs.lemmas.Int.{ints}
-use Rattle.std.proofs.lemmas.Bool.{and_parts, false≢true}
+use Rattle.std.proofs.lemmas.Bool.{and_parts, false≢true, and_from, false_from_ne_true}
 use Rattle.std.proofs.lemmas.Bool.Decides.{nat_tests}
 use Rattle.pb_text.specs.declared.place.Place.{Place}
 use Rattle.pb_affine.specs.declared.lin.Base.{Base}
@@ -27,13 +27,6 @@ use Rattle.pb_project_piece.specs.Standing.{Stands, IsHere, is_end_if}
 use Rattle.pb_project_piece.specs.Ones.{end_guard, only_when, IsOne}
 
 -- ---- numbers
-
-pub not_true : (b : Bool) → (b ≡ true → ⊥) → b ≡ false
-not_true true h = absurd (h refl)
-not_true false h = refl
-
-pub both_true : (a b : Bool) → a ≡ true → b ≡ true → a && b ≡ true
-both_true a b e f = cc
 
 pub from_zero : (range : NRange) (n : ℤ) → IsIn range n → pos 0 ≤ℤ n
 from_zero range n h = omega (arith, ints, h.low)
@@ -128,9 +121,9 @@ module _ (range : NRange) (roles : ℕ) (whole : List Area) (sc : Scope) (stands
   nowhere (Some over) fixed areas h e here fair comers none = λ n i role x within rank at comes.
       let w = inside_range n within in
       let is = comers.is n role x (from_zero range n w) fair here.bounds in
-      not_true (is_at e n i role x) (λ k.
+      false_from_ne_true (is_at e n i role x) (λ k.
       let met = met_at e (value over.low n (pos 0)) (value over.high n (pos 0)) n i role x (sym (here.at n i) ∙ at) k in
-      false≢true (sym (none n role x w (rank_is n role x w ∙ rank)) ∙ is ∙ both_true _ _ (here.comes n i role x within rank comes) met))
+      false≢true (sym (none n role x w (rank_is n role x w ∙ rank)) ∙ is ∙ and_from _ _ (here.comes n i role x within rank comes) met))
 
   -- ---- the `If`
 

@@ -3,8 +3,9 @@ use Rattle.std.proofs.Common.{◌≡◌, ◌<◌, ◌≤◌, ◌+◌, ◌*◌, m
 use Rattle.std.specs.Ordering.{int_eq}
 use Rattle.std.proofs.lemmas.Int.{ints}
 use Rattle.std.proofs.lemmas.List.{at_drop_more}
-use Rattle.std.proofs.lemmas.Bool.{and_parts, false≢true}
+use Rattle.std.proofs.lemmas.Bool.{and_parts, false≢true, and_from, false_from_ne_true}
 use Rattle.std.proofs.lemmas.Bool.Decides.{nat_tests}
+use Rattle.std.proofs.Math.Bool.{or-false}
 use Rattle.pb_affine.specs.declared.lin.Base.TheVariants.{Var}
 use Rattle.pb_affine.specs.declared.lin.Lin.{Lin}
 use Rattle.pb_affine.specs.declared.guard.Guard.{Guard}
@@ -50,8 +51,7 @@ use Rattle.pb_project_piece.specs.Ones.{only_when}
 use Rattle.pb_project_piece.specs.Segments.{IsCodes, IsApart, AreOthers, codes_in, IsCodesOf, IsSegmentOf, IsSegment, IsRoleSegments, AreSegments}
 use Rattle.pb_project_piece.proofs.Added.{onto_append, onto_nothing, added_one, added_none, added_as, added_two}
 use Rattle.pb_project_piece.proofs.Items.{drop_is}
-use Rattle.pb_project_piece.proofs.Ones.{not_true, both_true, from_zero, inside_range, outside_range, rank_is}
-use Rattle.pb_project_piece.proofs.StillEnds.{or_false}
+use Rattle.pb_project_piece.proofs.Ones.{from_zero, inside_range, outside_range, rank_is}
 use Rattle.pb_project_piece.proofs.Counting.{spots, sum_at_most, low_in, low_next, low_most, codes_size, codes_braces, codes_loops}
 
 -- ---- what an item is to a segment
@@ -168,7 +168,7 @@ segment_made over k c b g gs first s one holding made codes is = record {
   codes = plain_all first;
   of = codes;
   is = is;
-  hold_of = λ n i role x bounds small. ap (λ l. hold l n i role x) one ∙ or_false (holds g n i role x) ∙ holding n i role x bounds small;
+  hold_of = λ n i role x bounds small. ap (λ l. hold l n i role x) one ∙ or-false (holds g n i role x) ∙ holding n i role x bounds small;
   made = λ l within bounds small. subst (AreGuards l) (sym one) (one_guard l g (made l within bounds small));
 }
 
@@ -273,9 +273,9 @@ module _ (range : NRange) (roles : ℕ) (whole : List Area) (over : Bounds) (les
         is = λ sc h stands apart bounds small. record {
           one = λ tail. One.gone (λ n i role x within rank at comes.
               let w = inside_range range roles whole sc stands n within in
-              not_true (in_segment over k c n i role x) (λ met.
+              false_from_ne_true (in_segment over k c n i role x) (λ met.
               false≢true (sym (none n role x w (rank_is range roles whole sc stands n role x w ∙ rank)) ∙ others.is n role x (from_zero range n w) bounds small
-              ∙ both_true _ _ met (ap not (apart.comes n i role x within rank comes)))));
+              ∙ and_from _ _ met (ap not (apart.comes n i role x within rank comes)))));
         };
         weighed = weighed_none (2 + count_in k c b) 1;
         made = λ p l ids tabled within bounds small sound goes. tt;
@@ -293,11 +293,11 @@ if_small true a b h k = h
 if_small false a b h k = k
 
 small_in : (c : ℤ) (ds : List ℤ) → is_small c ≡ true → are_small ds ≡ true → are_small (put_in c ds) ≡ true
-small_in c [] h k = both_true _ _ h refl
+small_in c [] h k = and_from _ _ h refl
 small_in c (d ∷ ds) h k =
     let z = and_parts (is_small d) (are_small ds) k in
-    if_small (int_lt d c) (c ∷ d ∷ ds) (if int_lt c d then d ∷ put_in c ds else d ∷ ds) (both_true _ _ h k)
-    (if_small (int_lt c d) (d ∷ put_in c ds) (d ∷ ds) (both_true _ _ z.0 (small_in c ds h z.1)) k)
+    if_small (int_lt d c) (c ∷ d ∷ ds) (if int_lt c d then d ∷ put_in c ds else d ∷ ds) (and_from _ _ h k)
+    (if_small (int_lt c d) (d ∷ put_in c ds) (d ∷ ds) (and_from _ _ z.0 (small_in c ds h z.1)) k)
 
 small_end : (k : ℕ) (rows : Rows) (e : CoreEnd) (ds : List ℤ) → is_end rows true e ≡ true → are_small ds ≡ true → are_small (put_end k e ds) ≡ true
 small_end k rows e ds h s =

@@ -1,6 +1,6 @@
 -- The traps of a message are its breaches of rule 8, and among them is one that no breach of its comes before.
-use Rattle.std.proofs.Common.{◌≡◌, ℕ, ℤ, ◌+ℤ◌, ◌≤ℤ◌, Bool, true, false, ◌&&◌, if◌then◌else◌, nat_eq, ◌⊎◌, inl, inr, Option, Some, List, [], refl, sym, ap, ◌∙◌, subst, arith}
-use Rattle.std.proofs.lemmas.Bool.{cases_Bool, eq-eqb, eqb-true}
+use Rattle.std.proofs.Common.{◌≡◌, ℕ, ℤ, ◌+ℤ◌, ◌≤ℤ◌, true, false, ◌&&◌, if◌then◌else◌, nat_eq, ◌⊎◌, inl, inr, Option, Some, List, [], refl, sym, ap, ◌∙◌, subst, arith}
+use Rattle.std.proofs.lemmas.Bool.{cases_Bool, eq-eqb, eqb-true, and_right}
 use Rattle.std.proofs.lemmas.Int.{ints}
 use Rattle.pb_affine.specs.declared.lin.Lin.{Lin}
 use Rattle.pb_affine.specs.declared.range.NRange.{NRange}
@@ -92,16 +92,10 @@ module _ (range : NRange) (over : Option Bounds) (m : Mark) (f t : CoreEnd) wher
       ((ap (λ u. if u && G.varies then fixed F else F) p ∙ ap (λ u. if u then fixed F else F) q), (ap (λ u. if u && F.varies then fixed G else G) q ∙ ap (λ u. if u then fixed G else G) p))
 
   sender_stays : F.varies ≡ false → (met_with F G ≡ F) × (met_with G F ≡ G)
-  sender_stays p = (ap (λ u. if u && G.varies then fixed F else F) p, ap (λ u. if u then fixed G else G) (and_false G.varies F.varies p)) where
-    and_false : (a b : Bool) → b ≡ false → (a && b) ≡ false
-    and_false true b e = e
-    and_false false b e = refl
+  sender_stays p = (ap (λ u. if u && G.varies then fixed F else F) p, ap (λ u. if u then fixed G else G) (and_right G.varies F.varies p))
 
   receiver_stays : G.varies ≡ false → (met_with F G ≡ F) × (met_with G F ≡ G)
-  receiver_stays q = (ap (λ u. if u then fixed F else F) (and_false F.varies G.varies q), ap (λ u. if u && F.varies then fixed G else G) q) where
-    and_false : (a b : Bool) → b ≡ false → (a && b) ≡ false
-    and_false true b e = e
-    and_false false b e = refl
+  receiver_stays q = (ap (λ u. if u then fixed F else F) (and_right F.varies G.varies q), ap (λ u. if u && F.varies then fixed G else G) q)
 
   record Cases : Type 0 where
     is : ((F.varies ≡ true) × (G.varies ≡ true)) ⊎ ((F.varies ≡ false) ⊎ (G.varies ≡ false))

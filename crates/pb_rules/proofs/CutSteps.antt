@@ -1,10 +1,11 @@
 -- Cuts one behind the other.
-use Rattle.std.proofs.Common.{◌≡◌, ℕ, ◌+◌, ◌<◌, Bool, true, false, ◌&&◌, Option, Some, List, [], ◌∷◌, ◌++◌, length, get_or, map, drop, refl, sym, ap, ◌∙◌, append_assoc, Vec, Result, Ok, Err}
+use Rattle.std.proofs.Common.{◌≡◌, ℕ, ◌+◌, ◌<◌, ◌&&◌, Option, Some, List, [], ◌∷◌, ◌++◌, length, get_or, map, drop, refl, sym, ap, ◌∙◌, append_assoc, Vec, Result, Ok, Err}
 use Rattle.std.proofs.lemmas.List.{at_drop_more, map-append}
 use Rattle.pb_affine.specs.declared.lin.Lin.{Lin}
 use Rattle.pb_core_language.specs.declared.protocol.CoreRole.{CoreRole}
 use Rattle.std.specs.Prelude.{OnOk}
 use Rattle.std.specs.declared.alloc.Global.{Global}
+use Rattle.std.proofs.Math.Bool.{and_assoc}
 use Rattle.pb_core_language.specs.declared.tree.CoreEnd.{CoreEnd}
 use Rattle.pb_core_language.specs.declared.tree.CoreBlock.{CoreBlock}
 use Rattle.pb_core_language.specs.declared.tree.CoreKind.TheVariants.{Choice, Foreach}
@@ -16,13 +17,9 @@ use Rattle.pb_core_language.proofs.Plains.{plain_choice, plain_foreach}
 use Rattle.pb_rules.specs.declared.cuts.Wide.{Wide}
 use Rattle.pb_rules.specs.CutLists.{is_cut, are_cuts, lin_of}
 
-and_both : (a b c : Bool) → (a && (b && c)) ≡ ((a && b) && c)
-and_both true b c = refl
-and_both false b c = refl
-
 pub cuts_both : (xs ys : List Lin) → are_cuts (xs ++ ys) ≡ (are_cuts xs && are_cuts ys)
 cuts_both [] ys = refl
-cuts_both (x ∷ xs) ys = ap (λ b. is_cut x && b) (cuts_both xs ys) ∙ and_both (is_cut x) (are_cuts xs) (are_cuts ys)
+cuts_both (x ∷ xs) ys = ap (λ b. is_cut x && b) (cuts_both xs ys) ∙ sym (and_assoc (is_cut x) (are_cuts xs) (are_cuts ys))
 
 pub pushed_one : (out : List Wide) (a : Wide) → map lin_of (out ++ a ∷ []) ≡ map lin_of out ++ lin_of a ∷ []
 pushed_one out a = map-append lin_of out (a ∷ [])

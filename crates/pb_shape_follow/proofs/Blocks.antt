@@ -1,6 +1,7 @@
 -- What a text does next in a block, beside what the endpoint does next in it.
 use Rattle.std.proofs.Common.{◌≡◌, ◌≤◌, ◌<◌, ℕ, zero, suc, ◌+◌, ℤ, pos, Bool, true, false, ◌||◌, cond, nat_eq, List, ◌∷◌, length, Option, refl, sym, ap, subst, arith}
 use Rattle.std.proofs.lemmas.Bool.Decides.{nat_tests}
+use Rattle.std.proofs.lemmas.Bool.{and_parts}
 use Rattle.pb_world.specs.Carry.{Quietly, here, further}
 use Rattle.pb_core_language.specs.Ranks.{total}
 use Rattle.pb_core_language.specs.Tree as T
@@ -12,7 +13,6 @@ use Rattle.pb_core_language.specs.FlatOf.{flat_block, between}
 use Rattle.pb_core_language.specs.Run.{at_rank}
 use Rattle.pb_core_endpoint.specs.Core.{has_simple_items, have_simple_items}
 use Rattle.pb_core_endpoint.specs.Endpoint.{Code, Part, loop, again, return_to}
-use Rattle.pb_core_endpoint.proofs.Progress.{and_both}
 use Rattle.pb_local.specs.Ranks.{Seat}
 use Rattle.pb_local.specs.Tree as L
 use Rattle.pb_local.specs.Tree.{Codes, nothing, more, size_all, Program}
@@ -62,7 +62,7 @@ module _ (p : Protocol) (l : Program) (n : ℤ) (me : Seat) (g : Given p l n me)
 
   pub sits_piece : {h : Here} {a : Around} {m : Mark} {s : StmtTree} {rest : BlockTree} {tail codes : Codes} → Piece (scope_of p) h tail s codes → (x : Sits p l n me h a (T.more m s rest) codes) → Left l x.made.at codes tail → Sits p l n me h a rest tail
   sits_piece {a = a} {m = m} {s = s} {rest = rest} {tail = tail} {codes = codes} piece x left =
-      let both = and_both (has_simple_items s) (have_simple_items rest) x.simple in
+      let both = and_parts (has_simple_items s) (have_simple_items rest) x.simple in
       record {
         fine = x.fine.1 (piece_goes piece);
         here = x.here;
@@ -115,7 +115,7 @@ module _ (p : Protocol) (l : Program) (n : ℤ) (me : Seat) (g : Given p l n me)
       let taker : takers (scope_of p) a m (T.loop id mark whole) n (pos 0) me.role me.index ≡ true = ap (λ b. b || false) e in record {
         fine = z.fine.0;
         here = record { at = z.here.at; comes = λ i. rw taker (z.here.comes i) };
-        simple = (and_both (have_simple_items whole) (have_simple_items rest) z.simple).0;
+        simple = (and_parts (have_simple_items whole) (have_simple_items rest) z.simple).0;
         around = around_loop a id x whole e z.around;
         keeps = z.keeps.0;
         made = made_loop a id x whole inner s below made;
@@ -125,7 +125,7 @@ module _ (p : Protocol) (l : Program) (n : ℤ) (me : Seat) (g : Given p l n me)
   sits_behind_loop {a = a} {whole = whole} {rest = rest} {tail = tail} {codes = codes} z left = record {
     fine = z.fine.1 refl;
     here = z.here;
-    simple = (and_both (have_simple_items whole) (have_simple_items rest) z.simple).1;
+    simple = (and_parts (have_simple_items whole) (have_simple_items rest) z.simple).1;
     around = z.around;
     keeps = z.keeps.1;
     made = made_later a codes tail z.made left;

@@ -1,6 +1,8 @@
 -- What a text does next at a choice, beside what the endpoint does next at it.
-use Rattle.std.proofs.Common.{◌≡◌, ◌≤◌, ◌<◌, ℕ, zero, suc, ◌+◌, ◌==◌, ℤ, pos, ◌+ℤ◌, Bool, true, false, ◌&&◌, ◌||◌, if◌then◌else◌, nat_eq, unwrap_or, List, [], ◌∷◌, Option, Some, None, refl, sym, ap, ◌∙◌, subst, lt-ltb, arith}
+use Rattle.std.proofs.Common.{◌≡◌, ◌≤◌, ◌<◌, ℕ, zero, suc, ◌+◌, ◌==◌, ℤ, pos, ◌+ℤ◌, Bool, true, false, ◌&&◌, if◌then◌else◌, nat_eq, unwrap_or, List, [], ◌∷◌, Option, Some, None, refl, sym, ap, ◌∙◌, subst, lt-ltb, arith}
 use Rattle.std.specs.Ordering.{int_eq}
+use Rattle.std.proofs.lemmas.Bool.{and_parts}
+use Rattle.std.proofs.Math.Bool.{or-false}
 use Rattle.pb_affine.specs.declared.guard.Guard.{Guard}
 use Rattle.pb_affine.specs.declared.lin.Base.{Base}
 use Rattle.pb_affine.specs.declared.lin.Base.TheVariants.{Fixed, Param, Var}
@@ -22,7 +24,6 @@ use Rattle.pb_core_flat.proofs.Seats.{end_is_at, seat_of_rank, is_below}
 use Rattle.pb_core_endpoint.specs.Core.{have_simple_items, branches_have_simple_items}
 use Rattle.pb_core_endpoint.specs.Endpoint.{Code, Arms, Part, code, arms, count_arms, choose, told, arm_at, arm_of, branch_of, chosen}
 use Rattle.pb_core_endpoint.proofs.Kept.{IsTold}
-use Rattle.pb_core_endpoint.proofs.Progress.{and_both}
 use Rattle.pb_local.specs.declared.stmt.Test.{Test}
 use Rattle.pb_local.specs.declared.stmt.Relay.{Relay}
 use Rattle.pb_local.specs.Ranks.{Seat}
@@ -85,7 +86,7 @@ module _ (p : Protocol) (l : Program) (n : ℤ) (me : Seat) (g : Given p l n me)
         let mine = made_at l parts y s made in record {
           fine = fine_at p n bs y x.sits.fine.0.1;
           here = record { at = x.sits.here.at; comes = λ i. rw x.takes (x.sits.here.comes i) };
-          simple = simple_at bs y (and_both (branches_have_simple_items bs) (have_simple_items rest) x.sits.simple).0;
+          simple = simple_at bs y (and_parts (branches_have_simple_items bs) (have_simple_items rest) x.sits.simple).0;
           around = x.sits.around;
           keeps = keeps_at p.roles n a.opens (total p.roles n) x.sits.around.env bs y x.sits.keeps.3;
           made = record { at = mine.at; made = mine.made; below = λ k lt. let b = x.sits.made.below k lt in let e = mine.later in omega arith };
@@ -124,13 +125,9 @@ module _ (p : Protocol) (l : Program) (n : ℤ) (me : Seat) (g : Given p l n me)
         go Param h = refl
         go Var h = cc
 
-    or_false : (b : Bool) → b ≡ b || false
-    or_false true = refl
-    or_false false = refl
-
     chooses_is : (x : IsThere) (j : ℤ) → is_for n me j who ≡ (rank_of p.roles n from (pos 0) == me_rank p l n me)
     chooses_is x j =
-        or_false (is_for n me j who) ∙ x.names n j me.role me.index g.seated.within g.seated.is (x.sits.here.at j)
+        sym (or-false (is_for n me j who)) ∙ x.names n j me.role me.index g.seated.within g.seated.is (x.sits.here.at j)
         ∙ ap (λ v. nat_eq from.role me.role && int_eq v me.index) (steady x.sits.fine.0.0 j)
         ∙ sym (end_is_at p.roles n (pos 0) from me.role me.index g.seated.is)
 

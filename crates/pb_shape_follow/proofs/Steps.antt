@@ -1,6 +1,7 @@
 -- The steps of a text before a loop or a choice, and through a straight statement.
 use Rattle.std.proofs.Common.{◌≡◌, ◌≤◌, ℕ, zero, suc, ◌+◌, ℤ, pos, ◌+ℤ◌, Bool, true, false, List, [], ◌∷◌, Option, refl, sym, ◌∙◌, subst, arith}
 use Rattle.std.proofs.lemmas.Int.{ints}
+use Rattle.std.proofs.lemmas.Bool.{both_ways}
 use Rattle.pb_affine.specs.declared.guard.Guard.{Guard}
 use Rattle.pb_affine.specs.Values.{value, count_of}
 use Rattle.pb_world.specs.Actions.{Action, Kind, Sends, Receives, Runs, Enters, Leaves, Chooses}
@@ -124,9 +125,6 @@ module _ (p : Protocol) (l : Program) (n : ℤ) (me : Seat) (g : Given p l n me)
 
   -- ---- the `If` before a loop or a choice
 
-  not_both : (b : Bool) → b ≡ true → b ≡ false → ⊥
-  not_both b x y = cc
-
   -- a rank that doesn't take part passes it
   pub one_skips : {h : Here} {who : Who} {first tail codes : Codes} {c : Bool} {K : List Part} (number : ℕ) (i : ℤ) (t : Todo) (s : W.Scope) (k : ℕ) → One (scope_of p) h who first tail codes → IsOpenTo h n me → AreMade l s codes →
       who n i me.role me.index ≡ false → IsVariable i → Budget p l n me c k (pushed number codes t) →
@@ -147,7 +145,7 @@ module _ (p : Protocol) (l : Program) (n : ℤ) (me : Seat) (g : Given p l n me)
   pub one_enters : {h : Here} {who : Who} {first tail codes : Codes} {c : Bool} {K : List Part} (number : ℕ) (i : ℤ) (t : Todo) (s : W.Scope) (k : ℕ) → One (scope_of p) h who first tail codes → IsOpenTo h n me → AreMade l s codes →
       who n i me.role me.index ≡ true → IsVariable i → Budget p l n me c k (pushed number codes t) →
       ((inner behind k' : ℕ) → k ≡ suc k' → suc (size_all first + size_all tail) ≤ size_all codes → AreMade l s first → Ahead k' c (at i (pushed inner first (pushed behind tail t))) K) → Ahead k c (at i (pushed number codes t)) K
-  one_enters number i t s k (gone nobody) open' made yes' near room go = absurd (not_both _ yes' (nobody n i me.role me.index g.seated.within g.seated.is (open'.at i) (open'.comes i)))
+  one_enters number i t s k (gone nobody) open' made yes' near room go = absurd (both_ways _ (nobody n i me.role me.index g.seated.within g.seated.is (open'.at i) (open'.comes i)) yes')
   one_enters number i t s zero (there {gs = gs} names some) open' made yes' near room go = absurd (let a = room.enough in omega arith)
   one_enters {first = first} {tail = tail} {c = c} {K = K} number i t s (suc k) (there {gs = gs} names some) open' made yes' near room go =
       let behind = number + L.size (L.when gs first nothing) in

@@ -1,5 +1,6 @@
 -- The text of a rank does next what its endpoint does next, and so simulates it.
 use Rattle.std.proofs.Common.{◌≡◌, ◌≤◌, ◌<◌, ℕ, zero, suc, ◌+◌, ◌==◌, ℤ, pos, Bool, true, false, ◌||◌, cond, List, [], ◌∷◌, length, Option, refl, sym, ap, ◌∙◌, subst, true≢false, arith}
+use Rattle.std.proofs.lemmas.Bool.{and_parts}
 use Rattle.pb_affine.specs.declared.guard.Guard.{Guard}
 use Rattle.pb_world.specs.Actions.{Action}
 use Rattle.pb_world.specs.Once.{Once}
@@ -13,7 +14,6 @@ use Rattle.pb_core_language.specs.FlatOf.{flat_stmt, flat_branches, rank_of, bet
 use Rattle.pb_core_language.specs.Outcomes.{firsts_among, source_of}
 use Rattle.pb_core_endpoint.specs.Core.{has_simple_items, have_simple_items, branches_have_simple_items}
 use Rattle.pb_core_endpoint.specs.Endpoint.{Code, Part, arms, done, choose, told, again}
-use Rattle.pb_core_endpoint.proofs.Progress.{and_both}
 use Rattle.pb_local.specs.declared.stmt.Test.{Test}
 use Rattle.pb_local.specs.declared.stmt.Relay.{Relay}
 use Rattle.pb_local.specs.Ranks.{Seat}
@@ -132,7 +132,7 @@ module _ (p : Protocol) (l : Program) (n : ℤ) (me : Seat) (g : Given p l n me)
   sits_behind_choice {a = a} {bs = bs} {rest = rest} {tail = tail} {codes = codes} z left = record {
     fine = z.fine.1 refl;
     here = z.here;
-    simple = (and_both (branches_have_simple_items bs) (have_simple_items rest) z.simple).1;
+    simple = (and_parts (branches_have_simple_items bs) (have_simple_items rest) z.simple).1;
     around = z.around;
     keeps = z.keeps.4;
     made = made_later p l n me g a codes tail z.made left;
@@ -149,7 +149,7 @@ module _ (p : Protocol) (l : Program) (n : ℤ) (me : Seat) (g : Given p l n me)
   block_front c k number i (S.unreached nobody) z over near room = absurd (true≢false (nobody n i me.role me.index g.seated.within g.seated.is (z.here.at i) (z.here.comes i)))
   block_front {a = a} {codes = codes} {o = o} {K = K} {t = t} c k number i (S.piece {m = m} {s = s} {rest = rest} {tail = tail} piece shape) z over near room =
       let r = me_rank p l n me in
-      let both = and_both (has_simple_items s) (have_simple_items rest) z.simple in
+      let both = and_parts (has_simple_items s) (have_simple_items rest) z.simple in
       let left = piece_leaves l z.made.at piece z.made.made in
       let sits = sits_piece p l n me g piece z left in
       let kinds = mine r (flat_stmt p.roles n a.opens (pos 0) m s stop) in

@@ -1,6 +1,7 @@
 -- A foreach, in the text: the For of the fixed ranks, and the segments of the others.
 use Rattle.std.proofs.Common.{◌≡◌, ◌≤◌, ℕ, zero, suc, ◌+◌, ◌*◌, ℤ, pos, negsuc, ◌+ℤ◌, ◌-ℤ◌, ◌≤ℤ◌, ◌<ℤ◌, Bool, true, false, ◌&&◌, nat_eq, int_le, List, [], ◌∷◌, ◌++◌, refl, sym, ◌∙◌, ap, subst, arith, append_assoc}
 use Rattle.std.proofs.lemmas.Int.{ints}
+use Rattle.std.proofs.lemmas.Bool.{and_from, and_parts}
 use Rattle.pb_affine.specs.declared.lin.Base.{Base}
 use Rattle.pb_affine.specs.declared.lin.Base.TheVariants.{Fixed, Param, Var}
 use Rattle.pb_affine.specs.declared.lin.Lin.{Lin}
@@ -31,7 +32,7 @@ use Rattle.pb_shape_straight.proofs.Order.{gathered, gathered_nothing}
 use Rattle.pb_shape_straight.proofs.Segment.{IsSome, if_so, parts, my_parts, segment_does, roles_do, iterations, segments_are, fixed_acts}
 use Rattle.pb_shape_straight.proofs.Along.{joined, silently, Goes, goes_joined, stays, costs, when_held, when_not, owns}
 use Rattle.pb_shape_straight.proofs.Fits.{IsSize, fits_is, value_fits, guards_fit}
-use Rattle.pb_shape_straight.proofs.Peers.{and_first, bound_near, bound_small}
+use Rattle.pb_shape_straight.proofs.Peers.{bound_near, bound_small}
 use Rattle.pb_shape_straight.proofs.Passing.{Setting, Comes, Made, never, Done, Room, room_left, nothing_done, one_yes, one_no, one_made, IsAct, send_act, recv_act, run_act, items_done}
 
 -- without the variable a lin has one value
@@ -60,11 +61,8 @@ int_above v hi h = grind (arith, ints)
 int_upto : (v hi : ℤ) → v ≤ℤ hi → int_le v hi ≡ true
 int_upto v hi h = grind (arith, ints)
 
-both_true : (a b : Bool) → a ≡ true → b ≡ true → a && b ≡ true
-both_true a b e e' = rw (e, e') refl
-
 is_between : (low high v : ℤ) → low ≤ℤ v → v ≤ℤ high → int_le low v && int_le v high ≡ true
-is_between low high v l u = both_true (int_le low v) (int_le v high) (int_upto low v l) (int_upto v high u)
+is_between low high v l u = and_from (int_le low v) (int_le v high) (int_upto low v l) (int_upto v high u)
 
 variable_fits : (v : ℤ) → IsVariable v → fits v ≡ true
 variable_fits v near = fits_is v (omega (arith, ints, near.low)) (omega (arith, ints, near.high))
@@ -263,8 +261,8 @@ module _ (p : Protocol) (l : Program) (n : ℤ) (me : Seat) (g : Setting p l n m
         let y = bound_near b.high n g.size.low good.high in
         let m = count_of (hi +ℤ pos 1 -ℤ lo) in
         let t = turns l n bound me g.size b.high (suc number) body rest lo hi (size_all body) (λ v. my_parts p.roles n me v items) (bound_small b.high good.high)
-        (λ j. same_value b.high n j (pos 0) (and_first (is_over_n b.high.base) _ good.high)) (omega (arith, ints, y.1, g.size.high)) (omega (arith, room')) done
-        (λ v c d. fixed_acts p.roles n me v items fixed) m k i lo (pushed number first rest) (starts (value b.low n i) (same_value b.low n i (pos 0) (and_first (is_over_n b.low.base) _ good.low))) refl
+        (λ j. same_value b.high n j (pos 0) (and_parts (is_over_n b.high.base) _ good.high).0) (omega (arith, ints, y.1, g.size.high)) (omega (arith, room')) done
+        (λ v c d. fixed_acts p.roles n me v items fixed) m k i lo (pushed number first rest) (starts (value b.low n i) (same_value b.low n i (pos 0) (and_parts (is_over_n b.low.base) _ good.low).0)) refl
         (omega (arith, ints)) (record { low = omega (arith, ints, x.0); high = omega (arith, ints, x.1, g.size.high) }) (omega (arith, room)) in (
           t.last,
           t.near,
@@ -279,7 +277,7 @@ module _ (p : Protocol) (l : Program) (n : ℤ) (me : Seat) (g : Setting p l n m
         starts v e = ap (λ w. turn l n (at_todo me i (pushed number first rest)) w b.high (suc number) body rest) e
 
         within : (v : ℤ) → IsVariable v → lo ≤ℤ v → v ≤ℤ hi → Comes (in_for h b items) n me v
-        within v near c d = record { near = near; at = is_between lo hi v c d; comes = both_true (fixed_in items n me.role me.index) (h.comes n v me.role me.index) fixed (open'.comes v) }
+        within v near c d = record { near = near; at = is_between lo hi v c d; comes = and_from (fixed_in items n me.role me.index) (h.comes n v me.role me.index) fixed (open'.comes v) }
 
         done : (k : ℕ) (v : ℤ) → IsVariable v → lo ≤ℤ v → v ≤ℤ hi → size_all body ≤ k →
             Goes l n bound me k v v (pushed (suc number) body (round_of b.high (suc number) body rest)) (round_of b.high (suc number) body rest) (size_all body) (my_parts p.roles n me v items)
@@ -298,7 +296,7 @@ module _ (p : Protocol) (l : Program) (n : ℤ) (me : Seat) (g : Setting p l n m
         last_of low high v x y = grind (arith, ints)
 
         none : (v : ℤ) → lo ≤ℤ v → v ≤ℤ hi → my_parts p.roles n me v items ≡ []
-        none v x y = absurd (never (nobody n v me.role me.index g.within g.is (is_between lo hi v x y) (both_true (fixed_in items n me.role me.index) (h.comes n v me.role me.index) fixed (open'.comes v))))
+        none v x y = absurd (never (nobody n v me.role me.index g.within g.is (is_between lo hi v x y) (and_from (fixed_in items n me.role me.index) (h.comes n v me.role me.index) fixed (open'.comes v))))
 
     free_done : fixed_in items n me.role me.index ≡ false → roles_do p.roles n me b items 0 p.roles ≡ all_rounds
     free_done free = segments_are p.roles n me b items free g.in_role

@@ -1,6 +1,7 @@
 -- The code of a straight statement does a rank's part of it.
 use Rattle.std.proofs.Common.{◌≡◌, ◌≤◌, ℕ, ◌+◌, ◌*◌, ℤ, pos, Bool, true, false, ◌&&◌, nat_eq, List, [], ◌∷◌, ◌++◌, refl, sym, ◌∙◌, ap, ap₂, subst, append-nil, arith}
 use Rattle.std.specs.Ordering.{int_eq}
+use Rattle.std.proofs.lemmas.Bool.{and_parts}
 use Rattle.pb_affine.specs.Values.{value}
 use Rattle.pb_syntax.specs.declared.tree.Op.{Op}
 use Rattle.pb_syntax.specs.declared.tree.Op.TheVariants.{Min, Max, Sum}
@@ -31,7 +32,7 @@ use Rattle.pb_shape.specs.Ways.{mine}
 use Rattle.pb_shape.specs.Straight.{IsSeated, IsVariable, IsEnd, IsItem, IsFine, IsOpenTo, StraightPasses, at_todo}
 use Rattle.pb_shape_straight.proofs.Segment.{if_so, part, is_mine, iterations, mine_item, mine_each}
 use Rattle.pb_shape_straight.proofs.Along.{Goes, goes_joined, does_one}
-use Rattle.pb_shape_straight.proofs.Peers.{world, is_in_role, peer_is, and_first, and_rest, IsNumbered}
+use Rattle.pb_shape_straight.proofs.Peers.{world, is_in_role, peer_is, IsNumbered}
 use Rattle.pb_shape_straight.proofs.Passing.{Setting, Made, item_done}
 use Rattle.pb_shape_straight.proofs.Each.{same_value, Ends, each_done}
 
@@ -43,7 +44,7 @@ same_operation Sum = refl
 module _ (p : Protocol) (l : Program) (n : ℤ) (me : Seat) (g : Setting p l n me) (bound : ℕ) where
   -- outside of a foreach an end is one rank, whatever the variable is
   end_stays : (e : CoreEnd) (i : ℤ) → IsEnd p n false (pos 0) e → value e.at n (pos 0) ≡ value e.at n i
-  end_stays e i h = same_value e.at n (pos 0) i (and_first (is_over_n e.at.base) (is_small e.at.off) (and_rest _ _ h.sound))
+  end_stays e i h = same_value e.at n (pos 0) i (and_parts (is_over_n e.at.base) (is_small e.at.off) (and_parts _ _ h.sound).1).0
 
   end_at : (e : CoreEnd) (i : ℤ) → IsEnd p n false (pos 0) e → IsEnd p n false i e
   end_at e i h = record { sound = h.sound; is = subst (λ x. is_rank p.roles n e.role x ≡ true) (end_stays e i h) h.is }
