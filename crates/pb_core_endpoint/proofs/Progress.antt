@@ -1,6 +1,6 @@
 -- A rank that takes part in what is still to do acts.
 use Rattle.std.proofs.Common.{◌≡◌, ℕ, zero, suc, ◌+◌, ◌<◌, ◌≤◌, ◌==◌, Bool, true, false, ◌||◌, ◌&&◌, MatchBool, List, [], ◌∷◌, ◌++◌, length, refl, sym, ap, ap₂, ◌∙◌, subst, inl, inr, append-nil, le_refl, le_trans, lt_of_lt_of_le, arith}
-use Rattle.std.proofs.lemmas.Bool.{or_cases, or_right, or_left, and_parts, cases_Bool, or_parts}
+use Rattle.std.proofs.lemmas.Bool.{or_cases, or_right, or_left, and_parts, cases_Bool, or_parts, and_right}
 use Rattle.pb_world.specs.Actions.{Action, Choose, Run, Send, Recv, Enter, Leave, of_rank, Answers}
 use Rattle.pb_world.specs.Sequencer.{behind_first, answers_after, answers_after_all, first_or, emitted, state_after}
 use Rattle.pb_world.proofs.Lists.{eqb_cases, of_append}
