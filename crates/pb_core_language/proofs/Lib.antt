@@ -4,3 +4,4 @@ mod RunLaws
 mod Rows
 mod FileRows
 pub mod Plains
+pub mod Counts
