@@ -2,6 +2,7 @@
 use Rattle.std.specs.Prelude.{◌≡◌, ℕ, ◌+◌, ◌≤◌, ◌⊎◌, List, [], ◌∷◌, ◌++◌, Option, codes, decimal}
 use Rattle.std.specs.List.{flat_map}
 use Rattle.std.specs.Io.KnownBytes.{Appends}
+use Rattle.pb_text.specs.declared.limits.TheConstants.{MOST_EVENTS}
 use Rattle.pb_io.specs.Sinks.{AppendsFront}
 use Rattle.pb_local.specs.Tables.{label_at}
 use Rattle.pb_local.specs.Tree.{Program}
@@ -71,7 +72,7 @@ abbrev pub IsEarly : Ending → Type 0
 IsEarly E.Ended = Unit {0}
 IsEarly (E.Stuck rank cause) = Unit {0}
 IsEarly E.Turns = Unit {0}
-IsEarly (E.Refused t) = t ≤ 1000000
+IsEarly (E.Refused t) = t ≤ MOST_EVENTS
 IsEarly E.Full = Unit {0}
 IsEarly E.NoMemory = Unit {0}
 IsEarly E.WriteFault = Unit {0}
