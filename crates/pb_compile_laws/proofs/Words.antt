@@ -12,7 +12,7 @@ use Rattle.pb_text.specs.declared.place.Place.{Place}
 use Rattle.pb_text.specs.declared.token.Token.{Token}
 use Rattle.pb_text.specs.declared.token.Key.{Key}
 use Rattle.pb_text.specs.declared.token.Mark.{Mark}
-use Rattle.pb_text.specs.Spellings.{begins_with, key_of, keys, key_spelling, mark_at}
+use Rattle.pb_text.specs.Spellings.{begins_with, key_of, key_spelling, mark_at}
 use Rattle.pb_text.specs.Lexemes.{Lexeme, nothing, gap, token, bad, lexeme, begins_word, goes_on_word, is_blank, word, word_token, closed, close_of, number, mark_token, value_from}
 use Rattle.pb_text.specs.Tokens.{Lexes, done, skip, read, IsName, IsSoundKind}
 use Rattle.pb_lex.proofs.Naming as naming
@@ -114,7 +114,7 @@ own_word w (k ∷ ks) h = at (pointwise nat_eq w (key_spelling k)) refl h (own_w
     at false e h rest = rw (swapped w (key_spelling k) e) (rest h)
 
 no_keyword : (w : List ℕ) → key_of w ≡ None → is_keyword w ≡ false
-unfolding key_of keys
+unfolding key_of
 no_keyword w h = own_word w keys h
 
 pub named : (w : List ℕ) → IsName w → IsTrue (is_name w)

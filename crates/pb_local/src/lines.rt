@@ -5,11 +5,10 @@ ghost use Rattle.pb_local.specs.Layout.{high_text, range_line, protocol_line, wh
 ghost use Rattle.pb_local.specs.Pieces.{line};
 ghost use Rattle.pb_local.specs.Tree.{program_of};
 
-use crate::small::{
-    op_name, push_decimal, push_guard, push_guards, push_lin, push_offset, push_peer,
-};
+use crate::small::{op_name, push_guard, push_guards, push_lin, push_offset, push_peer};
 use crate::{Guard, Lin, Local, NRange, NoMemory, Op, Peer, Relay, Test, push_indent, push_pieces};
 use itoa::Buffer;
+use pb_text::push_decimal;
 
 pub fn push_word(out: &mut Vec<u8>, depth: usize, word: &[u8]) -> Result<(), NoMemory>
     ensures { OnOk result (out.new.items ≡ out.old.items ++ line depth word.now) }
@@ -25,7 +24,7 @@ fn push_high(out: &mut Vec<u8>, high: Option<u32>) -> Result<(), NoMemory>
 {
     match high {
         None => push_pieces(out, &[b"max"]),
-        Some(n) => push_decimal(out, n),
+        Some(n) => push_decimal(out, u64::from(n)),
     }
 }
 
@@ -33,7 +32,7 @@ pub fn push_range_line(out: &mut Vec<u8>, range: NRange) -> Result<(), NoMemory>
     ensures { OnOk result (out.new.items ≡ out.old.items ++ range_line range) }
 {
     push_pieces(out, &[b"N "])?;
-    push_decimal(out, range.low)?;
+    push_decimal(out, u64::from(range.low))?;
     push_pieces(out, &[b" to "])?;
     push_high(out, range.high)?;
     out.push(b'\n')?;
@@ -88,7 +87,7 @@ pub fn push_loop(out: &mut Vec<u8>, depth: usize, id: u32) -> Result<(), NoMemor
 {
     push_indent(out, depth)?;
     push_pieces(out, &[b"loop "])?;
-    push_decimal(out, id)?;
+    push_decimal(out, u64::from(id))?;
     out.push(b'\n')?;
     Ok(())
 }
@@ -98,7 +97,7 @@ pub fn push_again(out: &mut Vec<u8>, depth: usize, id: u32) -> Result<(), NoMemo
 {
     push_indent(out, depth)?;
     push_pieces(out, &[b"again "])?;
-    push_decimal(out, id)?;
+    push_decimal(out, u64::from(id))?;
     out.push(b'\n')?;
     Ok(())
 }
@@ -150,7 +149,7 @@ fn push_test(local: &Local, out: &mut Vec<u8>, depth: usize, test: &Test) -> Res
 {
     push_indent(out, depth)?;
     push_pieces(out, &[b"told ", local.label_name(test.label), b" "])?;
-    push_decimal(out, test.branch)?;
+    push_decimal(out, u64::from(test.branch))?;
     push_pieces(out, &[b" when "])?;
     push_guards(local, out, test.guards.list())?;
     out.push(b'\n')?;

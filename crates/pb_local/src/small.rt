@@ -6,33 +6,17 @@ ghost use Rattle.pb_local.specs.Layout.{offset_text, lin_text, is_same_base, is_
 ghost use Rattle.pb_local.specs.Tree.{program_of};
 
 use crate::{Base, Guard, Lin, Local, NoMemory, Op, Peer, push_pieces};
-use itoa::Buffer;
-
-pub fn push_decimal(out: &mut Vec<u8>, n: u32) -> Result<(), NoMemory>
-    ensures { OnOk result (out.new.items ≡ out.old.items ++ decimal n) }
-{
-    let mut buffer = Buffer::new();
-    out.extend_from_slice(buffer.format(n).as_bytes())?;
-    Ok(())
-}
-
-pub fn push_signed(out: &mut Vec<u8>, n: i32) -> Result<(), NoMemory>
-    ensures { OnOk result (out.new.items ≡ out.old.items ++ signed_decimal n) }
-{
-    let mut buffer = Buffer::new();
-    out.extend_from_slice(buffer.format(n).as_bytes())?;
-    Ok(())
-}
+use pb_text::{push_decimal, push_number};
 
 pub fn push_offset(out: &mut Vec<u8>, off: i32) -> Result<(), NoMemory>
     ensures { OnOk result (out.new.items ≡ out.old.items ++ offset_text off) }
 {
     if off < 0 {
         out.push(b'-')?;
-        push_decimal(out, off.unsigned_abs())?;
+        push_decimal(out, u64::from(off.unsigned_abs()))?;
     } else if 0 < off {
         out.push(b'+')?;
-        push_decimal(out, off.unsigned_abs())?;
+        push_decimal(out, u64::from(off.unsigned_abs()))?;
     }
     Ok(())
 }
@@ -41,7 +25,7 @@ pub fn push_lin(out: &mut Vec<u8>, lin: Lin) -> Result<(), NoMemory>
     ensures { OnOk result (out.new.items ≡ out.old.items ++ lin_text lin) }
 {
     match lin.base {
-        Base::Fixed => push_signed(out, lin.off),
+        Base::Fixed => push_number(out, i64::from(lin.off)),
         Base::Param => {
             out.push(b'N')?;
             push_offset(out, lin.off)
@@ -119,7 +103,7 @@ fn push_from(out: &mut Vec<u8>, from: Option<u32>) -> Result<(), NoMemory>
 {
     if let Some(n) = from {
         push_pieces(out, &[b" N>="])?;
-        push_decimal(out, n)?;
+        push_decimal(out, u64::from(n))?;
     }
     Ok(())
 }
@@ -129,7 +113,7 @@ fn push_to(out: &mut Vec<u8>, to: Option<u32>) -> Result<(), NoMemory>
 {
     if let Some(n) = to {
         push_pieces(out, &[b" N<="])?;
-        push_decimal(out, n)?;
+        push_decimal(out, u64::from(n))?;
     }
     Ok(())
 }

@@ -1,6 +1,6 @@
 use super::*;
 use pb_syntax::print_file;
-use pb_text::{Place, Quantity};
+use pb_text::{Key, Place, Quantity};
 use std::alloc::Global;
 use std::test::Fail;
 
@@ -213,34 +213,8 @@ fn counts_to_the_limits(rt: HostRuntime) -> Result<(), Fail> {
 #[test]
 fn takes_no_keyword_for_a_name(rt: HostRuntime) -> Result<(), Fail> {
     let alloc = rt.alloc();
-    let keywords: [&[u8]; 24] = [
-        b"const",
-        b"global",
-        b"protocol",
-        b"role",
-        b"from",
-        b"to",
-        b"foreach",
-        b"rec",
-        b"continue",
-        b"choice",
-        b"at",
-        b"or",
-        b"compute",
-        b"barrier",
-        b"broadcast",
-        b"reduce",
-        b"allreduce",
-        b"with",
-        b"max",
-        b"min",
-        b"sum",
-        b"int32",
-        b"uint32",
-        b"do",
-    ];
-    for keyword in keywords {
-        let text = repeated(alloc, b"const ", keyword, 1, b" = 2..max;")?;
+    for keyword in Key::all() {
+        let text = repeated(alloc, b"const ", keyword.spelling(), 1, b" = 2..max;")?;
         assert_eq!(rt;
             fault_of(alloc, &text),
             Some(ParseFault::Unexpected(at(1, 7)))
