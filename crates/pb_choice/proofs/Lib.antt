@@ -5,7 +5,7 @@ pub mod FlawSteps
 pub mod Origins
 pub mod Fairs
 pub mod Parts
-pub mod Plains
+pub mod Lists
 pub mod Bodies
 pub mod Blocks
 pub mod Branching

@@ -55,6 +55,8 @@ use std::alloc::Global;
 /// schedule `Schedule`.
 ///
 /// `answers` gives word number `count` of a rank, from 0, by a seed, the rank and that number.
+///
+/// The same as `act`, with the clause `complete`, which lists the answers that may come.
 pub fn pabble<F: Folder, O: Sink, A: Fn(u64, u32, u64) -> u32 + Drop>(
     alloc: Global,
     words: &[String],

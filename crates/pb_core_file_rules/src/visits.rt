@@ -46,6 +46,7 @@ pub struct Inside<'a> {
     pub variables: &'a Around<'a>,
 }
 
+/// Whether both are the same kind.
 pub fn is_kind(a: NameKind, b: NameKind) -> bool
     ensures { result ≡ nat_eq (kind_no a) (kind_no b) }
 {

@@ -14,6 +14,7 @@ use pb_ctree::{
 use pb_local::{push_indent, push_pieces};
 use pb_text::{push_decimal, push_number};
 
+/// Appends the bytes of a name.
 pub fn push_name(out: &mut Vec<u8>, name: &Name) -> Result<(), NoMemory>
     ensures { OnOk result (out.new.items ≡ out.old.items ++ name.now) }
 {

@@ -56,6 +56,7 @@ pub struct FrameReader {
     pub(crate) phase: Phase,
 }
 
+/// Whether both have the same bytes.
 pub fn is_same(text: &[u8], line: &[u8]) -> bool
     ensures { result ≡ same_line text.now line.now }
 {

@@ -33,6 +33,8 @@ impl<'a> Cursor<'a> {
         }
     }
 
+    /// Passes over all the digits that stand here, and gives their number. `None` exactly where there is none, or the number
+    /// is 2^32 or more.
     pub fn number(&mut self) -> Option<u32>
         ensures { GivesTo result self.new.rest.now (number_at self.old.rest.now) }
     {
@@ -116,6 +118,8 @@ impl<'a> Cursor<'a> {
             .count()
     }
 
+    /// Passes over the letters, digits and underscores that stand here, and gives them. `None` exactly where they are
+    /// no name.
     #[tactic(auto, using(crate::proofs::Strips::name_some, crate::proofs::Strips::name_short))]
     pub fn name(&mut self) -> Option<Name>
         ensures { GivesTo result self.new.rest.now (name_at self.old.rest.now) }

@@ -15,6 +15,7 @@ fn is_letter(byte: u8) -> bool
     (b'A' <= byte && byte <= b'Z') || (b'a' <= byte && byte <= b'z') || byte == b'_'
 }
 
+/// Whether the byte is a letter, a digit or an underscore.
 pub fn goes_on_name(byte: u8) -> bool
     ensures { result ≡ goes_on_name byte }
 {

@@ -139,7 +139,8 @@ fn numbered(alloc: Global, local: &Local) -> Result<CTree, NoMemory>
 
 /// The C tree of an endpoint program. A role's base is the number of its first rank, and its place is that less its least
 /// index: so a rank's number is its index plus its role's place, and its role is the last whose base is at most that.
-
+///
+/// The same as `numbered`, with the clause that the tree numbers the ranks.
 pub fn emit(alloc: Global, local: &Local) -> Result<CTree, NoMemory>
     requires { IsWellMade (program_of local.now) }
     ensures same { IfOk result (λ tree. program_of tree.local ≡ program_of local.now) }

@@ -10,6 +10,7 @@ use crate::{Guard, Lin, Local, NRange, NoMemory, Op, Peer, Relay, Test, push_ind
 use itoa::Buffer;
 use pb_text::push_decimal;
 
+/// Appends a line of one word.
 pub fn push_word(out: &mut Vec<u8>, depth: usize, word: &[u8]) -> Result<(), NoMemory>
     ensures { OnOk result (out.new.items ≡ out.old.items ++ line depth word.now) }
 {
@@ -28,6 +29,7 @@ fn push_high(out: &mut Vec<u8>, high: Option<u32>) -> Result<(), NoMemory>
     }
 }
 
+/// Appends the line of the range of N.
 pub fn push_range_line(out: &mut Vec<u8>, range: NRange) -> Result<(), NoMemory>
     ensures { OnOk result (out.new.items ≡ out.old.items ++ range_line range) }
 {
@@ -39,12 +41,14 @@ pub fn push_range_line(out: &mut Vec<u8>, range: NRange) -> Result<(), NoMemory>
     Ok(())
 }
 
+/// Appends the line that names the protocol.
 pub fn push_protocol(local: &Local, out: &mut Vec<u8>) -> Result<(), NoMemory>
     ensures { OnOk result (out.new.items ≡ out.old.items ++ protocol_line (program_of local.now)) }
 {
     push_pieces(out, &[b"local ", local.protocol.bytes(), b"\n"])
 }
 
+/// Appends the line that opens an `If`, with its guards.
 pub fn push_when(
     local: &Local,
     out: &mut Vec<u8>,
@@ -60,6 +64,7 @@ pub fn push_when(
     Ok(())
 }
 
+/// Appends the line that opens a `For`, with both ends of its range.
 pub fn push_for(out: &mut Vec<u8>, depth: usize, low: Lin, high: Lin) -> Result<(), NoMemory>
     ensures { OnOk result (out.new.items ≡ out.old.items ++ for_line depth low high) }
 {
@@ -72,6 +77,7 @@ pub fn push_for(out: &mut Vec<u8>, depth: usize, low: Lin, high: Lin) -> Result<
     Ok(())
 }
 
+/// Appends the line of an `Own`, with its offset.
 pub fn push_own(out: &mut Vec<u8>, depth: usize, off: i32) -> Result<(), NoMemory>
     ensures { OnOk result (out.new.items ≡ out.old.items ++ own_line depth off) }
 {
@@ -82,6 +88,7 @@ pub fn push_own(out: &mut Vec<u8>, depth: usize, off: i32) -> Result<(), NoMemor
     Ok(())
 }
 
+/// Appends the line that opens a `Loop`, with its number.
 pub fn push_loop(out: &mut Vec<u8>, depth: usize, id: u32) -> Result<(), NoMemory>
     ensures { OnOk result (out.new.items ≡ out.old.items ++ loop_line depth id) }
 {
@@ -92,6 +99,7 @@ pub fn push_loop(out: &mut Vec<u8>, depth: usize, id: u32) -> Result<(), NoMemor
     Ok(())
 }
 
+/// Appends the line of an `Again`, with the number of its loop.
 pub fn push_again(out: &mut Vec<u8>, depth: usize, id: u32) -> Result<(), NoMemory>
     ensures { OnOk result (out.new.items ≡ out.old.items ++ again_line depth id) }
 {
@@ -102,6 +110,7 @@ pub fn push_again(out: &mut Vec<u8>, depth: usize, id: u32) -> Result<(), NoMemo
     Ok(())
 }
 
+/// Appends the line that opens a `Choice`, with its kernel and the rank that chooses.
 pub fn push_choice(
     local: &Local,
     out: &mut Vec<u8>,
@@ -130,6 +139,7 @@ fn push_relay(local: &Local, out: &mut Vec<u8>, depth: usize, relay: &Relay) -> 
     Ok(())
 }
 
+/// Appends a line for each relay of a choice.
 pub fn push_relays(
     local: &Local,
     out: &mut Vec<u8>,
@@ -156,6 +166,7 @@ fn push_test(local: &Local, out: &mut Vec<u8>, depth: usize, test: &Test) -> Res
     Ok(())
 }
 
+/// Appends a line for each test of a choice.
 pub fn push_tests(
     local: &Local,
     out: &mut Vec<u8>,
@@ -170,6 +181,7 @@ pub fn push_tests(
     Ok(())
 }
 
+/// Appends the line that opens a branch, with its number.
 pub fn push_branch(out: &mut Vec<u8>, depth: usize, number: usize) -> Result<(), NoMemory>
     ensures { OnOk result (out.new.items ≡ out.old.items ++ branch_line depth number) }
 {
@@ -178,6 +190,7 @@ pub fn push_branch(out: &mut Vec<u8>, depth: usize, number: usize) -> Result<(),
     push_pieces(out, &[b"branch ", buffer.format(number).as_bytes(), b"\n"])
 }
 
+/// Appends the line of a `Send`.
 pub fn push_send(
     local: &Local,
     out: &mut Vec<u8>,
@@ -194,6 +207,7 @@ pub fn push_send(
     Ok(())
 }
 
+/// Appends the line of a `Recv`.
 pub fn push_recv(
     local: &Local,
     out: &mut Vec<u8>,
@@ -210,6 +224,7 @@ pub fn push_recv(
     Ok(())
 }
 
+/// Appends the line of a `Run`.
 pub fn push_run(local: &Local, out: &mut Vec<u8>, depth: usize, kernel: u32) -> Result<(), NoMemory>
     ensures { OnOk result (out.new.items ≡ out.old.items ++ run_line (program_of local.now) depth kernel) }
 {
@@ -217,6 +232,7 @@ pub fn push_run(local: &Local, out: &mut Vec<u8>, depth: usize, kernel: u32) -> 
     push_pieces(out, &[b"run ", local.kernel_name(kernel), b"\n"])
 }
 
+/// Appends the line of a `Broadcast`.
 pub fn push_broadcast(
     local: &Local,
     out: &mut Vec<u8>,
@@ -233,6 +249,7 @@ pub fn push_broadcast(
     Ok(())
 }
 
+/// Appends the line of a `Reduce`.
 pub fn push_reduce(
     local: &Local,
     out: &mut Vec<u8>,
@@ -251,6 +268,7 @@ pub fn push_reduce(
     Ok(())
 }
 
+/// Appends the line of an `Allreduce`.
 pub fn push_allreduce(
     local: &Local,
     out: &mut Vec<u8>,

@@ -8,6 +8,7 @@ ghost use Rattle.pb_local.specs.Tree.{program_of};
 use crate::{Base, Guard, Lin, Local, NoMemory, Op, Peer, push_pieces};
 use pb_text::{push_decimal, push_number};
 
+/// Appends an offset with its sign, or nothing for 0.
 pub fn push_offset(out: &mut Vec<u8>, off: i32) -> Result<(), NoMemory>
     ensures { OnOk result (out.new.items ≡ out.old.items ++ offset_text off) }
 {
@@ -21,6 +22,7 @@ pub fn push_offset(out: &mut Vec<u8>, off: i32) -> Result<(), NoMemory>
     Ok(())
 }
 
+/// Appends a lin: a number, or `N` or `i` and the offset.
 pub fn push_lin(out: &mut Vec<u8>, lin: Lin) -> Result<(), NoMemory>
     ensures { OnOk result (out.new.items ≡ out.old.items ++ lin_text lin) }
 {
@@ -118,6 +120,7 @@ fn push_to(out: &mut Vec<u8>, to: Option<u32>) -> Result<(), NoMemory>
     Ok(())
 }
 
+/// Appends a guard: its role, its ends in brackets, and its bounds on N, where it has them.
 pub fn push_guard(local: &Local, out: &mut Vec<u8>, guard: Guard) -> Result<(), NoMemory>
     ensures { OnOk result (out.new.items ≡ out.old.items ++ guard_text (program_of local.now) guard) }
 {
@@ -137,6 +140,7 @@ fn push_others(local: &Local, out: &mut Vec<u8>, guards: &[Guard]) -> Result<(),
     Ok(())
 }
 
+/// Appends guards with ` or ` between them.
 pub fn push_guards(local: &Local, out: &mut Vec<u8>, guards: &[Guard]) -> Result<(), NoMemory>
     ensures { OnOk result (out.new.items ≡ out.old.items ++ guards_text (program_of local.now) guards.now) }
 {
@@ -149,6 +153,7 @@ pub fn push_guards(local: &Local, out: &mut Vec<u8>, guards: &[Guard]) -> Result
     }
 }
 
+/// Appends a rank: the name of its role, and its lin in brackets.
 pub fn push_peer(local: &Local, out: &mut Vec<u8>, peer: Peer) -> Result<(), NoMemory>
     ensures { OnOk result (out.new.items ≡ out.old.items ++ peer_text (program_of local.now) peer) }
 {
@@ -158,6 +163,7 @@ pub fn push_peer(local: &Local, out: &mut Vec<u8>, peer: Peer) -> Result<(), NoM
     Ok(())
 }
 
+/// The word of an operation.
 pub fn op_name(op: Op) -> &'static [u8]
     ensures { result.now ≡ op_text op }
 {

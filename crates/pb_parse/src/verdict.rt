@@ -18,7 +18,7 @@ use std::alloc::Global;
 /// The tree of a protocol file.
 ///
 /// The bytes are at most 67,108,864. There is a tree exactly where the bytes are a text of the grammar within the limits,
-/// and `ParseFault` says which fault comes where there is none.
+/// and `ParseFault` says which fault comes where there is none. The same as `text_verdict`, with the clause `only`.
 #[tactic(auto, using(crate::proofs::Texts::only_text))]
 pub fn parse(alloc: Global, bytes: &[u8]) -> Result<FileTree, ParseFault>
     requires { length bytes.now ≤ 67108864 }
@@ -38,7 +38,7 @@ fn text_verdict(alloc: Global, bytes: &[u8]) -> Result<FileTree, ParseFault>
     parse_tokens(alloc, &tokens, bytes)
 }
 
-/// The tree of the tokens of a whole text, and its bytes.
+/// The tree of the tokens of a whole text, and its bytes. The same as `verdict`, with the clause `only`.
 #[tactic(auto, using(crate::proofs::Together::only))]
 pub(crate) fn parse_tokens(
     alloc: Global,

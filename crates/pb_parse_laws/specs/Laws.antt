@@ -13,7 +13,7 @@ use Rattle.pb_core_file_rules.specs.Lowering.{IsCountable}
 abbrev pub IsTreeOf : List ℕ → PlainFile → Type 0
 IsTreeOf bytes file = OfTokens bytes (λ tokens. IsFile tokens file × AreWithin tokens)
 
--- what is counted in a file of at most 1,048,576 bytes has a number of 32 bits
+-- what is counted in a file of at most 67,108,864 bytes has a number of 32 bits
 abbrev pub ParsedIsCountable : Type 0
 ParsedIsCountable = (bytes : List ℕ) (file : PlainFile) → length bytes ≤ 67108864 → IsTreeOf bytes file → IsCountable file
 

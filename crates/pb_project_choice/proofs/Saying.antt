@@ -4,6 +4,7 @@ use Rattle.std.specs.List.{All, Contains}
 use Rattle.std.proofs.lemmas.Bool.{and_parts, or_cases, true≢false, false≢true}
 use Rattle.std.proofs.lemmas.Bool.Decides.{nat_tests}
 use Rattle.std.proofs.lemmas.Int.{ints}
+use Rattle.std.proofs.Math.Bool.{or-false, or_assoc}
 use Rattle.pb_affine.specs.declared.lin.Base.{Base}
 use Rattle.pb_affine.specs.declared.lin.Base.TheVariants.{Fixed, Param, Var}
 use Rattle.pb_affine.specs.declared.guard.Guard.{Guard}
@@ -168,24 +169,16 @@ no_guard range a g cuts list roles n i role x same r h f within is_one it (inr f
 
 -- ---- lists of guards
 
-or_assoc : (a b c : Bool) → a || (b || c) ≡ (a || b) || c
-or_assoc true b c = refl
-or_assoc false b c = refl
-
-or_false : (a : Bool) → a ≡ a || false
-or_false true = refl
-or_false false = refl
-
 pub hold_append : (xs ys : List Guard) (n i : ℤ) (role : ℕ) (x : ℤ) → hold (xs ++ ys) n i role x ≡ hold xs n i role x || hold ys n i role x
 hold_append [] ys n i role x = refl
-hold_append (g ∷ xs) ys n i role x = ap (λ z. holds g n i role x || z) (hold_append xs ys n i role x) ∙ or_assoc (holds g n i role x) _ _
+hold_append (g ∷ xs) ys n i role x = ap (λ z. holds g n i role x || z) (hold_append xs ys n i role x) ∙ sym (or_assoc (holds g n i role x) _ _)
 
 pub hold_pushed : (xs ys : List Guard) (g : Guard) (h : Bool) (n i : ℤ) (role : ℕ) (x : ℤ) → ys ≡ xs ++ g ∷ [] → holds g n i role x ≡ h → hold ys n i role x ≡ hold xs n i role x || h
 hold_pushed xs ys g h n i role x e eh =
-    ap (λ z. hold z n i role x) e ∙ hold_append xs (g ∷ []) n i role x ∙ ap (λ z. hold xs n i role x || z) (sym (or_false (holds g n i role x)) ∙ eh)
+    ap (λ z. hold z n i role x) e ∙ hold_append xs (g ∷ []) n i role x ∙ ap (λ z. hold xs n i role x || z) (or-false (holds g n i role x) ∙ eh)
 
 pub unpushed : (o h : Bool) → h ≡ false → o ≡ o || h
-unpushed o h e = or_false o ∙ ap (λ z. o || z) (sym e)
+unpushed o h e = sym (or-false o) ∙ ap (λ z. o || z) (sym e)
 
 -- the guards with an area's, or without it
 pub added : (range : NRange) (a : Area) (g : Guard) (roles : ℕ) (old new : List Guard) → IsGuardOf range a g → (new ≡ old ++ g ∷ []) ⊎ ((new ≡ old) × ((roles ≤ g.role) ⊎ IsBeyond g.from)) →

@@ -53,7 +53,8 @@ fn fault_at(format: Format, count: usize, rest: &[u8]) -> Option<ScheduleFault>
 /// Format 2 has the line `pabble schedule 2`, the line `seed B`, and a line for each event: its rank, a space, and `e`
 /// for eager or `w` for waiting. Format 1 has `pabble schedule 1` and the rank alone; each event is eager. Numbers are
 /// decimal without leading zeros, the seed below 2^64 and ranks below 2^32; each line ends with a line feed. `BadLine`
-/// is the first line that isn't so, `TooMany` the line of event 1,000,001 if the lines up to it are.
+/// is the first line that isn't so, `TooMany` the line of event 1,000,001 if the lines up to it are. The same as `read`,
+/// with the clause that each text of a schedule is read.
 pub fn read_schedule(alloc: Global, bytes: &[u8]) -> Result<Schedule, ScheduleFault>
     ensures ok { IfOk result (λ s. IsSchedule bytes.now s.seed s.turns.items) }
     ensures fault { IfErr result (λ fault. IsFault bytes.now fault) }

@@ -13,7 +13,8 @@ use Rattle.pb_local.specs.Tree as L
 use Rattle.pb_local.specs.Tree.{Codes, nothing, more}
 use Rattle.pb_local.specs.WellMade as W
 use Rattle.pb_local.specs.WellMade.{Scope, IsRole, IsGuard, AreGuards, IsPeer, IsRelay, IsTest, IsChoice, IsMade, AreMade, IsWellMade, IsLabelRow, AreLabels}
-use Rattle.pb_shape.specs.Shape.{peer_of, alone}
+use Rattle.pb_shape.specs.Places.{peer_of}
+use Rattle.pb_shape.specs.Guards.{alone}
 use Rattle.pb_shape.specs.Theorem.{DoesRun}
 use Rattle.pb_shape_ranks.specs.Worked.{signal}
 use Rattle.pb_shape_ranks.specs.Rounds.{end_at, rounds, everybody, just, told_text, relays, test_of, tests, choosing, rounds_text}

@@ -11,8 +11,13 @@ use Rattle.pb_core_endpoint.specs.Core.{IsProper}
 use Rattle.pb_local.specs.Tree as L
 use Rattle.pb_local.specs.Tree.{nothing, more}
 use Rattle.pb_local.specs.WellMade.{IsRole, IsGuard, AreGuards, IsMade, IsWellMade, IsLabelRow, outermost}
+use Rattle.pb_shape.specs.Guards as G
+use Rattle.pb_shape.specs.Items as I
+use Rattle.pb_shape.specs.Pieces as P
 use Rattle.pb_shape.specs.Shape as S
-use Rattle.pb_shape.specs.Shape.{Names, Somebody, is_end, peer_of, scope_of, everywhere, HasShape}
+use Rattle.pb_shape.specs.Places.{is_end, peer_of, scope_of, everywhere}
+use Rattle.pb_shape.specs.Guards.{Names, Somebody}
+use Rattle.pb_shape.specs.Shape.{HasShape}
 use Rattle.pb_shape.specs.Theorem.{DoesRun}
 use Rattle.pb_shape_ranks.specs.Worked.{number, from_n, worker, only, signal, first_to_last, receiver, first_to_last_text}
 use Rattle.pb_shape_ranks.proofs.Theorem.{text_ranks}
@@ -39,7 +44,7 @@ shape = record {
   roles = refl;
   labels = refl;
   kernels = refl;
-  body = S.piece (S.item (S.message {middle = receiver} (S.there (names (number (pos 0))) first_is) (S.there (names (from_n (negsuc 0))) last_is))) S.none;
+  body = S.piece (P.item (I.message {middle = receiver} (G.there (names (number (pos 0))) first_is) (G.there (names (from_n (negsuc 0))) last_is))) S.none;
 }
 
 -- ---- it is well made

@@ -20,7 +20,7 @@ fn is_mark(mark: Mark, kind: &TokenKind) -> bool
     ensures { result ≡ is_mark mark kind.now }
 {
     match kind {
-        TokenKind::Mark(other) => *other as u8 == mark as u8,
+        TokenKind::Mark(other) => *other == mark,
         TokenKind::Key(_) | TokenKind::Word(_) | TokenKind::Number(_) => false,
     }
 }
@@ -29,7 +29,7 @@ fn is_key(key: Key, kind: &TokenKind) -> bool
     ensures { result ≡ is_key key kind.now }
 {
     match kind {
-        TokenKind::Key(other) => *other as u8 == key as u8,
+        TokenKind::Key(other) => *other == key,
         TokenKind::Mark(_) | TokenKind::Word(_) | TokenKind::Number(_) => false,
     }
 }

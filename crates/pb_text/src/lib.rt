@@ -2,6 +2,7 @@
 #![tactic(auto)]
 
 mod action;
+mod limits;
 mod memory;
 mod mode;
 mod name;
@@ -16,6 +17,7 @@ mod token;
 mod words;
 
 pub use action::{Action, Joint};
+pub use limits::{LEAST_OFFSET, MOST_EVENTS, MOST_NUMBER, MOST_OFFSET, MOST_TEXT_BYTES};
 pub use memory::NoMemory;
 pub use mode::Mode;
 pub use name::Name;
