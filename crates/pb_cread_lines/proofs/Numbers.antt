@@ -8,7 +8,7 @@ use Rattle.pb_affine.specs.declared.lin.Base.TheVariants.{Fixed, Param, Var}
 use Rattle.pb_affine.specs.declared.lin.Lin.{Lin}
 use Rattle.pb_ctree.specs.Small.{offset_text, lin_text}
 use Rattle.pb_cread_lines.specs.Fits.{FitsOffset}
-use Rattle.pb_text_read.proofs.Numbers.{begins_digit, number_again as below_again, decimal_first as front_differs}
+use Rattle.pb_text_read.proofs.Digits.{begins_digit, number_again as below_again, decimal_first as front_differs}
 use Rattle.pb_cread_lines.specs.Parts.{strip, number_at, offset_at, signed_at, narrow, based_at, lin_of, lin_at}
 
 -- what may stand behind a lin

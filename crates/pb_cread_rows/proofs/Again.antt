@@ -10,7 +10,7 @@ use Rattle.pb_local.specs.Names.{is_letter, is_word, is_name}
 use Rattle.pb_ctree.specs.Small.{offset_text, lin_text}
 use Rattle.pb_ctree.specs.Rules.{is_offset, is_var}
 use Rattle.pb_text_read.specs.Fronts.{strip}
-use Rattle.pb_text_read.proofs.Numbers.{begins_digit, decimal_first, number_again as below_again}
+use Rattle.pb_text_read.proofs.Digits.{begins_digit, decimal_first, number_again as below_again}
 use Rattle.pb_cread_rows.specs.Parts.{number_at, small_at, minus, signed_at, offset_at, lin_of, lin_at, goes_on_name, word_of, behind_word, name_at}
 
 pub and_left : (a b : Bool) → (a && b) ≡ true → a ≡ true

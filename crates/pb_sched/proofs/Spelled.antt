@@ -7,7 +7,7 @@ use Rattle.std.proofs.lemmas.Bool.Decides.{nat_tests}
 use Rattle.std.proofs.lemmas.Fmt.{decimal-digits_value, decimal_digit, first_decimal}
 use Rattle.pb_text.specs.Lexemes.{value_from}
 use Rattle.pb_text_read.specs.Fronts.{digits_below, number_below}
-use Rattle.pb_text_read.proofs.Numbers.{begins_digit, own, number_again as below_again}
+use Rattle.pb_text_read.proofs.Digits.{begins_digit, own, number_again as below_again}
 use Rattle.pb_sched.specs.Parts.{number_at}
 use Rattle.pb_sched.proofs.Strips.{some_pair}
 

@@ -4,9 +4,9 @@
 #![tactic(auto)]
 
 mod front;
-mod number;
+mod numbers;
 #[cfg(test)]
 mod tests;
 
 pub use front::strip;
-pub use number::number;
+pub use numbers::number;

@@ -1,6 +1,6 @@
 use Rattle.std.proofs.Common.{◌≡◌, ◌<◌, drop}
 use Rattle.pb_text_read.specs.Fronts.{digits_below}
-use Rattle.pb_text_read.proofs.number.digits.Given as goal
+use Rattle.pb_text_read.proofs.numbers.digits.Given as goal
 
 abbrev pub invariant-loop-at : goal.invariant-loop-at
 invariant-loop-at l = record {
