@@ -1,6 +1,7 @@
 -- The status and the last line of each ending.
 use Rattle.std.specs.Prelude.{◌≡◌, ℕ, ◌+◌, ◌≤◌, ◌⊎◌, List, [], ◌∷◌, ◌++◌, Option, codes, decimal}
 use Rattle.std.specs.List.{flat_map}
+use Rattle.pb_text.specs.declared.limits.TheConstants.{MOST_EVENTS}
 use Rattle.pb_local.specs.Tables.{label_at}
 use Rattle.pb_local.specs.Tree.{Program}
 use Rattle.pb_cli_words.specs.declared.options.Shown.{Shown}
@@ -69,7 +70,7 @@ abbrev pub IsEarly : Ending → Type 0
 IsEarly E.Ended = Unit {0}
 IsEarly (E.Stuck rank cause) = Unit {0}
 IsEarly E.Turns = Unit {0}
-IsEarly (E.Refused t) = t ≤ 1000000
+IsEarly (E.Refused t) = t ≤ MOST_EVENTS
 IsEarly E.Full = Unit {0}
 IsEarly E.NoMemory = Unit {0}
 IsEarly E.WriteFault = Unit {0}

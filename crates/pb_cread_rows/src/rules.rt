@@ -10,12 +10,12 @@ ghost use Rattle.pb_cread_rows.specs.Spelled.{names_of_roles, names_of_labels, n
 use crate::names::is_name;
 use crate::sums::ranks;
 use pb_ctree::{Base, CoreKernel, CoreLabel, Lin, NRange, Name, Payload, Role};
-use pb_text::Names;
+use pb_text::{LEAST_OFFSET, MOST_NUMBER, MOST_OFFSET, Names};
 
 fn is_number(n: u32) -> bool
     ensures { result ≡ is_number n }
 {
-    n <= 2_000_000_000
+    n <= MOST_NUMBER
 }
 
 fn is_upper_end(low: u32, high: Option<u32>) -> bool
@@ -37,7 +37,7 @@ pub fn is_range(range: NRange) -> bool
 fn is_offset(off: i32) -> bool
     ensures { result ≡ is_offset off }
 {
-    -1_000_000 <= off && off <= 1_000_000
+    LEAST_OFFSET <= off && off <= MOST_OFFSET
 }
 
 fn is_var(base: Base) -> bool

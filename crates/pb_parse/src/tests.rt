@@ -1,6 +1,6 @@
 use super::*;
 use pb_syntax::print_file;
-use pb_text::{Key, Place, Quantity};
+use pb_text::{Key, MOST_TEXT_BYTES, Place, Quantity};
 use std::alloc::Global;
 use std::test::Fail;
 
@@ -37,7 +37,7 @@ fn at(line: u32, col: u32) -> Place {
 }
 
 fn fault_of(alloc: Global, text: &[u8]) -> Option<ParseFault> {
-    if text.len() > 67_108_864 {
+    if text.len() > MOST_TEXT_BYTES as usize {
         return None;
     }
     parse(alloc, text).err()
@@ -227,7 +227,7 @@ fn takes_no_keyword_for_a_name(rt: HostRuntime) -> Result<(), Fail> {
 fn reads_back_what_was_printed(rt: HostRuntime) -> Result<(), Fail> {
     let alloc = rt.alloc();
     for text in [PAIR, WHOLE] {
-        if text.len() > 67_108_864 {
+        if text.len() > MOST_TEXT_BYTES as usize {
             return Ok(());
         }
         let file = parse(alloc, text).map_err(|_| "parse")?;

@@ -5,6 +5,7 @@ use Rattle.std.proofs.lemmas.Bool.{and_parts, or_cases, true≢false, false≢tr
 use Rattle.std.proofs.lemmas.Bool.Decides.{nat_tests}
 use Rattle.std.proofs.lemmas.Int.{ints}
 use Rattle.std.proofs.Math.Bool.{or-false, or_assoc}
+use Rattle.pb_text.specs.declared.limits.TheConstants.{MOST_NUMBER}
 use Rattle.pb_affine.specs.declared.lin.Base.{Base}
 use Rattle.pb_affine.specs.declared.lin.Base.TheVariants.{Fixed, Param, Var}
 use Rattle.pb_affine.specs.declared.guard.Guard.{Guard}
@@ -23,7 +24,7 @@ use Rattle.pb_core_language.specs.Rules.{is_seat}
 use Rattle.pb_core_language.specs.Verdict.{IsIn, IsUpTo}
 use Rattle.pb_core_flat.specs.Seated.{is_rank}
 use Rattle.pb_core_flat.proofs.Seats.{seat_in_role}
-use Rattle.pb_local.specs.WellMade.{IsRange, IsBoundIf, most_number}
+use Rattle.pb_local.specs.WellMade.{IsRange, IsBoundIf}
 use Rattle.pb_project_choice.specs.Sayable.{division, IsBeyond, IsGuardOf}
 
 -- ---- edges are small, or past the range
@@ -67,7 +68,7 @@ past : (high : Option ℕ) (t : ℕ) (n : ℤ) → is_up_to (pos t +ℤ pos 1) h
 past None t n e k = absurd (true≢false e)
 past (Some h) t n e k = sym (past_is t h n e k)
 
-too_far : (t : ℕ) (m : ℤ) → most_number < t → m ≡ pos t +ℤ pos 1 → m ≤ℤ pos 2000000000 → ⊥
+too_far : (t : ℕ) (m : ℤ) → MOST_NUMBER < t → m ≡ pos t +ℤ pos 1 → m ≤ℤ pos 2000000000 → ⊥
 too_far t m h e k = omega (arith, ints, h, e, k)
 
 beyond : (range : NRange) (cuts : List Lin) (to : Option ℕ) (n : ℤ) → IsRange range → All IsCut cuts → IsEdgeIf (division range cuts) (pos 1) to → IsIn range n → IsBeyond to → true ≡ is_up_to n to
@@ -149,7 +150,7 @@ from_past : (high : Option ℕ) (f : ℕ) (n : ℤ) → is_up_to (pos f +ℤ pos
 from_past None f n e k = absurd (true≢false e)
 from_past (Some h) f n e k = late f h n e k
 
-far_from : (f : ℕ) (m : ℤ) → most_number < f → m ≡ pos f +ℤ pos 0 → m ≤ℤ pos 2000000000 → ⊥
+far_from : (f : ℕ) (m : ℤ) → MOST_NUMBER < f → m ≡ pos f +ℤ pos 0 → m ≤ℤ pos 2000000000 → ⊥
 far_from f m h e k = omega (arith, ints, h, e, k)
 
 not_yet : (range : NRange) (cuts : List Lin) (from : Option ℕ) (n : ℤ) → IsRange range → All IsCut cuts → IsEdgeIf (division range cuts) (pos 0) from → IsIn range n → IsBeyond from → is_from_on n from ≡ false

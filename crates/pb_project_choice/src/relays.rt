@@ -25,7 +25,7 @@ use pb_part_areas::{Area, absorb, one, without};
 use pb_part_firsts::{Entry, Kind, Source};
 use pb_part_takers::end_area;
 use pb_project_piece::{Setting, is_somebody};
-use pb_text::NoMemory;
+use pb_text::{LEAST_OFFSET, MOST_OFFSET, NoMemory};
 use std::alloc::Global;
 
 fn is_same_base(a: Base, b: Base) -> bool
@@ -111,7 +111,7 @@ fn sources_of(alloc: Global, entries: &[Entry]) -> Result<Vec<Source>, NoMemory>
 fn is_plain_lin(lin: Lin) -> bool
     ensures { result ≡ true → IsPlainLin lin }
 {
-    lin.base != Base::Var && -999_999 <= lin.off && lin.off <= 1_000_000
+    lin.base != Base::Var && LEAST_OFFSET < lin.off && lin.off <= MOST_OFFSET
 }
 
 fn is_plain_until(until: Option<u32>) -> bool

@@ -4,6 +4,7 @@ use Rattle.std.specs.List.{AllByRecursion, flat_map}
 use Rattle.pb_text_read.specs.Fronts.{◌>>=◌, strip, number_below}
 use Rattle.pb_text.specs.declared.mode.Mode.{Mode}
 use Rattle.pb_text.specs.declared.mode.Mode.TheVariants.{Eager, Waiting}
+use Rattle.pb_text.specs.declared.limits.TheConstants.{MOST_EVENTS}
 use Rattle.pb_sched.specs.declared.fault.ScheduleFault.{ScheduleFault}
 use Rattle.pb_sched.specs.declared.fault.ScheduleFault.TheVariants.{BadLine, TooMany}
 use Rattle.pb_sched.specs.declared.format.Format.{Format}
@@ -46,12 +47,12 @@ turn_at format text = number_at text >>= λ rank. cond (nat_lt rank.0 (2 ^ 32)) 
 pub record HasFront (format : Format) (text : List ℕ) (turns : List Turn) (rest : List ℕ) : Type 0 where
   pub is : text ≡ flat_map (turn_line format) turns ++ rest
   pub each : AllByRecursion (IsTurn format) turns
-  pub most : length turns ≤ 1000000
+  pub most : length turns ≤ MOST_EVENTS
 
 -- and there are no more, or 1,000,000
 pub record HasTurns (format : Format) (text : List ℕ) (turns : List Turn) (rest : List ℕ) : Type 0 where
   pub front : HasFront format text turns rest
-  pub stops : (length turns ≡ 1000000) ⊎ (turn_at format rest ≡ None)
+  pub stops : (length turns ≡ MOST_EVENTS) ⊎ (turn_at format rest ≡ None)
 
 abbrev pub fault_by : ℕ → Bool → ScheduleFault
 fault_by line true = TooMany line

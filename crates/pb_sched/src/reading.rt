@@ -8,11 +8,8 @@ use crate::fault::ScheduleFault;
 use crate::format::Format;
 use crate::parts::{head, seed, turn};
 use crate::schedule::{Schedule, Turn};
-use pb_text::NoMemory;
+use pb_text::{MOST_EVENTS, NoMemory};
 use std::alloc::Global;
-
-/// The most events of a schedule.
-const MOST: usize = 1_000_000;
 
 /// Reads the events in front of a text, up to 1,000,000, and gives the rest.
 fn fill<'a>(turns: &mut Vec<Turn>, format: Format, text: &'a [u8]) -> Result<&'a [u8], NoMemory>
@@ -20,7 +17,7 @@ fn fill<'a>(turns: &mut Vec<Turn>, format: Format, text: &'a [u8]) -> Result<&'a
     ensures { IfOk result (λ rest. HasTurns format text.now turns.new.items rest.now) }
 {
     let mut rest = text;
-    while turns.len() < MOST {
+    while turns.len() < MOST_EVENTS as usize {
         match turn(format, rest) {
             Some((next, after)) => {
                 turns.push(next)?;
@@ -34,7 +31,7 @@ fn fill<'a>(turns: &mut Vec<Turn>, format: Format, text: &'a [u8]) -> Result<&'a
 
 /// What is wrong with the line after so many events, if the text doesn't end there.
 fn fault_at(format: Format, count: usize, rest: &[u8]) -> Option<ScheduleFault>
-    requires { count ≤ 1000000 }
+    requires { count ≤ MOST_EVENTS }
     ensures { result ≡ fault_at format count rest.now }
 {
     if rest.is_empty() {

@@ -1,5 +1,6 @@
 -- That the code of a straight statement does a rank's part of it.
 use Rattle.std.specs.Prelude.{◌≡◌, ℕ, ◌+◌, ◌*◌, ◌≤◌, ℤ, pos, negsuc, ◌≤ℤ◌, Bool, true, false, List}
+use Rattle.pb_text.specs.declared.limits.TheConstants.{MOST_NUMBER}
 use Rattle.pb_affine.specs.Values.{value}
 use Rattle.pb_world.specs.Actions.{Kind}
 use Rattle.pb_core_language.specs.declared.tree.CoreEnd.{CoreEnd}
@@ -30,7 +31,7 @@ pub record IsSeated (p : Protocol) (l : Program) (n : ℤ) (r : ℕ) (me : Seat)
   pub shape : HasShape p l
   pub made : IsWellMade l
   pub within : IsIn p.range n
-  pub few : total p.roles n ≤ 2000000000
+  pub few : total p.roles n ≤ MOST_NUMBER
   pub is : is_rank p.roles n me.role me.index ≡ true
   pub number : rank p.roles n me.role me.index ≡ r
 
