@@ -1,5 +1,5 @@
 -- The status and the last line of each ending.
-use Rattle.std.specs.Prelude.{◌≡◌, ℕ, ◌+◌, ◌≤◌, ◌⊎◌, List, [], ◌∷◌, ◌++◌, Option, codes, decimal}
+use Rattle.std.specs.Prelude.{ℕ, ◌+◌, ◌≤◌, List, [], ◌∷◌, ◌++◌, codes, decimal}
 use Rattle.std.specs.List.{flat_map}
 use Rattle.pb_text.specs.declared.limits.TheConstants.{MOST_EVENTS}
 use Rattle.pb_local.specs.Tables.{label_at}

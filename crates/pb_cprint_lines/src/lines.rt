@@ -1,6 +1,6 @@
 //! The lines of statements. Each takes its depth, which is the number of open braces.
 
-ghost use Rattle.std.specs.Prelude.{◌≡◌, ◌++◌, OnOk, decimal};
+ghost use Rattle.std.specs.Prelude.{◌≡◌, ◌++◌, OnOk};
 ghost use Rattle.pb_local.specs.Pieces.{line};
 ghost use Rattle.pb_local.specs.Tables.{kernel_at};
 ghost use Rattle.pb_local.specs.Tree.{program_of};

@@ -1,7 +1,6 @@
 //! Numbers, lins, guards and ranks as they are spelled in C.
 
-ghost use Rattle.std.specs.Prelude.{◌≡◌, ◌++◌, OnOk, Some, None, decimal};
-ghost use Rattle.std.specs.Fmt.{signed_decimal};
+ghost use Rattle.std.specs.Prelude.{◌≡◌, ◌++◌, OnOk, Some, None};
 ghost use Rattle.pb_ctree.specs.Small.{offset_text, lin_text, index_text, from_text, to_text, guard_text, others_text, cond_text, peer_text, root_text, buffer_text, outgoing, incoming, type_text, count_of, op_text, words_text, call_text, reduced_text};
 ghost use Rattle.pb_ctree.specs.Lines.{test_text};
 ghost use Rattle.pb_local.specs.Tree.{program_of};

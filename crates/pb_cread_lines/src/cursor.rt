@@ -1,6 +1,6 @@
 //! Reads numbers and lins.
 
-ghost use Rattle.std.specs.Prelude.{◌≡◌, ◌≤◌, ◌+◌, ◌^◌, ◌-ℤ◌, ◌<ℤ◌, ◌≤ℤ◌, pos, Some, None, false, if◌then◌else◌};
+ghost use Rattle.std.specs.Prelude.{◌≡◌, ◌+◌, ◌-ℤ◌, ◌<ℤ◌, ◌≤ℤ◌, pos, Some, None, false, if◌then◌else◌};
 ghost use Rattle.pb_cread_lines.specs.Parts.{strip, number_at, offset_at, signed_at, narrow, based_at, lin_at, lin_behind, number_behind, bounds_at, index_at, guard_at, GivesTo, Gives};
 
 use pb_ctree::{Base, Guard, Lin, NoMemory};

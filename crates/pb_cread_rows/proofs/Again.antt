@@ -1,6 +1,6 @@
 -- The parts of a line that are spelled are read again.
-use Rattle.std.proofs.Common.{◌≡◌, ℕ, suc, ◌+◌, ◌-◌, ◌*◌, ◌^◌, ◌<◌, ◌≤◌, lt-ltb, le-leb, leb-true, Bool, true, false, cond, List, [], ◌∷◌, ◌++◌, length, Option, Some, None, refl, sym, ap, ◌∙◌, arith, eq-eqb, eqb-true, rules, drop, take}
-use Rattle.std.specs.Prelude.{ℤ, pos, negsuc, int_le, nat_eq, nat_lt, nat_le, codes, decimal, ◌&&◌, not}
+use Rattle.std.proofs.Common.{◌≡◌, ℕ, suc, ◌+◌, ◌-◌, ◌^◌, ◌<◌, ◌≤◌, le-leb, leb-true, Bool, true, false, cond, List, [], ◌∷◌, ◌++◌, length, Option, Some, None, refl, sym, ap, ◌∙◌, arith, eqb-true, rules, drop, take}
+use Rattle.std.specs.Prelude.{ℤ, pos, negsuc, int_le, nat_eq, nat_le, codes, decimal, ◌&&◌, not}
 use Rattle.std.specs.List.{prefix_len, list_all}
 use Rattle.std.specs.Fmt.{signed_decimal}
 use Rattle.pb_affine.specs.declared.lin.Base.{Base}

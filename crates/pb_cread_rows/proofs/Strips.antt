@@ -1,9 +1,8 @@
 -- What a name is.
-use Rattle.std.proofs.Common.{◌≡◌, ℕ, Bool, true, false, cond, List, [], ◌∷◌, length, take, drop, Some, None, refl, sym, nat_eq}
+use Rattle.std.proofs.Common.{◌≡◌, ℕ, Bool, true, false, List, [], ◌∷◌, length, refl}
 use Rattle.std.specs.Prelude.{◌&&◌, nat_lt, not}
 use Rattle.pb_local.specs.Names.{is_word, is_keyword, is_name}
-use Rattle.std.specs.Cmp.Lexicographic.{pointwise}
-use Rattle.std.proofs.Common.{eq-eqb, eqb-true, ltb-true, ◌<◌, arith}
+use Rattle.std.proofs.Common.{ltb-true, ◌<◌, arith}
 
 name_parts : (a b c : Bool) → ((a && b) && c) ≡ true → (a ≡ true) × (b ≡ true)
 name_parts true true c e = (refl, refl)

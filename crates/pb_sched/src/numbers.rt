@@ -1,6 +1,5 @@
 //! Numbers in decimal.
 
-ghost use Rattle.std.specs.Prelude.{◌≡◌};
 ghost use Rattle.pb_sched.specs.Parts.{number_at, GivesTo};
 
 /// Numbers fit 64 bits.
