@@ -2,7 +2,7 @@
 # Builds the program without its proofs, so that a change can be measured before it is proved. It takes what `rt try` hands to
 # clang, leaves out the checks of that, and optimises it as a proved build is. It says nothing of whether the program is right.
 # Callgrind counts a tenth more instructions than on the proved program. Hints on inlining are lost: INLINE and NOINLINE may be
-# given, regular expressions of functions' names, such as 'pb_sched::numbers::push_decimal'. Takes the program to write.
+# given, regular expressions of functions' names, such as 'pb_text::number::push_decimal'. Takes the program to write.
 program=$(readlink -m "${1:?the program to write}")
 top=$(readlink -f "$(dirname "$0")/..")
 kit=$(dirname "$(rt doc)")
