@@ -1,4 +1,3 @@
-pub mod Order
 pub mod Improving
 pub mod Leasts
 pub mod FlawSteps

@@ -92,7 +92,7 @@ fn earlier(a: Option<Place>, b: Option<Place>) -> Option<Place>
 
 /// How the statements of the block end.
 #[cycle(endings)]
-#[tactic(auto, using(crate::proofs::Endless::free_step, std::proofs::Math::Bool::and_assoc, std::proofs::Math::Bool::and-true, crate::proofs::Firsts::or_first_none))]
+#[tactic(auto, using(crate::proofs::Endless::free_step, crate::proofs::Endless::and_both, crate::proofs::Endless::and_true, crate::proofs::Firsts::or_first_none))]
 pub fn ending_in(block: &Block) -> Ending
     ensures can { result.can_end ≡ all_can_end (plain_block block.now).list }
     ensures loops { result.loops_can_end ≡ all_loops_can_end (plain_block block.now).list }
@@ -107,7 +107,7 @@ pub fn ending_in(block: &Block) -> Ending
 }
 
 #[cycle(endings)]
-#[tactic(auto, using(crate::proofs::Endless::branch_step, std::proofs::Math::Bool::or_assoc, std::proofs::Math::Bool::or-false, std::proofs::Math::Bool::and_assoc, std::proofs::Math::Bool::and-true, crate::proofs::Firsts::or_first_none))]
+#[tactic(auto, using(crate::proofs::Endless::branch_step, crate::proofs::Endless::or_both, crate::proofs::Endless::or_false, crate::proofs::Endless::and_both, crate::proofs::Endless::and_true, crate::proofs::Firsts::or_first_none))]
 fn ending_among(branches: &[Block]) -> Ending
     ensures can { result.can_end ≡ some_can_end (branches_of (map plain_block branches.now)) }
     ensures loops { result.loops_can_end ≡ branches_loops_can_end (branches_of (map plain_block branches.now)) }

@@ -14,7 +14,7 @@ use Rattle.pb_cread_statements.specs.Marks.{counted, marks_all, begun_in}
 use Rattle.pb_cread_statements.specs.Reading.{State, Place, nothing_read, goes_on, read, finished}
 use Rattle.pb_cread_statements.proofs.Laws.{reads_fronts, reads_statements}
 use Rattle.pb_cread_statements.proofs.Marked.{marks_statements}
-use Rattle.pb_cread_unique.proofs.Fitted.{Keeps, goes_keeps, read_keeps, first_read, start}
+use Rattle.pb_cread_statements.proofs.Fitted.{Keeps, goes_keeps, read_keeps, first_read, start}
 use Rattle.pb_cread_unique.proofs.Alike.{one_item, no_end}
 
 abbrev pub places : List Line → List Place

@@ -3,7 +3,7 @@ use Rattle.std.specs.Prelude.{◌≡◌, ℕ, ℤ, true, false, List}
 use Rattle.pb_affine.specs.declared.guard.Guard.{Guard}
 use Rattle.pb_affine.specs.Values.{hold}
 use Rattle.pb_core_language.specs.Verdict.{IsIn}
-use Rattle.pb_core_flat.specs.Seated.{rank, is_rank}
+use Rattle.pb_core_flat.specs.Seated.{is_rank}
 use Rattle.pb_local.specs.Tree.{Code, Codes, nothing, more}
 use Rattle.pb_local.specs.Tree as L
 use Rattle.pb_shape.specs.Places.{Scope, Who, Here}

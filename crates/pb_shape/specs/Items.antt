@@ -11,10 +11,10 @@ use Rattle.pb_shape.specs.Guards.{alone, Nobody, One}
 module _ (sc : Scope) (h : Here) where
   pub data Item (tail : Codes) : StmtTree → Codes → Type 0 where
     message : {l : ℕ} {f t : CoreEnd} {middle codes : Codes} →
-        One (is_end f) (alone (L.send l (peer_of t))) middle codes → One (is_end t) (alone (L.recv l (peer_of f))) tail middle → Item tail (T.message l f t) codes
-    run : {k : ℕ} {e : CoreEnd} {codes : Codes} → One (is_end e) (alone (L.run k)) tail codes → Item tail (T.run k e) codes
+        One sc h (is_end f) (alone (L.send l (peer_of t))) middle codes → One sc h (is_end t) (alone (L.recv l (peer_of f))) tail middle → Item tail (T.message l f t) codes
+    run : {k : ℕ} {e : CoreEnd} {codes : Codes} → One sc h (is_end e) (alone (L.run k)) tail codes → Item tail (T.run k e) codes
 
   pub data Items : BlockTree → Codes → Type 0 where
     none : Items T.nothing nothing
     item : {m : Mark} {s : StmtTree} {rest : BlockTree} {tail codes : Codes} → Item tail s codes → Items rest tail → Items (T.more m s rest) codes
-    unreached : {b : BlockTree} → Nobody everyone → Items b nothing
+    unreached : {b : BlockTree} → Nobody sc h everyone → Items b nothing
