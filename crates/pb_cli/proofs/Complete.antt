@@ -29,7 +29,8 @@ use Rattle.pb_cli_simulate.specs.Sources.{IsTextOf, IsNoText, IsNoSchedule}
 use Rattle.pb_cli_simulate.specs.Replies as R
 use Rattle.pb_cli_simulate.specs.Replies.{Starts}
 use Rattle.pb_cli.specs.declared.answer.Wanted.TheVariants as W
-use Rattle.pb_cli.specs.Reply.{IsFileReply, IsUsage, Makes, Says, SaysOf, most_bytes, refusal_of}
+use Rattle.pb_cli_status.specs.Written.{Says}
+use Rattle.pb_cli.specs.Reply.{IsFileReply, IsUsage, Makes, SaysOf, most_bytes, refusal_of}
 use Rattle.pb_cli.specs.Run.{MayRun, IsRunReply, SaysRun, SaysRunReply}
 use Rattle.pb_cli.specs.Program.{SaysReply}
 use Rattle.pb_cli.specs.Complete.{Comes, Completes, IsComplete}

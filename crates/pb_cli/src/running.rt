@@ -10,9 +10,8 @@ ghost use Rattle.pb_cli.specs.Run.{IsFileRefusal, IsTreeOf, SaysRun};
 
 use crate::file::bytes_in;
 use crate::refusing::refusal_of;
-use crate::saying::refuse;
 use pb_cli_simulate::simulate_tree;
-use pb_cli_status::{Refusal, Status};
+use pb_cli_status::{Refusal, Status, refuse};
 use pb_cli_words::Options;
 use pb_compile::{CTree, compile};
 use pb_io::{Folder, Sink};

@@ -12,7 +12,7 @@ use Rattle.pb_sched.specs.declared.schedule.Turn.{Turn}
 use Rattle.pb_cli_words.specs.declared.options.Options.{Options}
 use Rattle.pb_cli_words.specs.declared.options.Shown.TheVariants.{Log}
 use Rattle.pb_sim_play.specs.Plans.{drawn, given, pair_of}
-use Rattle.pb_cli_simulate.specs.Endings.{Says}
+use Rattle.pb_cli_status.specs.Written.{Says}
 use Rattle.pb_cli_simulate.specs.Replies.{SaysReply}
 use Rattle.pb_cli_simulate.specs.Sources.{IsTextOf, IsNoText, IsNoSchedule}
 

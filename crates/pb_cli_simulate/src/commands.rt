@@ -10,10 +10,9 @@ ghost use Rattle.pb_cli_status.specs.declared.status.Status.TheVariants as S;
 ghost use Rattle.pb_cli_simulate.specs.Commands.{OnShort, IsUntaken, SaysReplay, SaysSim};
 ghost use Rattle.pb_cli_simulate.specs.Sources.{IsTextOf, IsNoText, IsNoSchedule};
 
-use crate::finish::refuse;
 use crate::simulate::{replay_tree, simulate_tree};
 use crate::sources::{read_text, read_turns};
-use pb_cli_status::{Refusal, Status};
+use pb_cli_status::{Refusal, Status, refuse};
 use pb_cli_words::Options;
 use pb_ctree::CTree;
 use pb_io::{Folder, InFault, Sink, read_all};

@@ -10,8 +10,8 @@ ghost use Rattle.pb_sim.specs.Made.{IsBegun, IsNoStart};
 ghost use Rattle.pb_sim_play.specs.Plans.{drawn, given, pair_of};
 ghost use Rattle.pb_cli_simulate.specs.Replies.{refusal_of, SaysReply};
 
-use crate::finish::{finish, refuse};
-use pb_cli_status::{Refusal, Status};
+use crate::finish::finish;
+use pb_cli_status::{Refusal, Status, refuse};
 use pb_cli_words::{Options, Shown};
 use pb_ctree::{CTree, NRange};
 use pb_io::Sink;

@@ -58,7 +58,7 @@ impl Formula {
     }
 
     /// The sum with the number of this role's ranks added.
-    fn with_role(self, role: &Role) -> Formula
+    pub fn with_role(self, role: &Role) -> Formula
         requires room { HasRoom self }
         requires small { HasSmallEnds role.now }
         ensures { sum_of result ≡ with_role (sum_of self) role.now }
@@ -102,7 +102,7 @@ fn number_role(
 /// Appends the bases and places of the roles, where the first rank of the first role has the number `first`, and gives
 /// the number behind the last rank.
 #[tactic(auto, using(crate::proofs::Rooms::room_after, crate::proofs::Rooms::room_now))]
-fn number_roles(
+pub fn number_roles(
     roles: &[Role],
     bases: &mut Vec<Formula>,
     places: &mut Vec<Formula>,

@@ -1,7 +1,7 @@
 -- What a text begins with: a head, a seed, an event. Each is read with the bytes behind it.
-use Rattle.std.specs.Prelude.{◌≡◌, ℕ, ◌+◌, ◌-◌, ◌*◌, ◌≤◌, ◌^◌, ◌⊎◌, nat_eq, nat_lt, Bool, true, false, cond, is_some, List, [], ◌∷◌, ◌++◌, length, Option, Some, None, codes}
-use Rattle.std.specs.Char.{is_ascii_digit}
+use Rattle.std.specs.Prelude.{◌≡◌, ℕ, ◌+◌, ◌≤◌, ◌^◌, ◌⊎◌, nat_eq, nat_lt, Bool, true, false, cond, is_some, List, [], ◌∷◌, ◌++◌, length, Option, Some, None, codes}
 use Rattle.std.specs.List.{AllByRecursion, flat_map}
+use Rattle.pb_text_read.specs.Fronts.{◌>>=◌, strip, number_below}
 use Rattle.pb_text.specs.declared.mode.Mode.{Mode}
 use Rattle.pb_text.specs.declared.mode.Mode.TheVariants.{Eager, Waiting}
 use Rattle.pb_text.specs.declared.limits.TheConstants.{MOST_EVENTS}
@@ -12,26 +12,10 @@ use Rattle.pb_sched.specs.declared.format.Format.TheVariants.{One, Two}
 use Rattle.pb_sched.specs.declared.schedule.Turn.{Turn}
 use Rattle.pb_sched.specs.Formats.{turn_line, IsTurn}
 
-infixl 10 ◌>>=◌
-abbrev pub ◌>>=◌ : {A B : Type 0} → Option A → (A → Option B) → Option B
-(Some x) >>= f = f x
-None >>= f = None
-
--- the bytes behind a text
-abbrev pub strip : List ℕ → List ℕ → Option (List ℕ)
-strip [] bytes = Some bytes
-strip (p ∷ ps) [] = None
-strip (p ∷ ps) (b ∷ bytes) = cond (nat_eq p b) (strip ps bytes) None
-
--- more digits, up to a number that fits 64 bits
-abbrev pub digits_at : ℕ → List ℕ → Option (ℕ × List ℕ)
-digits_at n [] = Some (n, [])
-digits_at n (c ∷ cs) = cond (is_ascii_digit c) (cond (nat_lt (10 * n + (c - 48)) (2 ^ 64)) (digits_at (10 * n + (c - 48)) cs) None) (Some (n, c ∷ cs))
-
--- a number: a zero ends it
+-- a number that fits 64 bits: a zero ends it
 abbrev pub number_at : List ℕ → Option (ℕ × List ℕ)
 number_at [] = None
-number_at (c ∷ cs) = cond (nat_eq c 48) (Some (0, cs)) (cond (is_ascii_digit c) (digits_at (c - 48) cs) None)
+number_at (c ∷ cs) = cond (nat_eq c 48) (Some (0, cs)) (number_below (2 ^ 64) (c ∷ cs))
 
 -- the first that is there
 abbrev pub or_else : {A : Type 0} → Option A → Option A → Option A

@@ -7,9 +7,8 @@ ghost use Rattle.pb_sched.specs.declared.format.Format.TheVariants.{Two};
 ghost use Rattle.pb_sched.specs.Formats.{head_line, seed_line, ending, turn_line, layout, IsTurn};
 ghost use Rattle.pb_sched.specs.Outcomes.{IsSchedule};
 
-use crate::numbers::push_decimal;
 use crate::schedule::{Schedule, Turn};
-use pb_text::{Mode, NoMemory};
+use pb_text::{Mode, NoMemory, push_decimal};
 use std::alloc::Global;
 
 fn push_head(out: &mut Vec<u8>, seed: u64) -> Result<(), NoMemory>

@@ -4,6 +4,7 @@ use Rattle.std.proofs.lemmas.Int.{ints}
 use Rattle.std.proofs.lemmas.Bool.Decides.{nat_tests}
 use Rattle.std.proofs.lemmas.List.Elements.{All-nil, All-cons}
 use Rattle.std.specs.Ordering.{int_eq}
+use Rattle.pb_text.specs.Spellings as spellings
 use Rattle.pb_affine.specs.declared.lin.Lin.{Lin}
 use Rattle.pb_affine.specs.Values.{value, IsSmall}
 use Rattle.pb_core_language.specs.Laws.{Numbered, Totalled}
@@ -56,6 +57,7 @@ guard_made : (x : Lin) → IsSmall x.off → AreGuards first_to_last_text (only 
 guard_made x h = record { some = omega arith; each = All-cons (IsGuard first_to_last_text) (only x) [] (record { role = omega arith; small = record { low = h; high = h }; from = tt; to = tt }) (All-nil (IsGuard first_to_last_text)) }
 
 made : IsWellMade first_to_last_text
+unfolding spellings.keys
 made = record {
   protocol = refl;
   range = record { some = omega arith; most = omega arith; high = tt };
