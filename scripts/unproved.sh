@@ -2,7 +2,7 @@
 # Builds the program without its proofs. It takes what `rt try` hands to clang, leaves out the checks of that, and optimises it as a
 # proved build is. It says nothing of whether the program is right. Takes the program to write. For measuring: callgrind counts a
 # tenth more instructions than on the proved program; hints on inlining are lost, so INLINE and NOINLINE may be given, regular
-# expressions of functions' names, such as 'pb_sched::numbers::push_decimal'.
+# expressions of functions' names, such as 'pb_text::number::push_decimal'.
 program=$(readlink -m "${1:?the program to write}")
 top=$(readlink -f "$(dirname "$(readlink -f "$0")")/..")
 command -v rt >/dev/null || { echo "there is no toolchain: put its command rt on the path" >&2; exit 1; }

@@ -1,5 +1,6 @@
 -- The value of a lin, and the ranks of which a guard holds.
 use Rattle.std.specs.Prelude.{ℕ, zero, suc, ◌-◌, ◌^◌, ℤ, pos, negsuc, ◌+ℤ◌, ◌-ℤ◌, ◌≤ℤ◌, Bool, true, false, ◌&&◌, ◌||◌, nat_eq, int_le, Option, Some, None, List, [], ◌∷◌}
+use Rattle.pb_text.specs.declared.limits.TheConstants.{LEAST_OFFSET, MOST_OFFSET}
 use Rattle.pb_affine.specs.declared.lin.Base.{Base}
 use Rattle.pb_affine.specs.declared.lin.Base.TheVariants.{Fixed, Param, Var}
 use Rattle.pb_affine.specs.declared.lin.Lin.{Lin}
@@ -48,8 +49,8 @@ pub record IsNear (x : ℤ) : Type 0 where
   pub high : x ≤ℤ pos (2 ^ 40)
 
 pub record IsSmall (x : ℤ) : Type 0 where
-  pub low : negsuc 999999 ≤ℤ x
-  pub high : x ≤ℤ pos 1000000
+  pub low : LEAST_OFFSET ≤ℤ x
+  pub high : x ≤ℤ MOST_OFFSET
 
 abbrev pub IsSmallIf : Option Lin → Type 0
 IsSmallIf None = Unit {0}

@@ -3,6 +3,7 @@ use Rattle.std.proofs.Common.{◌≡◌, ℕ, ℤ, pos, ◌+ℤ◌, ◌≤ℤ◌
 use Rattle.std.proofs.lemmas.Int.{ints}
 use Rattle.std.specs.List.{All, Contains}
 use Rattle.std.proofs.lemmas.List.Elements.{All-head, All-tail}
+use Rattle.std.proofs.lemmas.Bool.{and_parts, or_cases}
 use Rattle.pb_affine.specs.declared.lin.Lin.{Lin}
 use Rattle.pb_affine.specs.declared.guard.Guard.{Guard}
 use Rattle.pb_affine.specs.Values.{holds, hold, is_at_least, is_at_most, is_from_on, is_up_to}
@@ -92,18 +93,6 @@ record IsBelow (P : Lin → Type 0) (n x : ℤ) : Type 0 where
   has : P e
   le : at e n ≤ℤ x
 
-or_cases : (p q : Bool) → (p || q) ≡ true → (p ≡ true) ⊎ (q ≡ true)
-or_cases true q h = inl refl
-or_cases false q h = inr h
-
-and_left : (p q : Bool) → (p && q) ≡ true → p ≡ true
-and_left true q h = refl
-and_left false q h = h
-
-and_right : (p q : Bool) → (p && q) ≡ true → q ≡ true
-and_right true q h = h
-and_right false q h = absurd cc
-
 five_low : (r p q u v : Bool) → (r && p && q && u && v) ≡ true → (r ≡ true) × (p ≡ true)
 five_low true true q u v h = (refl, refl)
 five_low true false q u v h = absurd (cc)
@@ -134,8 +123,8 @@ pub record IsAtEnd (P : Lin → Type 0) (wanted : Wanted) (a b : List Guard) (n 
   pub there : is_wanted wanted a b n role (at e n) ≡ true
 
 pub wanted_first : (wanted : Wanted) (a b : List Guard) (n : ℤ) (role : ℕ) (x : ℤ) → is_wanted wanted a b n role x ≡ true → hold a n (pos 0) role x ≡ true
-wanted_first Both a b n role x h = and_left (hold a n (pos 0) role x) (hold b n (pos 0) role x) h
-wanted_first FirstAlone a b n role x h = and_left (hold a n (pos 0) role x) (not (hold b n (pos 0) role x)) h
+wanted_first Both a b n role x h = (and_parts (hold a n (pos 0) role x) (hold b n (pos 0) role x) h).0
+wanted_first FirstAlone a b n role x h = (and_parts (hold a n (pos 0) role x) (not (hold b n (pos 0) role x)) h).0
 
 pub wanted_same : (wanted : Wanted) (a b : List Guard) (n m : ℤ) (role : ℕ) (x y : ℤ) → hold a n (pos 0) role x ≡ hold a m (pos 0) role y → hold b n (pos 0) role x ≡ hold b m (pos 0) role y → is_wanted wanted a b n role x ≡ is_wanted wanted a b m role y
 wanted_same Both a b n m role x y p q = ap₂ (λ u v. u && v) p q

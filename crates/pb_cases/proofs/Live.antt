@@ -1,6 +1,7 @@
 -- A guard's span, put to the spans of the guards before it.
-use Rattle.std.proofs.Common.{◌≡◌, ℕ, zero, suc, ◌+◌, ◌<◌, ◌≤◌, ℤ, pos, ◌≤ℤ◌, ◌⊎◌, inl, inr, None, List, [], ◌∷◌, length, get_or, drop, drop-cons, add-one, true, false, Bool, ◌&&◌, ◌||◌, nat_eq, int_le, refl, sym, subst, arith}
+use Rattle.std.proofs.Common.{◌≡◌, ℕ, zero, suc, ◌+◌, ◌<◌, ◌≤◌, ℤ, pos, ◌≤ℤ◌, ◌⊎◌, inl, inr, None, List, [], ◌∷◌, length, get_or, drop, drop-cons, add-one, true, false, Bool, ◌&&◌, nat_eq, int_le, refl, sym, subst, arith}
 use Rattle.std.proofs.lemmas.Int.{ints}
+use Rattle.std.proofs.lemmas.Bool.{or_left, or_right, or_cases}
 use Rattle.pb_affine.specs.declared.guard.Guard.{Guard}
 use Rattle.pb_affine.specs.Values.{value, holds, hold, is_at_least, is_at_most, is_from_on, is_up_to}
 use Rattle.pb_cases.specs.Bounds.{IsBounded, low_end, or_zero}
@@ -9,17 +10,6 @@ use Rattle.pb_cases.specs.Live.{IsCoverOf, IsSpansOf, is_live}
 
 abbrev pub no_guard : Guard
 no_guard = record { role = 0; low = None; high = None; from = None; to = None }
-
-or_cases : (p q : Bool) → (p || q) ≡ true → (p ≡ true) ⊎ (q ≡ true)
-or_cases true q h = inl refl
-or_cases false q h = inr h
-
-or_right : (p q : Bool) → q ≡ true → (p || q) ≡ true
-or_right true q h = refl
-or_right false q h = h
-
-or_left : (p q : Bool) → p ≡ true → (p || q) ≡ true
-or_left p q h = rw h refl
 
 -- the five tests of a guard, taken apart and put together
 apart : (r p q u v : Bool) → (r && p && q && u && v) ≡ true → ((r && true && true && u && v) ≡ true) × (p ≡ true) × (q ≡ true)

@@ -6,6 +6,7 @@ use Rattle.std.proofs.lemmas.Bool.Decides.{nat_tests}
 use borrow.Author.Count.{below_more}
 use Rattle.std.specs.List.{All}
 use Rattle.std.proofs.lemmas.List.Elements.{All-nil, All-cons, All-head, All-tail, All-weaker}
+use Rattle.std.proofs.lemmas.Bool.{or_cases}
 use Rattle.pb_affine.specs.declared.guard.Guard.{Guard}
 use Rattle.pb_affine.specs.declared.range.NRange.{NRange}
 use Rattle.pb_affine.specs.Values.{holds, hold, is_at_least, is_at_most, is_from_on, is_up_to}
@@ -42,14 +43,6 @@ own_of_role role (g ∷ gs) = by_role (nat_eq role g.role) refl (own_of_role rol
   by_role : (t : Bool) → nat_eq role g.role ≡ t → All (IsOfRole role) (of_role role gs) → All (IsOfRole role) (if t then (g ∷ of_role role gs) else of_role role gs)
   by_role true e more = All-cons (IsOfRole role) g (of_role role gs) (role_is role g.role e) more
   by_role false e more = more
-
-or_cases : (p q : Bool) → (p || q) ≡ true → (p ≡ true) ⊎ (q ≡ true)
-or_cases true q h = inl refl
-or_cases false q h = inr h
-
-first_of_five : (r s : Bool) → (r && s) ≡ true → r ≡ true
-first_of_five true s h = refl
-first_of_five false s h = h
 
 five_role : (g : Guard) (n x : ℤ) (r : ℕ) → holds g n (pos 0) r x ≡ true → nat_eq r g.role ≡ true
 five_role g n x r h = take (nat_eq r g.role) (is_at_least x g.low n (pos 0)) (is_at_most x g.high n (pos 0)) (is_from_on n g.from) (is_up_to n g.to) h where

@@ -1,6 +1,6 @@
 -- The first of the lists that are left.
 use Rattle.std.proofs.Common.{◌≡◌, ◌⊎◌, inr, ◌<◌, ◌≤◌, ℕ, Bool, true, false, ◌&&◌, nat_eq, cond, List, [], ◌∷◌, Option, Some, None, refl, sym, ap, subst, ◌∙◌, arith, if◌then◌else◌}
-use Rattle.std.proofs.lemmas.Bool.{eqb-true}
+use Rattle.std.proofs.lemmas.Bool.{eqb-true, and_parts}
 use Rattle.std.proofs.lemmas.Bool.Decides.{nat_tests}
 use Rattle.std.proofs.lemmas.List.Elements.{recursion_from_All}
 use Rattle.std.specs.HashMap.{get, HashMap}
@@ -11,7 +11,6 @@ use Rattle.pb_chan.specs.declared.message.Message.{Message}
 use Rattle.pb_chan.specs.Lists.{messages, label_of, IsFirstLeft}
 use Rattle.pb_chan.specs.Shown.{Queue, shown, items_of, left_of, is_before, lesser, least}
 use Rattle.pb_chan.proofs.Seen.{seen}
-use Rattle.pb_chan.proofs.Written.{left_true, right_true}
 
 abbrev Left : Type 0
 Left = ℕ × ℕ × ℕ
@@ -108,8 +107,8 @@ module _ {S : Type 0} (m : HashMap (ℕ × ℕ) Queue S) where
       go None h = none p q
       go (Some v) h =
           let f = found (λ e. Q e.0.0 e.0.1 e.1.items) (λ k. nat_eq p k.0 && nat_eq q k.1) m.entries v all h in
-          let a : p ≡ f.0.0 = eqb-true p f.0.0 (left_true (nat_eq p f.0.0) (nat_eq q f.0.1) f.1) in
-          let b : q ≡ f.0.1 = eqb-true q f.0.1 (right_true (nat_eq p f.0.0) (nat_eq q f.0.1) f.1) in
+          let a : p ≡ f.0.0 = eqb-true p f.0.0 (and_parts (nat_eq p f.0.0) (nat_eq q f.0.1) f.1).0 in
+          let b : q ≡ f.0.1 = eqb-true q f.0.1 (and_parts (nat_eq p f.0.0) (nat_eq q f.0.1) f.1).1 in
           subst (λ x. Q x q v.items) (sym a) (subst (λ y. Q f.0.0 y v.items) (sym b) f.2)
 
   pub none_left : least None m.entries ≡ None → (p q : ℕ) → messages (shown m) p q ≡ []

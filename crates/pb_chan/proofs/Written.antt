@@ -1,6 +1,6 @@
 -- One list is written, and the others stay.
 use Rattle.std.proofs.Common.{◌≡◌, ℕ, Bool, true, false, ◌&&◌, nat_eq, cond, if◌then◌else◌, Some, List, [], ◌∷◌, ◌++◌, OnErr, Result, Ok, Err, remove, refl, sym, ap, ap₂, ◌∙◌}
-use Rattle.std.proofs.lemmas.Bool.{eqb-true}
+use Rattle.std.proofs.lemmas.Bool.{eqb-true, and_parts}
 use Rattle.std.specs.HashMap.{get, HashMap}
 use Rattle.std.specs.declared.alloc.Global.{Global}
 use Rattle.std.specs.declared.collections.VecDeque.{VecDeque}
@@ -13,21 +13,13 @@ pub on_err : {T E : Type 0} {P : Type 0} (r : Result T E) → P → OnErr r P
 on_err (Ok x) h = tt
 on_err (Err e) h = h
 
-pub left_true : (a b : Bool) → a && b ≡ true → a ≡ true
-left_true true b h = refl
-left_true false b h = h
-
-pub right_true : (a b : Bool) → a && b ≡ true → b ≡ true
-right_true true b h = h
-right_true false b h = cc
-
 module _ {S : Type 0} (m n : HashMap (ℕ × ℕ) (VecDeque Message Global) S) (from to : ℕ) where
   -- n is m with this queue from the one rank to the other
   abbrev pub Updated : VecDeque Message Global → Type 0
   Updated queue = (k : ℕ × ℕ) → get (λ x y. nat_eq x.0 y.0 && nat_eq x.1 y.1) n k ≡ cond (nat_eq from k.0 && nat_eq to k.1) (Some queue) (get (λ x y. nat_eq x.0 y.0 && nat_eq x.1 y.1) m k)
 
   here : (p q : ℕ) → nat_eq from p && nat_eq to q ≡ true → list_at m from to ≡ list_at m p q
-  here p q h = ap₂ (λ a b. list_at m a b) (eqb-true from p (left_true (nat_eq from p) (nat_eq to q) h)) (eqb-true to q (right_true (nat_eq from p) (nat_eq to q) h))
+  here p q h = ap₂ (λ a b. list_at m a b) (eqb-true from p (and_parts (nat_eq from p) (nat_eq to q) h).0) (eqb-true to q (and_parts (nat_eq from p) (nat_eq to q) h).1)
 
   at-pushed : (new : VecDeque Message Global) (x : Message) → Updated new → new.items ≡ list_at m from to ++ x ∷ [] →
       (p q : ℕ) → list_at n p q ≡ (if nat_eq from p && nat_eq to q then list_at m p q ++ x ∷ [] else list_at m p q)

@@ -9,16 +9,13 @@ use Rattle.pb_affine.specs.declared.lin.Base.TheVariants.{Fixed, Param, Var}
 use Rattle.pb_affine.specs.Values.{base_value}
 use Rattle.std.proofs.lemmas.Bool.Decides.{nat_tests}
 use Rattle.std.proofs.lemmas.List.{at_drop_more}
+use Rattle.std.proofs.Math.Bool.{or-false}
 use Rattle.pb_part_areas.specs.declared.area.Area.{Area}
 use Rattle.pb_part_areas.specs.Areas.{has, have}
 use Rattle.pb_part_firsts.specs.declared.firsts.Entry.{Entry}
 use Rattle.pb_part_firsts.specs.declared.firsts.Source.{Source}
 use Rattle.pb_part_firsts.specs.Firsts.{is_small_kind, is_small_off, are_small}
 use Rattle.pb_choice.specs.Clashes.{AddsWhere, AreWhere, agrees, forks, same_base, IsAgreement}
-
-or_false : (b : Bool) → b ≡ b || false
-or_false true = refl
-or_false false = refl
 
 or_step : (w1 w t q all : Bool) → w1 ≡ w || t → w || (t || q) ≡ all → w1 || q ≡ all
 or_step w1 w t q all e h = grind (arith, nat_tests)
@@ -29,7 +26,7 @@ any_step t xs i d w w1 all lt e h =
     or_step w1 w (t (get_or xs i d)) (list_any t (drop (i + 1) xs)) all e (ap (λ z. w || z) (sym (at_drop_more (λ l. list_any t l) xs i d lt)) ∙ h)
 
 pub any_done : (t : Entry → Bool) (xs : List Entry) (i : ℕ) (w all : Bool) → length xs ≤ i → w || list_any t (drop i xs) ≡ all → w ≡ all
-any_done t xs i w all le h = or_false w ∙ ap (λ l. w || list_any t l) (sym (drop_of_length-le xs le)) ∙ h
+any_done t xs i w all le h = sym (or-false w) ∙ ap (λ l. w || list_any t l) (sym (drop_of_length-le xs le)) ∙ h
 
 -- ---- small offsets
 

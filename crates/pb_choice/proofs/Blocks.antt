@@ -5,7 +5,7 @@ use Rattle.pb_affine.specs.declared.range.NRange.{NRange}
 use Rattle.pb_core_language.specs.declared.protocol.CoreRole.{CoreRole}
 use Rattle.pb_core_language.specs.declared.tree.CoreBlock.{CoreBlock, out-CoreBlock}
 use Rattle.pb_core_language.specs.declared.tree.CoreStmt.{CoreStmt}
-use Rattle.pb_core_language.specs.Tree.{Mark, StmtTree, message, foreach, loop, again, choice, run, barrier, broadcast, reduce, allreduce, BlockTree, more}
+use Rattle.pb_core_language.specs.Tree.{Mark, StmtTree, message, foreach, loop, again, choice, run, barrier, broadcast, reduce, allreduce, BlockTree, more, is_again}
 use Rattle.pb_core_language.specs.Plain.{plain_block, plain_stmt, block_of}
 use Rattle.pb_core_language.specs.Run.{Env}
 use Rattle.pb_core_language.specs.Sound.{Rows, is_bound, is_block}
@@ -13,7 +13,6 @@ use Rattle.std.proofs.lemmas.Bool.{and_parts}
 use Rattle.pb_part_areas.specs.declared.area.Area.{Area}
 use Rattle.pb_part_takers.specs.declared.held.Held.{Held}
 use Rattle.pb_part_takers.specs.Loops.{ids_of}
-use Rattle.pb_core_flat.specs.GoesOn.{is_again}
 use Rattle.pb_core_flat.proofs.SoundOnes.{sound_items}
 use Rattle.pb_choice.specs.declared.found.Found.{Found}
 use Rattle.pb_choice.specs.Flaws.{IsFlaw, no_flaws, of_block, of_stmt}
@@ -24,7 +23,8 @@ use Rattle.pb_choice.specs.Walks.{FirstIn, FirstAt}
 use Rattle.pb_choice.proofs.FlawSteps.{SameFlaws, improves_both, improves_empty}
 use Rattle.pb_choice.proofs.Fairs.{goes_if, fair_first, fair_rest}
 use Rattle.pb_choice.proofs.Parts.{block_parts, again_parts, each_parts}
-use Rattle.pb_choice.proofs.Plains.{block_is, drop_is}
+use Rattle.pb_core_language.proofs.Plains.{plain_list}
+use Rattle.pb_choice.proofs.Lists.{drop_is}
 
 -- the statements from here on, and what is left to find in them
 pub record BlockNow (range : NRange) (roles : List CoreRole) (rows : Rows) (env : ℤ → Env) (opens : List ℕ) (all now : BlockTree) (old best : Option Found) : Type 0 where
@@ -62,7 +62,7 @@ ended : (range : NRange) (whole : List Area) (held : List Held) (b : CoreBlock) 
     ((roles : List CoreRole) (env : ℤ → Env) → SameFlaws (of_block roles env (ids_of held) (block_of (map plain_stmt (drop i items)))) no_flaws) →
     BlockSoFar range whole held items i old best → FirstIn range whole held (plain_block b).block old best
 ended range whole held b items i old best same none so_far =
-    subst (λ z. FirstIn range whole held z old best) (ap (λ l. block_of (map plain_stmt l)) same ∙ sym (block_is b)) (record {
+    subst (λ z. FirstIn range whole held z old best) (ap (λ l. block_of (map plain_stmt l)) same ∙ sym (plain_list b)) (record {
       is = λ roles rows env stands fair.
           (so_far.is roles rows env stands fair).rest best (improves_empty range roles (of_block roles env (ids_of held) (block_of (map plain_stmt (drop i items)))) best (none roles env));
     })

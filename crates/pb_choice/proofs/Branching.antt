@@ -1,5 +1,6 @@
 -- The first breach in the branches of a choice, a branch at a time.
-use Rattle.std.proofs.Common.{◌≡◌, ◌<◌, ◌≤◌, ◌+◌, ℕ, ℤ, Bool, true, false, ◌&&◌, Option, List, [], ◌++◌, map, drop, get_or, length, refl, sym, ap, ◌∙◌, subst, drop_of_length-le}
+use Rattle.std.proofs.Common.{◌≡◌, ◌<◌, ◌≤◌, ◌+◌, ℕ, ℤ, Bool, Option, List, [], ◌++◌, map, drop, get_or, length, refl, sym, ap, ◌∙◌, subst, drop_of_length-le}
+use Rattle.std.proofs.Math.Bool.{and-false}
 use Rattle.pb_affine.specs.declared.range.NRange.{NRange}
 use Rattle.pb_core_language.specs.declared.protocol.CoreRole.{CoreRole}
 use Rattle.pb_core_language.specs.declared.tree.CoreBlock.{CoreBlock}
@@ -22,7 +23,7 @@ use Rattle.pb_choice.specs.Walks.{FirstAt, FirstAmong, FirstWithin, IsPast}
 use Rattle.pb_choice.proofs.FlawSteps.{SameFlaws, same_back, improves_both, improves_same, improves_empty}
 use Rattle.pb_choice.proofs.Fairs.{fair_branches, fair_branch, fair_others}
 use Rattle.pb_choice.proofs.Parts.{choice_parts, branch_parts}
-use Rattle.pb_choice.proofs.Plains.{drop_is}
+use Rattle.pb_choice.proofs.Lists.{drop_is}
 
 -- the branches from here on, what was found before them, and what is left to find in them
 pub record AmongNow (range : NRange) (roles : List CoreRole) (rows : Rows) (env : ℤ → Env) (opens : List ℕ) (test : ℤ → ℕ → ℤ → Bool) (all now : BranchTrees)
@@ -39,15 +40,11 @@ pub record AmongSoFar (range : NRange) (whole : List Area) (held : List Held) (t
       AreFair range roles rows (ids_of held) (branches_of (map plain_block items)) → Are range roles told test →
       AmongNow range roles rows env (ids_of held) test (branches_of (map plain_block items)) (branches_of (map plain_block (drop i items))) entries mixed old best
 
-and_false : (b : Bool) → false ≡ b && false
-and_false true = refl
-and_false false = refl
-
 no_past : (range : NRange) (roles : List CoreRole) (test : ℤ → ℕ → ℤ → Bool) → IsPast range roles test (λ n role x. []) [] []
 no_past range roles test = record {
   small = refl;
-  found = λ n role x within r s l. and_false (test n role x);
-  mixed_is = record { is = λ n role x within r. and_false (test n role x) };
+  found = λ n role x within r s l. sym (and-false (test n role x));
+  mixed_is = record { is = λ n role x within r. sym (and-false (test n role x)) };
 }
 
 pub among_start : (range : NRange) (whole : List Area) (held : List Held) (told : List Area) (items : List CoreBlock) (entries : List Entry) (mixed : List Area) (best : Option Found) →

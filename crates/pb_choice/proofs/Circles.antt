@@ -3,12 +3,13 @@ use Rattle.std.proofs.Common.{◌≡◌, ◌<◌, ◌≤◌, ◌+◌, ◌-◌, �
 use Rattle.std.proofs.lemmas.Bool.Decides.{nat_tests}
 use Rattle.pb_core_language.specs.declared.tree.CoreBlock.{CoreBlock, out-CoreBlock}
 use Rattle.pb_core_language.specs.declared.tree.CoreStmt.{CoreStmt}
-use Rattle.pb_core_language.specs.Tree.{Mark, StmtTree, loop, again, BlockTree}
+use Rattle.pb_core_language.specs.Tree.{Mark, StmtTree, loop, again, BlockTree, is_again}
 use Rattle.pb_core_language.specs.FlatOf.{between}
 use Rattle.pb_core_language.specs.Plain.{plain_block, plain_stmt, block_of, branches_of}
-use Rattle.pb_core_flat.specs.GoesOn.{is_again, has_again, have_again, some_have_again}
+use Rattle.pb_core_flat.specs.GoesOn.{has_again, have_again, some_have_again}
 use Rattle.pb_choice.specs.Rounds.{Rounds}
-use Rattle.pb_choice.proofs.Plains.{block_is, drop_is}
+use Rattle.pb_core_language.proofs.Plains.{plain_list}
+use Rattle.pb_choice.proofs.Lists.{drop_is}
 
 of_count : (len p o k : ℕ) → p ≤ len → k + o ≡ len → nat_eq (len - p) o ≡ (p == k)
 of_count len p o k h e = grind (arith, nat_tests)
@@ -63,19 +64,19 @@ module _ (outer : ℕ) (opens : List ℕ) (items : List CoreStmt) where
 
   pub items_hit : (b : CoreBlock) (i : ℕ) (x : CoreStmt) (t : Bool) → items ≡ (out-CoreBlock b).list.items → i < length items → x ≡ get_or items i x → Rounds outer opens t (λ k. has_again k opens (plain_stmt x).stmt) → t ≡ true →
       RoundsNow outer opens (of_items opens items) (of_items opens (drop i items)) → Rounds outer opens true (λ k. have_again k opens (plain_block b).block)
-  items_hit b i x t same lt is r y s = subst (λ z. Rounds outer opens true (λ k. have_again k opens z)) (ap (λ l. block_of (map plain_stmt l)) same ∙ sym (block_is b)) (record {
+  items_hit b i x t same lt is r y s = subst (λ z. Rounds outer opens true (λ k. have_again k opens z)) (ap (λ l. block_of (map plain_stmt l)) same ∙ sym (plain_list b)) (record {
     is = λ k e. sym (s.is k e ∙ hit (has_again k opens (plain_stmt x).stmt) _ (of_items opens (drop i items) k) (split i x lt is k) (sym (r.is k e) ∙ y));
   })
 
   pub items_halt : (b : CoreBlock) (i : ℕ) (x : CoreStmt) (t : Bool) → items ≡ (out-CoreBlock b).list.items → i < length items → x ≡ get_or items i x → Rounds outer opens t (λ k. has_again k opens (plain_stmt x).stmt) → t ≡ false → is_again (plain_stmt x).stmt ≡ true →
       RoundsNow outer opens (of_items opens items) (of_items opens (drop i items)) → Rounds outer opens false (λ k. have_again k opens (plain_block b).block)
-  items_halt b i x t same lt is r f g s = subst (λ z. Rounds outer opens false (λ k. have_again k opens z)) (ap (λ l. block_of (map plain_stmt l)) same ∙ sym (block_is b)) (record {
+  items_halt b i x t same lt is r f g s = subst (λ z. Rounds outer opens false (λ k. have_again k opens z)) (ap (λ l. block_of (map plain_stmt l)) same ∙ sym (plain_list b)) (record {
     is = λ k e. sym (s.is k e ∙ halt (has_again k opens (plain_stmt x).stmt) (is_again (plain_stmt x).stmt) (of_items opens (drop (i + 1) items) k) (of_items opens (drop i items) k) (split i x lt is k) (sym (r.is k e) ∙ f) g);
   })
 
   pub items_done : (b : CoreBlock) (i : ℕ) → items ≡ (out-CoreBlock b).list.items → length items ≤ i →
       RoundsNow outer opens (of_items opens items) (of_items opens (drop i items)) → Rounds outer opens false (λ k. have_again k opens (plain_block b).block)
-  items_done b i same le s = subst (λ z. Rounds outer opens false (λ k. have_again k opens z)) (ap (λ l. block_of (map plain_stmt l)) same ∙ sym (block_is b)) (record {
+  items_done b i same le s = subst (λ z. Rounds outer opens false (λ k. have_again k opens z)) (ap (λ l. block_of (map plain_stmt l)) same ∙ sym (plain_list b)) (record {
     is = λ k e. sym (s.is k e ∙ ap (λ l. of_items opens l k) (drop_of_length-le items le));
   })
 

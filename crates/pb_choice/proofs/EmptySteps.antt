@@ -3,7 +3,7 @@ use Rattle.std.proofs.Common.{◌≡◌, ◌<◌, ◌≤◌, ◌+◌, ◌⊎◌,
 use Rattle.std.specs.Prelude.{MatchOption}
 use Rattle.std.specs.List.{list_any}
 use Rattle.std.specs.Ordering.{int_eq}
-use Rattle.std.proofs.lemmas.Bool.{and_parts, and_from, or_cases, or_left, or_right, or_parts, cases_Bool, false≢true, true≢false}
+use Rattle.std.proofs.lemmas.Bool.{and_parts, and_from, or_cases, or_left, or_right, or_parts, cases_Bool, false≢true, true≢false, not-true}
 use Rattle.std.proofs.lemmas.Int.{ints}
 use Rattle.std.proofs.lemmas.List.{at_drop_more}
 use Rattle.pb_affine.specs.declared.lin.Base.{Base}
@@ -45,12 +45,8 @@ sooner_good range list (Some b) n h k = elim (cases_Bool (int_lt n b)) [
   | inr z ↦ subst (λ t. IsEmptyAt range list (if t then n else b)) (sym z) k
 ]
 
-not_true : (b : Bool) → not b ≡ true → b ≡ false
-not_true true h = absurd (false≢true h)
-not_true false h = refl
-
 to_empty : (range : NRange) (list : List Area) (n : ℤ) → is_within range n && not (any_open list n) ≡ true → IsEmptyAt range list n
-to_empty range list n h = let p = and_parts (is_within range n) (not (any_open list n)) h in record { within = p.0; empty = not_true (any_open list n) p.1 }
+to_empty range list n h = let p = and_parts (is_within range n) (not (any_open list n)) h in record { within = p.0; empty = not-true (any_open list n) p.1 }
 
 from_empty : (range : NRange) (list : List Area) (n : ℤ) → IsEmptyAt range list n → is_within range n && not (any_open list n) ≡ true
 from_empty range list n h = and_from (is_within range n) (not (any_open list n)) h.within (ap not h.empty)

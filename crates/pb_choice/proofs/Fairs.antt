@@ -5,12 +5,12 @@ use Rattle.pb_affine.specs.declared.range.NRange.{NRange}
 use Rattle.pb_core_language.specs.declared.protocol.CoreRole.{CoreRole}
 use Rattle.pb_core_language.specs.declared.tree.CoreEnd.{CoreEnd}
 use Rattle.pb_core_language.specs.Ranks.{seats}
-use Rattle.pb_core_language.specs.Tree.{Mark, StmtTree, loop, choice, BlockTree, more, BranchTrees, branch}
+use Rattle.pb_core_language.specs.Tree.{Mark, StmtTree, loop, choice, BlockTree, more, BranchTrees, branch, is_again}
 use Rattle.pb_core_language.specs.Flat.{stop}
 use Rattle.pb_core_language.specs.FlatOf.{from_none, from_one, flat_stmt, flat_block, flat_branches}
 use Rattle.pb_core_language.specs.Rules.{strays, each_origin, each_origin_among}
 use Rattle.pb_core_language.specs.Sound.{Rows, is_item, is_end, has_branch, is_stmt, is_block, are_branches}
-use Rattle.pb_core_flat.specs.GoesOn.{is_again, goes_on}
+use Rattle.pb_core_flat.specs.GoesOn.{goes_on}
 use Rattle.pb_core_flat.proofs.SoundOnes.{sound_goes_on}
 use Rattle.pb_choice.specs.Scenes.{IsFairStmt, IsFair, AreFair}
 use Rattle.pb_choice.proofs.Origins.{origins_one_by_one, none_left, none_right}

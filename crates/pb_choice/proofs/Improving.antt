@@ -2,10 +2,9 @@
 use Rattle.std.proofs.Common.{◌≡◌, ◌⊎◌, inl, inr, false, Option, Some, None, if◌then◌else◌, refl, sym, ◌∙◌, subst}
 use Rattle.std.proofs.lemmas.Bool.{cases_Bool}
 use Rattle.pb_core_language.specs.Verdict.{Broken, is_before}
-use Rattle.pb_rules.proofs.Order.{turns}
+use Rattle.pb_rules.proofs.Order.{turns, falls}
 use Rattle.pb_choice.specs.declared.found.Found.{Found}
 use Rattle.pb_choice.specs.Found.{broken_of, earlier, IsNamedBroken, IsNamedIf, IsNotBefore, IsOne, Improves}
-use Rattle.pb_choice.proofs.Order.{falls}
 
 -- breaches of the one kind and then of the other
 comes_then : (S T : Broken → Type 0) (a b c : Option Found) → (b ≡ a) ⊎ IsOne S b → (c ≡ b) ⊎ IsOne T c → (c ≡ a) ⊎ IsOne (λ z. S z ⊎ T z) c
@@ -70,7 +69,7 @@ earlier_keeps : (c : Broken) (a : Option Found) (f : Found) → IsNamedBroken c 
 earlier_keeps c None f kc ka h = absurd h
 earlier_keeps c (Some b) f kc kb h =
     elim (cases_Bool (is_before (broken_of f) (broken_of b))) [
-      | inl y ↦ subst (λ u. is_before c (broken_of (if u then f else b)) ≡ false) (sym y) (falls c (broken_of b) (broken_of f) kc kb h (turns (broken_of f) (broken_of b) y))
+      | inl y ↦ subst (λ u. is_before c (broken_of (if u then f else b)) ≡ false) (sym y) (falls 9 c (broken_of b) (broken_of f) kc kb h (turns (broken_of f) (broken_of b) y))
       | inr z ↦ subst (λ u. is_before c (broken_of (if u then f else b)) ≡ false) (sym z) h
     ]
 
@@ -79,7 +78,7 @@ earlier_first c None f kc kf h = h
 earlier_first c (Some b) f kc kf h =
     elim (cases_Bool (is_before (broken_of f) (broken_of b))) [
       | inl y ↦ subst (λ u. is_before c (broken_of (if u then f else b)) ≡ false) (sym y) h
-      | inr z ↦ subst (λ u. is_before c (broken_of (if u then f else b)) ≡ false) (sym z) (falls c (broken_of f) (broken_of b) kc kf h z)
+      | inr z ↦ subst (λ u. is_before c (broken_of (if u then f else b)) ≡ false) (sym z) (falls 9 c (broken_of f) (broken_of b) kc kf h z)
     ]
 
 -- the first of some breaches

@@ -1,11 +1,10 @@
-pub mod Order
 pub mod Improving
 pub mod Leasts
 pub mod FlawSteps
 pub mod Origins
 pub mod Fairs
 pub mod Parts
-pub mod Plains
+pub mod Lists
 pub mod Bodies
 pub mod Blocks
 pub mod Branching

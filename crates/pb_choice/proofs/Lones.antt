@@ -1,7 +1,7 @@
 -- A loop that comes round with nobody in it.
 use Rattle.std.proofs.Common.{◌≡◌, inl, inr, ℕ, ℤ, pos, ◌≤ℤ◌, Bool, true, false, not, ◌&&◌, nat_eq, int_le, int_lt, Option, Some, None, List, [], ◌∷◌, refl, sym, ap, ◌∙◌, subst, arith}
 use Rattle.std.specs.Prelude.{MatchOption}
-use Rattle.std.proofs.lemmas.Bool.{and_parts, and_from, or_cases, or_left, or_right, false≢true, true≢false}
+use Rattle.std.proofs.lemmas.Bool.{and_parts, and_from, or_cases, or_left, or_right, false≢true, true≢false, not-true}
 use Rattle.std.proofs.lemmas.Bool.Decides.{nat_tests}
 use Rattle.std.proofs.lemmas.Int.{ints}
 use Rattle.pb_affine.specs.declared.range.NRange.{NRange}
@@ -11,7 +11,8 @@ use Rattle.pb_core_language.specs.Ranks.{seats, seat_at, total}
 use Rattle.pb_core_language.specs.Tree.{Mark, BlockTree}
 use Rattle.pb_core_language.specs.Flat.{stop}
 use Rattle.pb_core_language.specs.FlatOf.{flat_block}
-use Rattle.pb_core_language.specs.Rules.{some_below, holds_again, nobody}
+use Rattle.pb_core_language.specs.Lists.{some_below}
+use Rattle.pb_core_language.specs.Rules.{holds_again, nobody}
 use Rattle.pb_core_language.specs.Sound.{Rows}
 use Rattle.pb_core_language.specs.Verdict.{Broken, IsIn, is_before_seat}
 use Rattle.pb_core_language.specs.Ranks.{Seat}
@@ -101,10 +102,6 @@ from_within range n h =
       le : (a b : ℤ) → int_le a b ≡ true → a ≤ℤ b
       le a b h = grind (arith, ints)
 
-not_true : (b : Bool) → not b ≡ true → b ≡ false
-not_true true h = absurd (false≢true h)
-not_true false h = refl
-
 -- the breaches of rule 9 at one place
 record IsLonely (range : NRange) (m : Mark) (bad : ℤ → Bool) (c : Broken) : Type 0 where
   within : IsIn range c.n
@@ -160,7 +157,7 @@ module _ (range : NRange) (whole : List Area) (held : List Held) (id : ℕ) (bod
         never.none k (record {
           within = to_within range k w;
           empty = ap (λ l. any_open l k) same ∙ somebody range roles areas whole ranks (in_body roles env (ids_of held) id body) stands.whole_is are common k w
-              ∙ not_true (some_below (total roles k) (λ r. in_body roles env (ids_of held) id body k r)) (and_parts (holds_again 0 (flat_block roles k (id ∷ ids_of held) (pos 0) body stop)) _ bad).1;
+              ∙ not-true (some_below (total roles k) (λ r. in_body roles env (ids_of held) id body k r)) (and_parts (holds_again 0 (flat_block roles k (id ∷ ids_of held) (pos 0) body stop)) _ bad).1;
         }));
   }
 
@@ -178,7 +175,7 @@ module _ (range : NRange) (whole : List Area) (held : List Held) (id : ℕ) (bod
         (comes roles rows n fair ∙ sym e ∙ y) (ap not (sym (nobody_is n w) ∙ first.there.empty)))
         (λ k wk bad. first.least k (record {
           within = to_within range k wk;
-          empty = nobody_is k wk ∙ not_true (some_below (total roles k) (λ r. in_body roles env (ids_of held) id body k r)) (and_parts (holds_again 0 (flat_block roles k (id ∷ ids_of held) (pos 0) body stop)) _ bad).1;
+          empty = nobody_is k wk ∙ not-true (some_below (total roles k) (λ r. in_body roles env (ids_of held) id body k r)) (and_parts (holds_again 0 (flat_block roles k (id ∷ ids_of held) (pos 0) body stop)) _ bad).1;
         })));
   }
 

@@ -4,14 +4,15 @@ use Rattle.std.proofs.lemmas.Bool.{false≢true}
 use Rattle.pb_core_language.specs.declared.protocol.CoreRole.{CoreRole}
 use Rattle.pb_core_language.specs.declared.tree.CoreEnd.{CoreEnd}
 use Rattle.pb_core_language.specs.Ranks.{total}
-use Rattle.pb_core_language.specs.Tree.{Mark, StmtTree, message, foreach, loop, again, choice, run, barrier, broadcast, reduce, allreduce, Bounds, BlockTree, more, BranchTrees, branch}
+use Rattle.pb_core_language.specs.Tree.{Mark, StmtTree, message, foreach, loop, again, choice, run, barrier, broadcast, reduce, allreduce, BlockTree, more, BranchTrees, branch, is_again}
+use Rattle.pb_core_language.specs.declared.tree.Bounds.{Bounds}
 use Rattle.pb_core_language.specs.Flat.{stop}
 use Rattle.pb_core_language.specs.FlatOf.{flat_block, flat_branches}
 use Rattle.pb_core_language.specs.Run.{Env, at_rank}
 use Rattle.pb_core_language.specs.Rules.{deserted, deserted_among, misfits, misfits_among}
 use Rattle.pb_core_language.specs.Outcomes.{Outcome}
 use Rattle.pb_core_flat.specs.Seated.{rank}
-use Rattle.pb_core_flat.specs.GoesOn.{is_again, goes_on, are_items}
+use Rattle.pb_core_flat.specs.GoesOn.{goes_on, are_items}
 use Rattle.pb_core_flat.proofs.BreachesAdd.{misfits_one_by_one, deserted_one_by_one, each_keeps_rules}
 use Rattle.pb_choice.specs.declared.rule.ChoiceRule.{ChoiceRule}
 use Rattle.pb_choice.specs.declared.rule.ChoiceRule.TheVariants.{OnlyReceives, OneSource, OwnLabels}

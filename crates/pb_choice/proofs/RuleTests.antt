@@ -1,11 +1,13 @@
 -- What the areas of a branch say of the rules 10 to 12.
 use Rattle.std.proofs.Common.{◌≡◌, inl, inr, ℕ, ◌==◌, ℤ, pos, ◌≤ℤ◌, Bool, true, false, not, ◌&&◌, ◌||◌, Option, List, [], ◌∷◌, ◌++◌, refl, sym, ap, ◌∙◌, subst, arith}
-use Rattle.std.proofs.lemmas.Bool.{and_parts, and_from, or_cases, or_left, or_right, false≢true, true≢false, eqb-true, cases_Bool}
+use Rattle.std.proofs.lemmas.Bool.{and_parts, and_from, or_cases, or_left, or_right, false≢true, true≢false, eqb-true, cases_Bool, false_from_ne_true}
 use Rattle.std.proofs.lemmas.Bool.Decides.{nat_tests}
 use Rattle.std.proofs.lemmas.Int.{ints}
+use Rattle.std.proofs.Math.Bool.{or_assoc}
 use Rattle.pb_affine.specs.declared.range.NRange.{NRange}
 use Rattle.pb_core_language.specs.declared.protocol.CoreRole.{CoreRole}
-use Rattle.pb_core_language.specs.Outcomes.{Outcome, nothing_first, receives, other_first, again_first, only_receives, comes_from_one, labels_of, none_shared}
+use Rattle.pb_core_language.specs.Lists.{none_shared}
+use Rattle.pb_core_language.specs.Outcomes.{Outcome, nothing_first, receives, other_first, again_first, only_receives, comes_from_one, labels_of}
 use Rattle.pb_core_language.specs.Tree.{Mark}
 use Rattle.pb_core_language.specs.Verdict.{IsIn}
 use Rattle.pb_part_areas.specs.declared.area.Area.{Area}
@@ -37,10 +39,6 @@ not_false : (b : Bool) → (b ≡ true → ⊥) → not b ≡ true
 not_false true f = absurd (f refl)
 not_false false f = refl
 
-is_false : (b : Bool) → (b ≡ true → ⊥) → b ≡ false
-is_false true f = absurd (f refl)
-is_false false f = refl
-
 from_not : (b : Bool) → not b ≡ true → b ≡ true → ⊥
 from_not true h k = false≢true h
 from_not false h k = false≢true k
@@ -62,15 +60,11 @@ mixed_bools new m bad t false c2 e k l h = let p : c2 ≡ false = h refl in grin
 or_and : (w a b t p q r : Bool) → w ≡ a || b → a ≡ t && p → b ≡ t && q → r ≡ p || q → w ≡ t && r
 or_and w a b t p q r e f g h = grind (arith, nat_tests)
 
-or_assoc : (a b c : Bool) → a || (b || c) ≡ (a || b) || c
-or_assoc true b c = refl
-or_assoc false b c = refl
-
 finds_append : (roles : List CoreRole) (xs ys : List Entry) (n : ℤ) (role : ℕ) (x : ℤ) (o : Outcome) → finds roles (xs ++ ys) n role x o ≡ finds roles xs n role x o || finds roles ys n role x o
 finds_append roles [] ys n role x o = refl
 finds_append roles (f ∷ xs) ys n role x o =
     ap (λ z. (has f.area n role x && outcome_eq (outcome_of roles f.kind n x) o) || z) (finds_append roles xs ys n role x o)
-    ∙ or_assoc (has f.area n role x && outcome_eq (outcome_of roles f.kind n x) o) (finds roles xs n role x o) (finds roles ys n role x o)
+    ∙ sym (or_assoc (has f.area n role x && outcome_eq (outcome_of roles f.kind n x) o) (finds roles xs n role x o) (finds roles ys n role x o))
 
 small_append : (xs ys : List Entry) → are_small xs ≡ true → are_small ys ≡ true → are_small (xs ++ ys) ≡ true
 small_append [] ys h k = k
@@ -92,11 +86,11 @@ module _ (before found : List Outcome) where
 
   still_mixed : comes_from_one before ≡ false → comes_from_one (before ++ found) ≡ false
   still_mixed h =
-      is_false (comes_from_one (before ++ found)) (λ one.
+      false_from_ne_true (comes_from_one (before ++ found)) (λ one.
       true≢false (sym ((from_one_is before).1 (λ s l t k a b. (from_one_is (before ++ found)).0 one s l t k (in_before (receives s l) a) (in_before (receives t k) b))) ∙ h))
 
   apart_mixed : (s l t k : ℕ) → is_outcome (receives s l) found ≡ true → is_outcome (receives t k) (before ++ found) ≡ true → (s ≡ t → ⊥) → two_sources
-  apart_mixed s l t k a b ne = is_false (comes_from_one (before ++ found)) (λ one. ne ((from_one_is (before ++ found)).0 one s l t k (in_found (receives s l) a) b))
+  apart_mixed s l t k a b ne = false_from_ne_true (comes_from_one (before ++ found)) (λ one. ne ((from_one_is (before ++ found)).0 one s l t k (in_found (receives s l) a) b))
 
   -- where no receive here is from another source than one before or here, there is one source still
   one_still : comes_from_one before ≡ true → ((s l t k : ℕ) → is_outcome (receives s l) found ≡ true → is_outcome (receives t k) (before ++ found) ≡ true → s ≡ t) → comes_from_one (before ++ found) ≡ true

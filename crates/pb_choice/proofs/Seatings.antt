@@ -8,7 +8,8 @@ use Rattle.pb_core_language.specs.declared.tree.CoreEnd.{CoreEnd}
 use Rattle.pb_core_language.specs.Ranks.{seats, total}
 use Rattle.pb_core_language.specs.Tree as T
 use Rattle.pb_core_language.specs.Tree.{Mark, StmtTree, foreach, loop, run, barrier, broadcast, reduce, allreduce, BlockTree, nothing, more, BranchTrees}
-use Rattle.pb_core_language.specs.Flat.{Asked, Origin, Block, stop, nth, takes_part, takes_part_among}
+use Rattle.pb_core_language.specs.Lists.{nth}
+use Rattle.pb_core_language.specs.Flat.{Asked, Origin, Block, stop, takes_part, takes_part_among}
 use Rattle.pb_core_language.specs.Flat as F
 use Rattle.pb_core_language.specs.FlatOf.{asked, seat, from_none, from_one, from_two, for_each, between, rank_of, flat_stmt, flat_block, flat_branches}
 use Rattle.pb_core_language.specs.Rules.{is_seat, strays, each_origin, each_origin_among}

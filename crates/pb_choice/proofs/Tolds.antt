@@ -1,8 +1,9 @@
 -- Who is told of a choice.
-use Rattle.std.proofs.Common.{◌≡◌, ◌<◌, ◌≤◌, ◌+◌, ℕ, ℤ, pos, ◌==◌, ◌≤ℤ◌, Bool, true, false, not, ◌&&◌, ◌||◌, List, [], map, drop, get_or, length, refl, sym, ap, ◌∙◌, subst, drop_of_length-le, arith}
+use Rattle.std.proofs.Common.{◌≡◌, ◌<◌, ◌≤◌, ◌+◌, ℕ, ℤ, pos, ◌==◌, ◌≤ℤ◌, Bool, true, false, not, ◌&&◌, ◌||◌, List, [], map, drop, get_or, length, sym, ap, ◌∙◌, subst, drop_of_length-le, arith}
 use Rattle.std.proofs.lemmas.Bool.{and_parts}
 use Rattle.std.proofs.lemmas.Bool.Decides.{nat_tests}
 use Rattle.std.proofs.lemmas.Int.{ints}
+use Rattle.std.proofs.Math.Bool.{or-false}
 use Rattle.pb_affine.specs.declared.range.NRange.{NRange}
 use Rattle.pb_core_language.specs.declared.protocol.CoreRole.{CoreRole}
 use Rattle.pb_core_language.specs.declared.tree.CoreBlock.{CoreBlock}
@@ -25,11 +26,7 @@ use Rattle.pb_part_takers.specs.Ends.{IsEndArea}
 use Rattle.pb_choice.specs.Scenes.{Stands, IsFair, AreFair}
 use Rattle.pb_choice.specs.Told.{AreTold, AreAmong}
 use Rattle.pb_choice.proofs.Fairs.{fair_branches, fair_branch, fair_others}
-use Rattle.pb_choice.proofs.Plains.{drop_is}
-
-or_false : (b : Bool) → b ≡ b || false
-or_false true = refl
-or_false false = refl
+use Rattle.pb_choice.proofs.Lists.{drop_is}
 
 or_step : (w1 w t p q : Bool) → w1 ≡ w || p → w || (p || q) ≡ t → w1 || q ≡ t
 or_step w1 w t p q e h = grind (arith, nat_tests)
@@ -78,7 +75,7 @@ takers_done range whole held items i areas le so_far = record {
   is = λ roles rows env stands fair. record {
     is = λ n role x within r.
         let t : TakersNow range roles rows env (ids_of held) (branches_of (map plain_block items)) (branches_of (map plain_block (drop i items))) areas = so_far.is roles rows env stands fair in
-        or_false (have areas n role x)
+        sym (or-false (have areas n role x))
         ∙ ap (λ l. have areas n role x || takes_part_among (at_rank (rank roles n role x) (env n)) (rank roles n role x) (flat_branches roles n (ids_of held) (pos 0) (branches_of (map plain_block l)))) (sym (drop_of_length-le items le))
         ∙ t.so_far n role x within r;
   };

@@ -9,7 +9,8 @@ use Rattle.pb_core_language.specs.Flat.{Block, stop, takes_part, takes_part_amon
 use Rattle.pb_core_language.specs.FlatOf.{rank_of, flat_stmt, flat_block, flat_branches}
 use Rattle.pb_core_language.specs.Run.{Env, at_rank}
 use Rattle.pb_core_language.specs.Outcomes.{Outcome, firsts}
-use Rattle.pb_core_language.specs.Rules.{some_below, holds_again, deserted, deserted_among, misfits, misfits_among, receives_only, keeps_source, keeps_labels, nobody, ranked}
+use Rattle.pb_core_language.specs.Lists.{some_below}
+use Rattle.pb_core_language.specs.Rules.{holds_again, deserted, deserted_among, misfits, misfits_among, receives_only, keeps_source, keeps_labels, nobody, ranked}
 use Rattle.pb_core_language.specs.Verdict.{IsIn, Broken}
 use Rattle.pb_core_flat.specs.Seated.{rank, is_rank}
 use Rattle.pb_choice.specs.declared.rule.ChoiceRule.{ChoiceRule}

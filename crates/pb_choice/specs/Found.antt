@@ -1,10 +1,9 @@
 -- The first breach so far.
 use Rattle.std.specs.Prelude.{◌≡◌, ◌⊎◌, ℕ, ℤ, false, Option, Some, None, if◌then◌else◌}
-use Rattle.pb_core_language.specs.Ranks.{Seat}
 use Rattle.pb_core_language.specs.Tree.{Mark}
 use Rattle.pb_core_language.specs.Rules.{Breach}
 use Rattle.pb_core_language.specs.Verdict.{Broken, is_before}
-use Rattle.pb_rules.specs.Verdict.{seat_if}
+use Rattle.pb_rules.specs.Verdict.{seat_if, IsNamedBut}
 use Rattle.pb_choice.specs.declared.found.Found.{Found}
 use Rattle.pb_choice.specs.declared.found.Mark as F
 
@@ -33,12 +32,8 @@ lone_if m None best = best
 lone_if m (Some n) best = earlier best (lone_found m n)
 
 -- rule 9 names nobody, and the others a rank
-abbrev pub IsNamed : ℕ → Option Seat → Type 0
-IsNamed rule None = rule ≡ 9
-IsNamed rule (Some s) = rule ≡ 9 → ⊥
-
 abbrev pub IsNamedBroken : Broken → Type 0
-IsNamedBroken c = IsNamed c.breach.rule c.breach.at
+IsNamedBroken c = IsNamedBut 9 c.breach.rule c.breach.at
 
 abbrev pub IsNamedIf : Option Found → Type 0
 IsNamedIf None = Unit {0}

@@ -5,7 +5,6 @@ ghost use Rattle.pb_core_flat.specs.GoesOn.{has_again, have_again, some_have_aga
 ghost use Rattle.pb_part_takers.specs.Loops.{ids_of};
 ghost use Rattle.pb_choice.specs.Rounds.{Rounds};
 
-use crate::walk::is_again;
 use pb_core_language::{CoreBlock, CoreKind, CoreStmt};
 use pb_part_takers::Held;
 use pb_text::NoMemory;
@@ -61,7 +60,7 @@ fn block_again(
         if found {
             return Ok(true);
         }
-        if is_again(statement) {
+        if statement.is_again() {
             return Ok(false);
         }
     }

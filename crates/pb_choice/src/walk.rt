@@ -4,7 +4,6 @@ ghost use Rattle.pb_part_areas.specs.declared.area.Area.{Area};
 ghost use Rattle.pb_part_takers.specs.declared.held.Held.{Held};
 ghost use Rattle.pb_choice.specs.Plainly.{is_plain};
 ghost use Rattle.pb_core_language.specs.Plain.{plain_block, plain_stmt, branches_of};
-ghost use Rattle.pb_core_flat.specs.GoesOn.{is_again};
 ghost use Rattle.pb_choice.specs.Found.{mark_of};
 ghost use Rattle.pb_choice.specs.Walks.{FirstIn, FirstAt, FirstAmong, FirstWithin};
 
@@ -34,7 +33,7 @@ pub fn block_kept(
 {
     let mut best = best;
     for statement in &block.list {
-        if is_again(statement) {
+        if statement.is_again() {
             return Ok(best);
         }
         best = stmt_kept(statement, alloc, setting, held, best)?;
@@ -133,22 +132,4 @@ fn branch_kept(
     let first = rules_kept(alloc, setting, mark, &here, &left, past, best)?;
     let last = block_kept(branch, alloc, setting, held, first)?;
     Ok(last)
-}
-
-/// Whether the statement is a continue.
-pub fn is_again(statement: &CoreStmt) -> bool
-    ensures { result ≡ is_again (plain_stmt statement.now).stmt }
-{
-    match &statement.what {
-        CoreKind::Again { .. } => true,
-        CoreKind::Message { .. }
-        | CoreKind::Foreach { .. }
-        | CoreKind::Loop { .. }
-        | CoreKind::Choice { .. }
-        | CoreKind::Run { .. }
-        | CoreKind::Barrier
-        | CoreKind::Broadcast { .. }
-        | CoreKind::Reduce { .. }
-        | CoreKind::Allreduce { .. } => false,
-    }
 }

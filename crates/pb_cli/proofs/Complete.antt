@@ -1,6 +1,7 @@
 -- Each reply is one of those that may come.
 use Rattle.std.proofs.Common.{◌≡◌, ◌≢◌, ℕ, ◌<◌, ◌≤◌, pos, inl, inr, List, [], ◌∷◌, map, length, Option, None, Some, refl, sym, ap, subst, ◌∙◌, arith}
 use Rattle.std.specs.Prelude.{Contains, ◌^◌}
+use Rattle.pb_text.specs.declared.limits.TheConstants.{MOST_TEXT_BYTES}
 use Rattle.pb_io.specs.Files.{File, content_of}
 use Rattle.pb_core_language.specs.Plain.{Protocol}
 use Rattle.pb_local.specs.Tree.{Program, program_of}
@@ -28,7 +29,8 @@ use Rattle.pb_cli_simulate.specs.Sources.{IsTextOf, IsNoText, IsNoSchedule}
 use Rattle.pb_cli_simulate.specs.Replies as R
 use Rattle.pb_cli_simulate.specs.Replies.{Starts}
 use Rattle.pb_cli.specs.declared.answer.Wanted.TheVariants as W
-use Rattle.pb_cli.specs.Reply.{IsFileReply, IsUsage, Makes, Says, SaysOf, most_bytes, refusal_of}
+use Rattle.pb_cli_status.specs.Written.{Says}
+use Rattle.pb_cli.specs.Reply.{IsFileReply, IsUsage, Makes, SaysOf, most_bytes, refusal_of}
 use Rattle.pb_cli.specs.Run.{MayRun, IsRunReply, SaysRun, SaysRunReply}
 use Rattle.pb_cli.specs.Program.{SaysReply}
 use Rattle.pb_cli.specs.Complete.{Comes, Completes, IsComplete}
@@ -178,7 +180,7 @@ untaken_not IsRefused name holds refusal.Events is = tt
 untaken_not IsRefused name holds other is = absurd is
 
 -- where want of memory alone is true of the bytes
-module _ (IsRefused : List ℕ → Refusal → Type 0) (name : List ℕ) (files : List File) (few : length (content_of files name) ≤ T.most_bytes)
+module _ (IsRefused : List ℕ → Refusal → Type 0) (name : List ℕ) (files : List File) (few : length (content_of files name) ≤ MOST_TEXT_BYTES)
     (only : (why : Refusal) → IsRefused (content_of files name) why → why ≡ refusal.NoMemory) (these : List Status) where
   by_law : (why : Refusal) → IsRefused (content_of files name) why → Comes these (L.status_of why)
   by_law why is = subst (λ (w : Refusal). Comes these (L.status_of w)) (sym (only why is)) (no_memory these)
@@ -240,7 +242,7 @@ starts_too t u n same starts = record {
   few = subst (λ (p : Program). total p.roles (pos n) ≤ 1024) same starts.few;
 }
 
-module _ (name : List ℕ) (files : List File) (n : ℕ) (t u : CTree) (few : length (content_of files name) ≤ T.most_bytes) where
+module _ (name : List ℕ) (files : List File) (n : ℕ) (t u : CTree) (few : length (content_of files name) ≤ MOST_TEXT_BYTES) where
   starts_here : IsTextOf (content_of files name) t → IsTextOf (content_of files name) u → Starts t n → Starts u n
   starts_here a b starts = starts_too t u n (one_text_tree (content_of files name) t u (within_64 (length (content_of files name)) few) a b) starts
 
@@ -270,7 +272,7 @@ module _ (post : ℕ → ℕ → ℕ → ℕ → Type 0) (name schedule : List �
   replay_complete : (holds : Option (List File)) → T.SaysReplay post name schedule n holds result old new → (result ≢ S.Usage) × Completes (replay name schedule n) holds result
   replay_complete None said = (replay_not None said, tt)
   replay_complete (Some files) said = (replay_not (Some files) said, λ t few is starts seed turns short read. on t few is starts seed turns short read said) where
-    on : (t : CTree) → length (content_of files name) ≤ T.most_bytes → IsTextOf (content_of files name) t → Starts t n → (seed : ℕ) (turns : List Turn) → length (content_of files schedule) ≤ T.most_bytes
+    on : (t : CTree) → length (content_of files name) ≤ MOST_TEXT_BYTES → IsTextOf (content_of files name) t → Starts t n → (seed : ℕ) (turns : List Turn) → length (content_of files schedule) ≤ MOST_TEXT_BYTES
         → IsSchedule (content_of files schedule) seed turns → T.SaysReplay post name schedule n (Some files) result old new → Comes (sim_statuses (S.Schedule ∷ [])) result
     on t few is starts seed turns short read (inl refuses) = refuses_comes IsNoText name files few (text_has_no_fault (content_of files name) t is) (sim_statuses (S.Schedule ∷ [])) result old new refuses
     on t few is starts seed turns short read (inr (u, told, inl refuses)) =

@@ -8,7 +8,8 @@ use Rattle.pb_cli_status.specs.declared.refusal.Refusal.TheVariants as refusal
 use Rattle.pb_cli_status.specs.declared.status.Status.{Status}
 use Rattle.pb_cli_status.specs.declared.status.Status.TheVariants.{Done, NoMemory}
 use Rattle.pb_cli.specs.Program.{SaysReply}
-use Rattle.pb_cli.specs.Reply.{Answers, Says, SaysOf, bytes_of}
+use Rattle.pb_cli_status.specs.Written.{Says}
+use Rattle.pb_cli.specs.Reply.{Answers, SaysOf, bytes_of}
 use Rattle.pb_cli.specs.declared.answer.Answer.{Answer}
 use Rattle.pb_cli.proofs.Answered.{never_done}
 

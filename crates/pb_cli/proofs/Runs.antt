@@ -44,7 +44,7 @@ use Rattle.pb_sim_play.specs.Endings.{Ran, Stands, IsUnready}
 use Rattle.pb_cli_simulate.specs.Replies as A
 use Rattle.pb_cli_simulate.specs.Replies.{Starts}
 use Rattle.pb_cli_laws.proofs.Draws.{drawn_has_a_step}
-use Rattle.pb_cli.specs.Reply.{Says}
+use Rattle.pb_cli_status.specs.Written.{Says}
 use Rattle.pb_cli.specs.Run.{MayRun, ranks_of, Begins, IsRunReply, SaysRunReply, IsFileRefusal, IsTreeOf, SaysRun}
 
 -- ---- a run under turns is a run

@@ -1,6 +1,7 @@
 -- What comes where the words are in a form and the files keep the rules and the limits: all is done, or else memory is wanting or
 -- a fault rose. A simulation may be stuck, make all its events, or pass the limit on words in flight.
 use Rattle.std.specs.Prelude.{◌≢◌, ℕ, ◌≤◌, List, [], ◌∷◌, length, Contains, Option, Some, None}
+use Rattle.pb_text.specs.declared.limits.TheConstants.{MOST_TEXT_BYTES}
 use Rattle.pb_io.specs.Files.{File}
 use Rattle.pb_core_language.specs.Plain.{Protocol}
 use Rattle.pb_ctree.specs.declared.tree.CTree.{CTree}
@@ -26,11 +27,11 @@ OnAccepted name holds P = OnFile name holds (λ bytes. (p : Protocol) → length
 
 -- that it is a C text, whose tree can be simulated for this N
 abbrev pub OnText : List ℕ → ℕ → Option (List File) → Type 0 → Type 0
-OnText name n holds P = OnFile name holds (λ bytes. (tree : CTree) → length bytes ≤ T.most_bytes → IsTextOf bytes tree → Starts tree n → P)
+OnText name n holds P = OnFile name holds (λ bytes. (tree : CTree) → length bytes ≤ MOST_TEXT_BYTES → IsTextOf bytes tree → Starts tree n → P)
 
 -- that it is a schedule
 abbrev pub OnSchedule : List ℕ → Option (List File) → Type 0 → Type 0
-OnSchedule name holds P = OnFile name holds (λ bytes. (seed : ℕ) (turns : List Turn) → length bytes ≤ T.most_bytes → IsSchedule bytes seed turns → P)
+OnSchedule name holds P = OnFile name holds (λ bytes. (seed : ℕ) (turns : List Turn) → length bytes ≤ MOST_TEXT_BYTES → IsSchedule bytes seed turns → P)
 
 -- what comes where the files are such
 abbrev pub Completes : Request → Option (List File) → Status → Type 0

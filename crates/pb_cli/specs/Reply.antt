@@ -1,13 +1,12 @@
 -- What the program answers: a status, and the bytes that it writes.
 use Rattle.std.specs.Prelude.{◌≡◌, ℕ, ℤ, ◌<◌, ◌≤◌, ◌⊎◌, Bool, List, length, Option, Some, None, IfSome, Result, Ok, Err}
-use Rattle.std.specs.Io.KnownBytes.{Appends}
 use Rattle.pb_text.specs.declared.quantity.Quantity.TheVariants as quantity
 use Rattle.pb_lex.specs.declared.error.LexError.{LexError}
 use Rattle.pb_lex.specs.declared.error.LexError.TheVariants as E
 use Rattle.pb_io.specs.Files.{File, content_of, IsSureOf}
-use Rattle.pb_io.specs.Sinks.{AppendsFront}
 use Rattle.pb_cli_words.specs.Request.{Request, check, gen, project, sim, replay, run}
 use Rattle.pb_cli_status.specs.Lines.{accepted_line, line_of, status_of}
+use Rattle.pb_cli_status.specs.Written.{Says}
 use Rattle.pb_cli_status.specs.declared.refusal.Refusal.{Refusal}
 use Rattle.pb_cli_status.specs.declared.refusal.Refusal.TheVariants as refusal
 use Rattle.pb_cli_status.specs.declared.status.Status.{Status}
@@ -87,10 +86,6 @@ abbrev pub IsUsage : Status → List ℕ → Type 0
 IsUsage S.Usage text = text ≡ line_of refusal.Usage
 IsUsage S.NoMemory text = text ≡ line_of refusal.NoMemory
 IsUsage other text = ⊥
-
--- a status was given and its text was written, or a write failed and only some first bytes of it were
-abbrev pub Says : Status → List ℕ → Status → Option (List ℕ) → Option (List ℕ) → Type 0
-Says status text result old new = ((result ≡ status) × Appends old new text) ⊎ ((result ≡ S.WriteFault) × AppendsFront old new text)
 
 -- so it was with a status and a text that belong together
 abbrev pub SaysOf : (Status → List ℕ → Type 0) → Status → Option (List ℕ) → Option (List ℕ) → Type 0

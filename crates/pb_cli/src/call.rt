@@ -10,9 +10,9 @@ ghost use Rattle.pb_cli.specs.Reply.{IsFileReply, IsSureOfForm, Makes, SaysOf};
 use crate::answer::Wanted;
 use crate::file::file_answer;
 use crate::running::run;
-use crate::saying::{refuse, say};
+use crate::saying::say;
 use pb_cli_simulate::{replay, sim};
-use pb_cli_status::{Refusal, Status};
+use pb_cli_status::{Refusal, Status, refuse};
 use pb_cli_words::{Command, NoMemory, command_in};
 use pb_io::{Folder, Sink};
 use std::alloc::Global;
@@ -55,6 +55,8 @@ use std::alloc::Global;
 /// schedule `Schedule`.
 ///
 /// `answers` gives word number `count` of a rank, from 0, by a seed, the rank and that number.
+///
+/// The same as `act`, with the clause `complete`, which lists the answers that may come.
 pub fn pabble<F: Folder, O: Sink, A: Fn(u64, u32, u64) -> u32 + Drop>(
     alloc: Global,
     words: &[String],

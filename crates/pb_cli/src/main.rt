@@ -14,12 +14,11 @@ mod saying;
 mod tests;
 
 use call::pabble;
-use pb_cli_status::Refusal;
+use pb_cli_status::{Refusal, refuse};
 use pb_io::{HostFolder, HostSink};
 use pb_text::NoMemory;
 use rand_core::Rng;
 use rand_pcg::Pcg32;
-use saying::refuse;
 use std::process::ExitCode;
 use std::{env, io};
 

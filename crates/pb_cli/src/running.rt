@@ -1,6 +1,7 @@
 //! The command `run`.
 
 ghost use Rattle.std.specs.Prelude.{◌≡◌, ◌≤◌, IfOk, IfErr, IsErrOf};
+ghost use Rattle.pb_text.specs.declared.limits.TheConstants.{MOST_EVENTS};
 ghost use Rattle.pb_io.specs.Faults.{Rose};
 ghost use Rattle.pb_io.specs.Files.{IsSureOf};
 ghost use Rattle.pb_ctree.specs.Trees.{IsTree};
@@ -9,9 +10,8 @@ ghost use Rattle.pb_cli.specs.Run.{IsFileRefusal, IsTreeOf, SaysRun};
 
 use crate::file::bytes_in;
 use crate::refusing::refusal_of;
-use crate::saying::refuse;
 use pb_cli_simulate::simulate_tree;
-use pb_cli_status::{Refusal, Status};
+use pb_cli_status::{Refusal, Status, refuse};
 use pb_cli_words::Options;
 use pb_compile::{CTree, compile};
 use pb_io::{Folder, Sink};
@@ -50,7 +50,7 @@ pub fn run<F: Folder, O: Sink, A: Fn(u64, u32, u64) -> u32 + Drop>(
     out: &mut O,
 ) -> Status
     requires callable { A.IsAlwaysCallable answers }
-    requires few { options.turns ≤ 1000000 }
+    requires few { options.turns ≤ MOST_EVENTS }
     ensures reply { SaysRun (A.post answers) file.now options (F.holds folder.old) result (O.taken out.old) (O.taken out.new) }
     ensures read_fault { result ≡ Status.ReadFault → Rose (F.faults folder.old) (F.faults folder.new) }
     ensures sure { result ≡ Status.ReadFault → IsSureOf (F.steady folder.old) (F.holds folder.old) file.now → ⊥ }

@@ -2,11 +2,11 @@
 
 ghost use Rattle.std.specs.Prelude.{◌≡◌, IsErrOf};
 ghost use Rattle.pb_io.specs.Faults.{Rose};
-ghost use Rattle.pb_cli_status.specs.Lines.{line_of, status_of};
-ghost use Rattle.pb_cli.specs.Reply.{Answers, Says};
+ghost use Rattle.pb_cli_status.specs.Written.{Says};
+ghost use Rattle.pb_cli.specs.Reply.{Answers};
 
 use crate::answer::Answer;
-use pb_cli_status::{Refusal, Status};
+use pb_cli_status::{Refusal, Status, refuse};
 use pb_io::{OutFault, Sink, write_all};
 
 /// Writes an answer, or the status line of a refusal, and tells the status.
@@ -21,17 +21,5 @@ pub fn say<O: Sink>(out: &mut O, answer: Result<Answer, Refusal>) -> Status
             Err(OutFault::WriteFault) => Status::WriteFault,
         },
         Err(refusal) => refuse(out, refusal),
-    }
-}
-
-/// Writes the status line of a refusal, and tells the status.
-pub fn refuse<O: Sink>(out: &mut O, refusal: Refusal) -> Status
-    ensures said { Says (status_of refusal) (line_of refusal) result (O.taken out.old) (O.taken out.new) }
-    ensures read_fault { result ≡ Status.ReadFault → refusal ≡ Refusal.ReadFault }
-    ensures write_fault { result ≡ Status.WriteFault → Rose (O.faults out.old) (O.faults out.new) }
-{
-    match refusal.write_line(out) {
-        Ok(()) => refusal.status(),
-        Err(OutFault::WriteFault) => Status::WriteFault,
     }
 }

@@ -17,7 +17,8 @@ use Rattle.pb_sim_play.specs.declared.ending.Ending.{Ending}
 use Rattle.pb_sim_play.specs.declared.ending.Ending.TheVariants as E
 use Rattle.pb_sim_play.specs.Plans.{Source}
 use Rattle.pb_sim_play.specs.Endings.{EndsWith, IsSoFar, Tells}
-use Rattle.pb_cli_simulate.specs.Endings.{last_line, status_of, IsEarly, Says}
+use Rattle.pb_cli_status.specs.Written.{Says}
+use Rattle.pb_cli_simulate.specs.Endings.{last_line, status_of, IsEarly}
 use Rattle.pb_cli_simulate.specs.Replies.{Starts, IsTold, IsReply, SaysReply, refusal_of}
 
 -- the last line behind what was written before

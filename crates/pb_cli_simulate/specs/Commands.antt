@@ -1,5 +1,6 @@
 -- What the commands `sim` and `replay` answer.
 use Rattle.std.specs.Prelude.{◌≡◌, ℕ, ◌<◌, ◌≤◌, ◌⊎◌, List, length, map, Option, IfSome}
+use Rattle.pb_text.specs.declared.limits.TheConstants.{MOST_TEXT_BYTES}
 use Rattle.pb_io.specs.Files.{File, content_of}
 use Rattle.pb_ctree.specs.declared.tree.CTree.{CTree}
 use Rattle.pb_cli_status.specs.Lines.{line_of, status_of}
@@ -11,26 +12,22 @@ use Rattle.pb_sched.specs.declared.schedule.Turn.{Turn}
 use Rattle.pb_cli_words.specs.declared.options.Options.{Options}
 use Rattle.pb_cli_words.specs.declared.options.Shown.TheVariants.{Log}
 use Rattle.pb_sim_play.specs.Plans.{drawn, given, pair_of}
-use Rattle.pb_cli_simulate.specs.Endings.{Says}
+use Rattle.pb_cli_status.specs.Written.{Says}
 use Rattle.pb_cli_simulate.specs.Replies.{SaysReply}
 use Rattle.pb_cli_simulate.specs.Sources.{IsTextOf, IsNoText, IsNoSchedule}
-
--- how many bytes a text and a schedule may have
-abbrev pub most_bytes : ℕ
-most_bytes = 67108864
 
 -- where the folder tells the file's bytes they are such, and few enough
 abbrev pub OnFile : List ℕ → Option (List File) → (List ℕ → Type 0) → Type 0
 OnFile name holds P = IfSome holds (λ files. P (content_of files name))
 
 abbrev pub OnShort : List ℕ → Option (List File) → (List ℕ → Type 0) → Type 0
-OnShort name holds P = OnFile name holds (λ bytes. (length bytes ≤ most_bytes) × P bytes)
+OnShort name holds P = OnFile name holds (λ bytes. (length bytes ≤ MOST_TEXT_BYTES) × P bytes)
 
 -- why a file isn't taken: it can't be read, it has too many bytes, what it has is refused so, or memory is wanting
 abbrev pub IsUntaken : (List ℕ → Refusal → Type 0) → List ℕ → Option (List File) → Refusal → Type 0
 IsUntaken IsRefused name holds refusal.ReadFault = Unit {0}
 IsUntaken IsRefused name holds refusal.NoMemory = Unit {0}
-IsUntaken IsRefused name holds refusal.FileBytes = OnFile name holds (λ bytes. most_bytes < length bytes)
+IsUntaken IsRefused name holds refusal.FileBytes = OnFile name holds (λ bytes. MOST_TEXT_BYTES < length bytes)
 IsUntaken IsRefused name holds (refusal.Text place) = OnShort name holds (λ bytes. IsRefused bytes (refusal.Text place))
 IsUntaken IsRefused name holds (refusal.Limit limit place) = OnShort name holds (λ bytes. IsRefused bytes (refusal.Limit limit place))
 IsUntaken IsRefused name holds (refusal.Schedule line) = OnShort name holds (λ bytes. IsRefused bytes (refusal.Schedule line))

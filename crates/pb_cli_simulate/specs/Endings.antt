@@ -1,8 +1,7 @@
 -- The status and the last line of each ending.
-use Rattle.std.specs.Prelude.{◌≡◌, ℕ, ◌+◌, ◌≤◌, ◌⊎◌, List, [], ◌∷◌, ◌++◌, Option, codes, decimal}
+use Rattle.std.specs.Prelude.{ℕ, ◌+◌, ◌≤◌, List, [], ◌∷◌, ◌++◌, codes, decimal}
 use Rattle.std.specs.List.{flat_map}
-use Rattle.std.specs.Io.KnownBytes.{Appends}
-use Rattle.pb_io.specs.Sinks.{AppendsFront}
+use Rattle.pb_text.specs.declared.limits.TheConstants.{MOST_EVENTS}
 use Rattle.pb_local.specs.Tables.{label_at}
 use Rattle.pb_local.specs.Tree.{Program}
 use Rattle.pb_cli_words.specs.declared.options.Shown.{Shown}
@@ -71,11 +70,7 @@ abbrev pub IsEarly : Ending → Type 0
 IsEarly E.Ended = Unit {0}
 IsEarly (E.Stuck rank cause) = Unit {0}
 IsEarly E.Turns = Unit {0}
-IsEarly (E.Refused t) = t ≤ 1000000
+IsEarly (E.Refused t) = t ≤ MOST_EVENTS
 IsEarly E.Full = Unit {0}
 IsEarly E.NoMemory = Unit {0}
 IsEarly E.WriteFault = Unit {0}
-
--- a status was given and its bytes were written, or a write failed and only some first bytes of them were
-abbrev pub Says : Status → List ℕ → Status → Option (List ℕ) → Option (List ℕ) → Type 0
-Says status text result old new = ((result ≡ status) × Appends old new text) ⊎ ((result ≡ S.WriteFault) × AppendsFront old new text)

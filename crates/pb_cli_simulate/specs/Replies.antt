@@ -19,7 +19,8 @@ use Rattle.pb_sim_play.specs.declared.ending.Ending.{Ending}
 use Rattle.pb_sim_play.specs.declared.ending.Ending.TheVariants as E
 use Rattle.pb_sim_play.specs.Plans.{Source}
 use Rattle.pb_sim_play.specs.Endings.{EndsWith, IsSoFar}
-use Rattle.pb_cli_simulate.specs.Endings.{last_line, Says}
+use Rattle.pb_cli_status.specs.Written.{Says}
+use Rattle.pb_cli_simulate.specs.Endings.{last_line}
 
 -- what a fault of the start is to the program
 abbrev pub refusal_of : SimFault → ℕ → NRange → Refusal

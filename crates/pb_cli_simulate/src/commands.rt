@@ -1,6 +1,7 @@
 //! The commands `sim` and `replay`.
 
 ghost use Rattle.std.specs.Prelude.{◌≡◌, ◌≤◌, length, IfOk, IfErr, IsErrOf};
+ghost use Rattle.pb_text.specs.declared.limits.TheConstants.{MOST_EVENTS};
 ghost use Rattle.pb_io.specs.Faults.{Rose};
 ghost use Rattle.pb_io.specs.Files.{IsSureOf};
 ghost use Rattle.pb_ctree.specs.Trees.{IsTree};
@@ -9,18 +10,15 @@ ghost use Rattle.pb_cli_status.specs.declared.status.Status.TheVariants as S;
 ghost use Rattle.pb_cli_simulate.specs.Commands.{OnShort, IsUntaken, SaysReplay, SaysSim};
 ghost use Rattle.pb_cli_simulate.specs.Sources.{IsTextOf, IsNoText, IsNoSchedule};
 
-use crate::finish::refuse;
 use crate::simulate::{replay_tree, simulate_tree};
 use crate::sources::{read_text, read_turns};
-use pb_cli_status::{Refusal, Status};
+use pb_cli_status::{Refusal, Status, refuse};
 use pb_cli_words::Options;
 use pb_ctree::CTree;
 use pb_io::{Folder, InFault, Sink, read_all};
 use pb_sched::Schedule;
+use pb_text::MOST_TEXT_BYTES;
 use std::alloc::Global;
-
-/// The greatest number of bytes of a text and of a schedule.
-const MOST_BYTES: u32 = 67_108_864;
 
 /// The tree of the C text in a file.
 #[tactic(auto, using(crate::proofs::Taken::on_short, crate::proofs::Taken::no_text, crate::proofs::Taken::made))]
@@ -34,7 +32,7 @@ fn text_in<F: Folder>(alloc: Global, name: &str, folder: &mut F) -> Result<CTree
     ensures holds { F.holds folder.new ≡ F.holds folder.old }
     ensures steady { F.steady folder.new ≡ F.steady folder.old }
 {
-    let bytes = match read_all(alloc, folder, name, MOST_BYTES) {
+    let bytes = match read_all(alloc, folder, name, MOST_TEXT_BYTES) {
         Ok(bytes) => bytes,
         Err(InFault::ReadFault) => return Err(Refusal::ReadFault),
         Err(InFault::TooLong) => return Err(Refusal::FileBytes),
@@ -50,13 +48,13 @@ fn text_in<F: Folder>(alloc: Global, name: &str, folder: &mut F) -> Result<CTree
 #[tactic(auto, using(crate::proofs::Taken::on_short, crate::proofs::Taken::no_schedule))]
 fn schedule_in<F: Folder>(alloc: Global, name: &str, folder: &mut F) -> Result<Schedule, Refusal>
     ensures schedule { IfOk result (λ s. OnShort name.now (F.holds folder.old) (λ bytes. IsSchedule bytes s.seed s.turns.items)) }
-    ensures few { IfOk result (λ s. length s.turns.items ≤ 1000000) }
+    ensures few { IfOk result (λ s. length s.turns.items ≤ MOST_EVENTS) }
     ensures denied { IfErr result (IsUntaken IsNoSchedule name.now (F.holds folder.old)) }
     ensures fault { IsErrOf result Refusal.ReadFault → Rose (F.faults folder.old) (F.faults folder.new) }
     ensures sure { IsErrOf result Refusal.ReadFault → IsSureOf (F.steady folder.old) (F.holds folder.old) name.now → ⊥ }
     ensures later { F.faults folder.old ≤ F.faults folder.new }
 {
-    let bytes = match read_all(alloc, folder, name, MOST_BYTES) {
+    let bytes = match read_all(alloc, folder, name, MOST_TEXT_BYTES) {
         Ok(bytes) => bytes,
         Err(InFault::ReadFault) => return Err(Refusal::ReadFault),
         Err(InFault::TooLong) => return Err(Refusal::FileBytes),
@@ -82,7 +80,7 @@ pub fn sim<F: Folder, O: Sink, A: Fn(u64, u32, u64) -> u32 + Drop>(
     out: &mut O,
 ) -> Status
     requires callable { A.IsAlwaysCallable answers }
-    requires few { options.turns ≤ 1000000 }
+    requires few { options.turns ≤ MOST_EVENTS }
     ensures reply { SaysSim (A.post answers) text.now options (F.holds folder.old) result (O.taken out.old) (O.taken out.new) }
     ensures read_fault { result ≡ S.ReadFault → Rose (F.faults folder.old) (F.faults folder.new) }
     ensures sure { result ≡ S.ReadFault → IsSureOf (F.steady folder.old) (F.holds folder.old) text.now → ⊥ }

@@ -3,32 +3,18 @@
 ghost use Rattle.std.specs.Prelude.{◌≡◌, ◌≤◌, ◌⊎◌};
 ghost use Rattle.pb_local.specs.Tree.{program_of};
 ghost use Rattle.pb_io.specs.Faults.{Rose};
-ghost use Rattle.pb_cli_status.specs.Lines.{line_of};
-ghost use Rattle.pb_cli_status.specs.Lines as L;
+ghost use Rattle.pb_cli_status.specs.Written.{Says};
 ghost use Rattle.pb_cli_status.specs.declared.status.Status.TheVariants as S;
 ghost use Rattle.pb_sim_play.specs.declared.ending.Ending.TheVariants as E;
-ghost use Rattle.pb_cli_simulate.specs.Endings.{ended_line, last_line, status_of, stuck_line, IsEarly, Says};
+ghost use Rattle.pb_cli_simulate.specs.Endings.{ended_line, last_line, status_of, stuck_line, IsEarly};
 
 use crate::stuck::write_stuck;
-use pb_cli_status::{Refusal, Status};
+use pb_cli_status::{Refusal, Status, refuse};
 use pb_cli_words::Shown;
 use pb_io::{OutFault, Sink, write_all};
 use pb_local::Local;
 use pb_sim::Cause;
 use pb_sim_play::Ending;
-
-/// Writes the line of a refusal, and tells its status.
-pub fn refuse<O: Sink>(out: &mut O, refusal: Refusal) -> Status
-    ensures said { Says (L.status_of refusal) (line_of refusal) result (O.taken out.old) (O.taken out.new) }
-    ensures read { result ≡ S.ReadFault → refusal ≡ Refusal.ReadFault }
-    ensures fault { result ≡ S.WriteFault → Rose (O.faults out.old) (O.faults out.new) }
-    ensures later { O.faults out.old ≤ O.faults out.new }
-{
-    match refusal.write_line(out) {
-        Ok(()) => refusal.status(),
-        Err(OutFault::WriteFault) => Status::WriteFault,
-    }
-}
 
 /// Writes the end of a log that is whole, or of a schedule nothing, and tells that all is done.
 fn done<O: Sink>(out: &mut O, shown: Shown) -> Status

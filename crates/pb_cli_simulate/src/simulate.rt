@@ -1,6 +1,7 @@
 //! Simulations of a tree.
 
 ghost use Rattle.std.specs.Prelude.{◌≡◌, ◌≤◌, pos, length, map, IfOk, IfErr};
+ghost use Rattle.pb_text.specs.declared.limits.TheConstants.{MOST_EVENTS};
 ghost use Rattle.pb_io.specs.Faults.{Rose};
 ghost use Rattle.pb_ctree.specs.Trees.{IsTree};
 ghost use Rattle.pb_cli_status.specs.declared.status.Status.TheVariants as S;
@@ -9,8 +10,8 @@ ghost use Rattle.pb_sim.specs.Made.{IsBegun, IsNoStart};
 ghost use Rattle.pb_sim_play.specs.Plans.{drawn, given, pair_of};
 ghost use Rattle.pb_cli_simulate.specs.Replies.{refusal_of, SaysReply};
 
-use crate::finish::{finish, refuse};
-use pb_cli_status::{Refusal, Status};
+use crate::finish::finish;
+use pb_cli_status::{Refusal, Status, refuse};
 use pb_cli_words::{Options, Shown};
 use pb_ctree::{CTree, NRange};
 use pb_io::Sink;
@@ -54,7 +55,7 @@ fn by_seed<A: Fn(u64, u32, u64) -> u32 + Drop, O: Sink>(
 ) -> Status
     requires callable { A.IsAlwaysCallable sim.old.answers.answer }
     requires begun { IsBegun sim.old.held.state.tree (pos options.n) sim.old.held }
-    requires few { options.turns ≤ 1000000 }
+    requires few { options.turns ≤ MOST_EVENTS }
     ensures told { SaysReply sim.old.held.state.tree options.n (A.post sim.old.answers.answer sim.old.answers.seed) (drawn options.seed options.modes) options.turns options.shown options.seed result (O.taken out.old) (O.taken out.new) }
     ensures fault { result ≡ S.WriteFault → Rose (O.faults out.old) (O.faults out.new) }
     ensures later { O.faults out.old ≤ O.faults out.new }
@@ -73,7 +74,7 @@ fn by_schedule<A: Fn(u64, u32, u64) -> u32 + Drop, O: Sink>(
 ) -> Status
     requires callable { A.IsAlwaysCallable sim.old.answers.answer }
     requires begun { IsBegun sim.old.held.state.tree (pos n) sim.old.held }
-    requires few { length turns.now ≤ 1000000 }
+    requires few { length turns.now ≤ MOST_EVENTS }
     ensures told { SaysReply sim.old.held.state.tree n (A.post sim.old.answers.answer sim.old.answers.seed) (given (map pair_of turns.now)) (length turns.now) H.Log 0 result (O.taken out.old) (O.taken out.new) }
     ensures fault { result ≡ S.WriteFault → Rose (O.faults out.old) (O.faults out.new) }
     ensures later { O.faults out.old ≤ O.faults out.new }
@@ -105,7 +106,7 @@ pub fn simulate_tree<A: Fn(u64, u32, u64) -> u32 + Drop, O: Sink>(
 ) -> Status
     requires callable { A.IsAlwaysCallable answers }
     requires tree { IsTree tree }
-    requires few { options.turns ≤ 1000000 }
+    requires few { options.turns ≤ MOST_EVENTS }
     ensures told { SaysReply tree options.n (A.post answers options.seed) (drawn options.seed options.modes) options.turns options.shown options.seed result (O.taken out.old) (O.taken out.new) }
     ensures fault { result ≡ S.WriteFault → Rose (O.faults out.old) (O.faults out.new) }
     ensures later { O.faults out.old ≤ O.faults out.new }
@@ -133,7 +134,7 @@ pub fn replay_tree<A: Fn(u64, u32, u64) -> u32 + Drop, O: Sink>(
 ) -> Status
     requires callable { A.IsAlwaysCallable answers }
     requires tree { IsTree tree }
-    requires few { length schedule.now.turns.items ≤ 1000000 }
+    requires few { length schedule.now.turns.items ≤ MOST_EVENTS }
     ensures told { SaysReply tree n (A.post answers schedule.now.seed) (given (map pair_of schedule.now.turns.items)) (length schedule.now.turns.items) H.Log 0 result (O.taken out.old) (O.taken out.new) }
     ensures fault { result ≡ S.WriteFault → Rose (O.faults out.old) (O.faults out.new) }
     ensures later { O.faults out.old ≤ O.faults out.new }

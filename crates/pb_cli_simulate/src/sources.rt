@@ -1,6 +1,7 @@
 //! Texts and schedules.
 
 ghost use Rattle.std.specs.Prelude.{◌≡◌, ◌≤◌, true, All, length, IfOk, IfErr, IsErrOf};
+ghost use Rattle.pb_text.specs.declared.limits.TheConstants.{MOST_EVENTS};
 ghost use Rattle.pb_ctree.specs.Bodies.{is_body};
 ghost use Rattle.pb_sched.specs.Outcomes.{IsSchedule};
 ghost use Rattle.pb_cli_simulate.specs.Sources.{IsTextOf, IsNoText, IsNoSchedule};
@@ -45,7 +46,7 @@ fn tell_bodies(bodies: &Bodies)
 /// the lines up to that of event 1,000,001 are well formed.
 pub fn read_turns(alloc: Global, bytes: &[u8]) -> Result<Schedule, Refusal>
     ensures schedule { IfOk result (λ s. IsSchedule bytes.now s.seed s.turns.items) }
-    ensures few { IfOk result (λ s. length s.turns.items ≤ 1000000) }
+    ensures few { IfOk result (λ s. length s.turns.items ≤ MOST_EVENTS) }
     ensures denied { IfErr result (IsNoSchedule bytes.now) }
     ensures real { IsErrOf result Refusal.ReadFault → ⊥ }
 {

@@ -1,5 +1,6 @@
 use crate::{Mode, Modes, Options, Shown, Status, replay, sim};
 use pb_io::{MemFile, MemFolder, MemSink};
+use pb_text::MOST_EVENTS;
 use std::alloc::{AllocError, Global};
 use std::test::Fail;
 
@@ -94,7 +95,7 @@ fn options(n: u32, mode: Mode) -> Options {
     Options {
         n,
         seed: 0,
-        turns: 1_000_000,
+        turns: MOST_EVENTS,
         modes: Modes::Each(mode),
         shown: Shown::Log,
     }
@@ -106,7 +107,7 @@ fn simulated(alloc: Global, text: Vec<u8>, options: Options) -> Result<(Status, 
     files.push(file(alloc, "t", text)?)?;
     let mut folder = MemFolder::new(files, Vec::new(alloc));
     let mut out = MemSink::new(alloc, 8192, 8192, Vec::new(alloc))?;
-    if options.turns > 1_000_000 {
+    if options.turns > MOST_EVENTS {
         return Ok((Status::Usage, Vec::new(alloc)));
     }
     let status = sim(
@@ -313,7 +314,7 @@ fn a_schedule_is_replayed(rt: HostRuntime) -> Result<(), Fail> {
     let asked = Options {
         n: 2,
         seed: 7,
-        turns: 1_000_000,
+        turns: MOST_EVENTS,
         modes: Modes::Mixed,
         shown: Shown::Schedule,
     };

@@ -4,10 +4,12 @@
 mod broken;
 mod parts;
 mod refusal;
+mod refusing;
 mod status;
 mod told;
 
 pub use parts::write_parts;
 pub use pb_text::{Name, Place, Quantity};
 pub use refusal::Refusal;
+pub use refusing::refuse;
 pub use status::Status;

@@ -3,25 +3,26 @@ use Rattle.std.proofs.Common.{◌≡◌, ℕ, ◌+◌, ◌-◌, ◌*◌, ◌^◌
 use Rattle.std.proofs.lemmas.List.{drop_more}
 use Rattle.std.specs.Prelude.{◌&&◌}
 use Rattle.std.specs.Char.{is_ascii_digit}
-use Rattle.pb_cli_words.specs.Numbers.{all_digits, value_behind, number_behind, is_number, is_within, number_in}
+use Rattle.pb_text.specs.Lexemes.{value_from}
+use Rattle.pb_cli_words.specs.Numbers.{all_digits, number_behind, is_number, is_within, number_in}
 
-grows : (n : ℕ) (text : List ℕ) → n ≤ value_behind n text
+grows : (n : ℕ) (text : List ℕ) → n ≤ value_from n text
 grows n [] = omega arith
 grows n (c ∷ cs) = let h = grows (10 * n + (c - 48)) cs in omega arith
 
 -- a front that is too large makes all too large
 too_large : (n : ℕ) (text : List ℕ) → 2 ^ 64 ≤ n → number_behind n text ≡ None
-too_large n text h = go (all_digits text) (nat_lt (value_behind n text) (2 ^ 64)) refl
+too_large n text h = go (all_digits text) (nat_lt (value_from n text) (2 ^ 64)) refl
   where
-    go : (a b : Bool) → nat_lt (value_behind n text) (2 ^ 64) ≡ b → cond (a && b) (Some (value_behind n text)) None ≡ None
-    go true true e = let g = grows n text in let l = ltb-true (value_behind n text) (2 ^ 64) e in absurd (omega arith)
+    go : (a b : Bool) → nat_lt (value_from n text) (2 ^ 64) ≡ b → cond (a && b) (Some (value_from n text)) None ≡ None
+    go true true e = let g = grows n text in let l = ltb-true (value_from n text) (2 ^ 64) e in absurd (omega arith)
     go true false e = refl
     go false b e = refl
 
 pub step : (n c : ℕ) (cs : List ℕ) → number_behind n (c ∷ cs) ≡ cond (is_ascii_digit c) (number_behind (10 * n + (c - 48)) cs) None
 step n c cs = go (is_ascii_digit c)
   where
-    go : (b : Bool) → cond ((b && all_digits cs) && nat_lt (value_behind (10 * n + (c - 48)) cs) (2 ^ 64)) (Some (value_behind (10 * n + (c - 48)) cs)) None ≡ cond b (number_behind (10 * n + (c - 48)) cs) None
+    go : (b : Bool) → cond ((b && all_digits cs) && nat_lt (value_from (10 * n + (c - 48)) cs) (2 ^ 64)) (Some (value_from (10 * n + (c - 48)) cs)) None ≡ cond b (number_behind (10 * n + (c - 48)) cs) None
     go true = refl
     go false = refl
 
@@ -36,22 +37,22 @@ overflows n at text there h =
 
 -- a number that doesn't fit is in no range, and one that fits is where it is within
 pub no_number : (low high : ℕ) (text : List ℕ) → high < 2 ^ 64 → number_behind 0 text ≡ None → number_in low high text ≡ None
-no_number low high text small h = go (nat_lt 0 (length text)) (nat_le (length text) 20) (all_digits text) (nat_lt (value_behind 0 text) (2 ^ 64)) (nat_le low (value_behind 0 text)) (nat_le (value_behind 0 text) high) refl refl h
+no_number low high text small h = go (nat_lt 0 (length text)) (nat_le (length text) 20) (all_digits text) (nat_lt (value_from 0 text) (2 ^ 64)) (nat_le low (value_from 0 text)) (nat_le (value_from 0 text) high) refl refl h
   where
-    go : (a b c d e f : Bool) → nat_lt (value_behind 0 text) (2 ^ 64) ≡ d → nat_le (value_behind 0 text) high ≡ f → cond (c && d) (Some (value_behind 0 text)) None ≡ None
-        → cond (((a && b) && c) && (e && f)) (Some (value_behind 0 text)) None ≡ None
+    go : (a b c d e f : Bool) → nat_lt (value_from 0 text) (2 ^ 64) ≡ d → nat_le (value_from 0 text) high ≡ f → cond (c && d) (Some (value_from 0 text)) None ≡ None
+        → cond (((a && b) && c) && (e && f)) (Some (value_from 0 text)) None ≡ None
     go false b c d e f p q r = refl
     go true false c d e f p q r = refl
     go true true false d e f p q r = refl
     go true true true d false f p q r = refl
     go true true true d true false p q r = refl
     go true true true true true true p q r = absurd cc
-    go true true true false true true p q r = let l = ltb-false (value_behind 0 text) (2 ^ 64) p in let m = leb-true (value_behind 0 text) high q in absurd (omega arith)
+    go true true true false true true p q r = let l = ltb-false (value_from 0 text) (2 ^ 64) p in let m = leb-true (value_from 0 text) high q in absurd (omega arith)
 
-pub is_digits : (n : ℕ) (text : List ℕ) → number_behind 0 text ≡ Some n → (all_digits text ≡ true) × (value_behind 0 text ≡ n)
-is_digits n text h = go (all_digits text) (nat_lt (value_behind 0 text) (2 ^ 64)) refl h
+pub is_digits : (n : ℕ) (text : List ℕ) → number_behind 0 text ≡ Some n → (all_digits text ≡ true) × (value_from 0 text ≡ n)
+is_digits n text h = go (all_digits text) (nat_lt (value_from 0 text) (2 ^ 64)) refl h
   where
-    go : (c d : Bool) → all_digits text ≡ c → cond (c && d) (Some (value_behind 0 text)) None ≡ Some n → (all_digits text ≡ true) × (value_behind 0 text ≡ n)
+    go : (c d : Bool) → all_digits text ≡ c → cond (c && d) (Some (value_from 0 text)) None ≡ Some n → (all_digits text ≡ true) × (value_from 0 text ≡ n)
     go true true e h = (e, cc)
     go true false e h = absurd cc
     go false d e h = absurd cc

@@ -1,4 +1,3 @@
 pub mod Digits
 pub mod Ended
-pub mod Strips
 pub mod Taken

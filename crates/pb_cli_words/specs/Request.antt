@@ -3,6 +3,7 @@ use Rattle.std.specs.Prelude.{ℕ, ◌≤◌, nat_eq, cond, if◌then◌else◌,
 use Rattle.std.specs.Cmp.Lexicographic.{pointwise}
 use Rattle.std.specs.List.{filter_map}
 use Rattle.pb_text.specs.declared.mode.Mode.TheVariants.{Eager, Waiting}
+use Rattle.pb_text.specs.declared.limits.TheConstants.{MOST_EVENTS, MOST_NUMBER}
 use Rattle.pb_cli_words.specs.declared.key.Key.{Key}
 use Rattle.pb_cli_words.specs.declared.key.Key.TheVariants as K
 use Rattle.pb_cli_words.specs.declared.options.Modes.{Modes}
@@ -73,7 +74,7 @@ shown_if (Some value) = Schedule
 
 -- N from 0 to 2,000,000,000, which has to be there
 abbrev pub n_in : List Given → Option ℕ
-n_in options = value_of K.N options >>= needed 0 2000000000
+n_in options = value_of K.N options >>= needed 0 MOST_NUMBER
 
 -- a seed below 2^64, or 0
 abbrev pub seed_in : List Given → Option ℕ
@@ -81,7 +82,7 @@ seed_in options = value_of K.Seed options >>= number_or 0 0 18446744073709551615
 
 -- a number of events from 1 to 1,000,000, or 1,000,000
 abbrev pub turns_in : List Given → Option ℕ
-turns_in options = value_of K.Turns options >>= number_or 1000000 1 1000000
+turns_in options = value_of K.Turns options >>= number_or MOST_EVENTS 1 MOST_EVENTS
 
 -- `eager`, `waiting` or `mixed`, or `eager`
 abbrev pub modes_given : List Given → Option Modes
@@ -99,7 +100,7 @@ options_in options =
 -- `--n A` and no other option
 abbrev pub only_n : List Given → Option ℕ
 only_n [] = None
-only_n (given ∷ []) = cond (nat_eq (number_of given.key) (number_of K.N)) (number_in 0 2000000000 given.value) None
+only_n (given ∷ []) = cond (nat_eq (number_of given.key) (number_of K.N)) (number_in 0 MOST_NUMBER given.value) None
 only_n (given ∷ another ∷ more) = None
 
 -- ---- the forms
@@ -169,7 +170,7 @@ request_if (Some command) = Some (request_of command)
 
 -- at most 1,000,000 events are asked for
 abbrev pub HasFewTurns : Options → Type 0
-HasFewTurns options = options.turns ≤ 1000000
+HasFewTurns options = options.turns ≤ MOST_EVENTS
 
 abbrev pub AsksForFew : Command → Type 0
 AsksForFew (C.Check file) = Unit {0}

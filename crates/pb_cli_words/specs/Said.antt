@@ -1,6 +1,7 @@
 -- The words after the program's name, told apart: options with their values, and other words.
 use Rattle.std.specs.Prelude.{ℕ, suc, zero, ◌&&◌, nat_eq, nat_le, cond, Bool, true, false, List, [], ◌∷◌, length, Option, Some, None, codes}
 use Rattle.std.specs.Cmp.Lexicographic.{pointwise}
+use Rattle.pb_text_read.specs.Fronts.{strip}
 use Rattle.pb_cli_words.specs.declared.key.Key.{Key}
 use Rattle.pb_cli_words.specs.declared.key.Key.TheVariants.{N, Seed, Turns, Mode, Schedule}
 
@@ -39,12 +40,6 @@ pub data Shape : Type 0 where
   option : (key : Key) → Shape
   joined : (key : Key) → (value : List ℕ) → Shape  -- an option with its value, as `--n=8`
   strange : Shape
-
--- the bytes behind a text in front of them
-abbrev pub strip : List ℕ → List ℕ → Option (List ℕ)
-strip [] bytes = Some bytes
-strip (p ∷ ps) [] = None
-strip (p ∷ ps) (b ∷ bytes) = cond (nat_eq p b) (strip ps bytes) None
 
 -- what stands behind an option's name: nothing, or `=` and a value
 abbrev pub ending_of : Key → List ℕ → Option Shape

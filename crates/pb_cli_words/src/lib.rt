@@ -4,7 +4,6 @@
 #![tactic(auto)]
 
 mod command;
-mod front;
 mod given;
 mod key;
 mod number;

@@ -7,13 +7,7 @@ ghost use Rattle.pb_cli_words.specs.Shown.{plain_given};
 use crate::given::Given;
 use crate::key::Key;
 use crate::number::number_in;
-use pb_text::Mode;
-
-/// The greatest N that can be asked for.
-const MOST_N: u64 = 2_000_000_000;
-
-/// The greatest number of events.
-const MOST_TURNS: u64 = 1_000_000;
+use pb_text::{MOST_EVENTS, MOST_NUMBER, Mode};
 
 /// In which modes the events are made.
 #[derive(Clone, Copy, Debug, PartialEq, Eq)]
@@ -65,7 +59,7 @@ fn n_in(options: &[Given]) -> Option<u32>
     ensures { result ≡ n_in (map plain_given options.now) }
 {
     let text = value_of(options, Key::N)??;
-    let n = number_in(text, 0, MOST_N)?;
+    let n = number_in(text, 0, u64::from(MOST_NUMBER))?;
     Some(n as u32)
 }
 
@@ -80,12 +74,12 @@ fn seed_in(options: &[Given]) -> Option<u64>
 
 fn turns_in(options: &[Given]) -> Option<u32>
     ensures turns { result ≡ turns_in (map plain_given options.now) }
-    ensures few { IfSome result (λ turns. turns ≤ 1000000) }
+    ensures few { IfSome result (λ turns. turns ≤ MOST_EVENTS) }
 {
     match value_of(options, Key::Turns)? {
-        None => Some(MOST_TURNS as u32),
+        None => Some(MOST_EVENTS),
         Some(text) => {
-            let turns = number_in(text, 1, MOST_TURNS)?;
+            let turns = number_in(text, 1, u64::from(MOST_EVENTS))?;
             Some(turns as u32)
         }
     }
@@ -149,7 +143,7 @@ pub fn only_n(options: &[Given]) -> Option<u32>
     match options {
         [given] => {
             if given.key.number() == Key::N.number() {
-                let n = number_in(given.value, 0, MOST_N)?;
+                let n = number_in(given.value, 0, u64::from(MOST_NUMBER))?;
                 Some(n as u32)
             } else {
                 None

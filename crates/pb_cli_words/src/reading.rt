@@ -30,6 +30,7 @@ pub struct Reading<'a> {
 }
 
 impl<'a> Reading<'a> {
+    /// Nothing taken yet, and no option that wants a value. Takes no memory.
     pub fn new(alloc: Global) -> Reading<'a>
         ensures words { words_of result ≡ [] }
         ensures options { options_of result ≡ [] }

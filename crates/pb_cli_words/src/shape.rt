@@ -4,8 +4,8 @@ ghost use Rattle.std.specs.Prelude.{◌≡◌};
 ghost use Rattle.pb_cli_words.specs.Said.{begins_with_dash, named, option_shape, shape_of};
 ghost use Rattle.pb_cli_words.specs.Shown.{plain, plain_if};
 
-use crate::front::strip;
 use crate::key::Key;
+use pb_text_read::strip;
 
 /// What a word is, where no option before it wants a value.
 #[derive(Clone, Copy, Debug)]

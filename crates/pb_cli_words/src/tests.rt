@@ -1,4 +1,5 @@
 use crate::{Command, Mode, Modes, Shown, command_in};
+use pb_text::{MOST_EVENTS, MOST_NUMBER};
 use std::alloc::{AllocError, Global};
 use std::test::Fail;
 
@@ -44,7 +45,7 @@ fn letters(alloc: Global, line: &str) -> Result<Vec<u8>, AllocError> {
             if options.n == 8 && options.seed == 7 && options.turns == 100 {
                 out.push(b'!')?;
             }
-            if options.n == 8 && options.seed == 0 && options.turns == 1_000_000 {
+            if options.n == 8 && options.seed == 0 && options.turns == MOST_EVENTS {
                 out.push(b'.')?;
             }
             out.extend_from_slice(file.as_bytes())?;
@@ -59,7 +60,7 @@ fn letters(alloc: Global, line: &str) -> Result<Vec<u8>, AllocError> {
         }
         Ok(Some(Command::Run(file, options))) => {
             out.push(b'u')?;
-            if options.n == 2_000_000_000 {
+            if options.n == MOST_NUMBER {
                 out.push(b'N')?;
             }
             out.extend_from_slice(file.as_bytes())?;

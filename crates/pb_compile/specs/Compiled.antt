@@ -1,5 +1,6 @@
 -- What the compiler makes of an accepted file.
 use Rattle.std.specs.Prelude.{◌≡◌, ◌≤◌, ℕ, ℤ, List, []}
+use Rattle.pb_text.specs.declared.limits.TheConstants.{MOST_NUMBER}
 use Rattle.pb_core_language.specs.Plain.{Protocol}
 use Rattle.pb_core_language.specs.Ranks.{total}
 use Rattle.pb_core_language.specs.Verdict.{IsIn}
@@ -27,7 +28,7 @@ pub record IsSmall (tree : CTree) : Type 0 where
 
 -- Each rank does its part of the sequential run, and all ranks together do the run, at each N of the range with at most 2,000,000,000 ranks
 abbrev pub DoesProtocol : Protocol → CTree → Type 0
-DoesProtocol p tree = (n : ℤ) → IsIn p.range n → total p.roles n ≤ 2000000000 → DoesRun p (program_of tree.local) n
+DoesProtocol p tree = (n : ℤ) → IsIn p.range n → total p.roles n ≤ MOST_NUMBER → DoesRun p (program_of tree.local) n
 
 -- the bytes are an accepted file with this meaning, and the tree is one of its projection, which does the protocol
 pub record IsCompiled (bytes : List ℕ) (p : Protocol) (tree : CTree) : Type 0 where

@@ -1,4 +1,5 @@
 ghost use Rattle.std.specs.Prelude.{◌≡◌, ◌≤◌, true, None, OnOk, IfOk, IfErr, length};
+ghost use Rattle.pb_text.specs.declared.limits.TheConstants.{MOST_TEXT_BYTES};
 ghost use Rattle.pb_syntax.specs.Plain.{plain_file};
 ghost use Rattle.pb_core_language.specs.FileRules.{broken};
 ghost use Rattle.pb_core_language.specs.Meaning.{meaning};
@@ -24,7 +25,7 @@ use std::alloc::Global;
 /// first rule that is broken. The bytes are at most 67,108,864.
 #[tactic(auto, using(crate::proofs::Told::of_text, crate::proofs::Told::of_trees, crate::proofs::Told::countable, crate::proofs::Told::sound))]
 pub fn accept(alloc: Global, bytes: &[u8]) -> Result<Core, Verdict>
-    requires { length bytes.now ≤ 67108864 }
+    requires { length bytes.now ≤ MOST_TEXT_BYTES }
     ensures accepted { IfOk result (λ core. IsAcceptedAs bytes.now (plain core)) }
     ensures verdict { IfErr result (IsVerdict bytes.now) }
 {

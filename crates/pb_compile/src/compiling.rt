@@ -1,4 +1,5 @@
 ghost use Rattle.std.specs.Prelude.{◌≡◌, ◌≤◌, ◌+◌, ◌*◌, true, IfOk, IfErr, length};
+ghost use Rattle.pb_text.specs.declared.limits.TheConstants.{MOST_TEXT_BYTES};
 ghost use Rattle.pb_core_language.specs.Plain.{plain};
 ghost use Rattle.pb_core_language.specs.Sound.{is_sound};
 ghost use Rattle.pb_core_language.specs.Verdict.{KeepsAll};
@@ -38,7 +39,7 @@ impl From<NoMemory> for Verdict {
 /// Compiles a protocol file: the verdict where it isn't accepted, and else its core and its C tree. The bytes are at most
 /// 67,108,864.
 pub fn compile(alloc: Global, bytes: &[u8]) -> Result<Compiled, Verdict>
-    requires { length bytes.now ≤ 67108864 }
+    requires { length bytes.now ≤ MOST_TEXT_BYTES }
     ensures compiled { IfOk result (λ c. IsCompiled bytes.now (plain c.core) c.tree) }
     ensures verdict { IfErr result (IsVerdict bytes.now) }
 {

@@ -1,6 +1,7 @@
 -- What goes with the labels and kernels of a file's statements in its core.
 use Rattle.std.proofs.Common.{◌≡◌, ℕ, suc, ◌+◌, ◌<◌, Bool, true, false, nat_lt, List, [], ◌∷◌, length, refl, sym, ap, subst, ◌∙◌, arith}
 use Rattle.std.proofs.lemmas.Bool.Decides.{nat_tests}
+use Rattle.std.proofs.lemmas.Bool.{and_parts}
 use Rattle.pb_syntax.specs.declared.core_label.KernelKind.{KernelKind}
 use Rattle.pb_syntax.specs.declared.core_label.KernelKind.TheVariants as K
 use Rattle.pb_syntax.specs.declared.tree.Op.{Op}
@@ -15,7 +16,6 @@ use Rattle.pb_core_language.specs.Plain.{Protocol}
 use Rattle.pb_core_language.specs.Sound.{is_bound, Rows, is_end, has_branch, is_stmt, is_block, are_branches}
 use Rattle.pb_local.specs.WellMade.{HasWords, GoesWith}
 use Rattle.pb_shape.specs.Tabled.{label_at, kernel_at, count, Goes, GoAll, GoAmong}
-use Rattle.pb_compile_laws.proofs.Bools.{two}
 use Rattle.pb_compile_laws.proofs.Measures.{branch_count, IsWell, AreWell, AreWellAmong}
 use Rattle.pb_compile_laws.proofs.Small.{of_message}
 use Rattle.pb_compile_laws.proofs.Payloads.{row_payload, at_position, AreRight, right_both}
@@ -69,21 +69,21 @@ module _ (p : Protocol) (c : Name) (roles : List Name) (all : List Visit) (rows_
     go_at varies opens scope os s b (message l q f to) well right kinds sound = of_message (λ y. Goes p y) table s b l f to (λ over. (tt, tt)) tt
     go_at varies opens scope os s b (foreach at x over place items) well right kinds sound =
         go_in true opens (with_variable x.name scope) os (suc s) (suc b) items well right (one_both all (range_visits c scope over) (block_visits c (with_variable x.name scope) items) kinds.1).1
-        (two (is_bound (lin_of c over.high)) _ (two (is_bound (lin_of c over.low)) _ sound).1).1
+        (and_parts (is_bound (lin_of c over.high)) _ (and_parts (is_bound (lin_of c over.low)) _ sound).1).1
     go_at varies opens scope os s b (loop at x place body) well right kinds sound =
-        go_in false (s ∷ opens) (with_loop x.name scope) (record { name = x.name; id = s } ∷ os) (suc s) (suc b) body well right kinds.1 (two (nat_lt (length opens) 64) _ sound).1
+        go_in false (s ∷ opens) (with_loop x.name scope) (record { name = x.name; id = s } ∷ os) (suc s) (suc b) body well right kinds.1 (and_parts (nat_lt (length opens) 64) _ sound).1
     go_at varies opens scope os s b (again at x) well right kinds sound = tt
     go_at varies opens scope os s b (choice at k who bs) well right kinds sound =
-        let g = two (nat_lt (position_of k.name (kernel_names p.kernels)) (length p.kernels)) _ sound in
-        let h = two (is_end rows false (end_of table who)) _ g.1 in
+        let g = and_parts (nat_lt (position_of k.name (kernel_names p.kernels)) (length p.kernels)) _ sound in
+        let h = and_parts (is_end rows false (end_of table who)) _ g.1 in
         let n = counted os (suc s) b bs in (
           chooses _ (kernel_is k.name a_choice_kernel g.0 kinds.0),
           omega (arith, n, well.1.0),
           omega (arith, n, well.1.1.0),
-          go_among opens scope os (suc s) b bs well.1.1.1 right (one_both all (end_visits c scope scope who) (branches_visits c scope bs) kinds.1).1 (two (has_branch (branches_of table os (suc s) b bs)) _ h.1).1,
+          go_among opens scope os (suc s) b bs well.1.1.1 right (one_both all (end_visits c scope scope who) (branches_visits c scope bs) kinds.1).1 (and_parts (has_branch (branches_of table os (suc s) b bs)) _ h.1).1,
         )
     go_at varies opens scope os s b (compute at k who) well right kinds sound =
-        computes _ (kernel_is k.name a_compute_kernel (two (nat_lt (position_of k.name (kernel_names p.kernels)) (length p.kernels)) _ sound).0 kinds.0)
+        computes _ (kernel_is k.name a_compute_kernel (and_parts (nat_lt (position_of k.name (kernel_names p.kernels)) (length p.kernels)) _ sound).0 kinds.0)
     go_at varies opens scope os s b (barrier at) well right kinds sound = tt
     go_at varies opens scope os s b (broadcast at l q f) well right kinds sound = subst HasWords (sym (payload_is l.name q right.0.1)) (wordy q right.0.0)
     go_at varies opens scope os s b (reduce at l q o to) well right kinds sound = subst (GoesWith o) (sym (payload_is l.name q right.0.1)) (goes o q right.0.0)
@@ -95,7 +95,7 @@ module _ (p : Protocol) (c : Name) (roles : List Name) (all : List Visit) (rows_
     go_in varies opens scope os s b (more x rest) well right kinds sound =
         let r = right_both p.labels (labels_at x) (labels_in rest) right in
         let k = one_both all (stmt_visits c scope x) (block_visits c scope rest) kinds in
-        let g = two (is_stmt rows varies opens (stmt_of table os s b x)) _ (two _ _ sound).1 in
+        let g = and_parts (is_stmt rows varies opens (stmt_of table os s b x)) _ (and_parts _ _ sound).1 in
         (go_at varies opens scope os s b x well.0 r.0 k.0 g.0, go_in varies opens scope os (s + stmts_at x) (b + blocks_at x) rest well.1 r.1 k.1 g.1)
 
     go_among : (opens : List ℕ) (scope : Scope) (os : List Open) (s b : ℕ) (bs : PlainBranches) → AreWellAmong bs → AreRight p.labels (labels_among bs) → AreOfOneKind all (branches_visits c scope bs)
@@ -104,5 +104,5 @@ module _ (p : Protocol) (c : Name) (roles : List Name) (all : List Visit) (rows_
     go_among opens scope os s b (branch at x rest) well right kinds sound =
         let r = right_both p.labels (labels_in x) (labels_among rest) right in
         let k = one_both all (block_visits c scope x) (branches_visits c scope rest) kinds in
-        let g = two (is_block rows false opens (block_of table os s (suc b) x)) _ sound in
+        let g = and_parts (is_block rows false opens (block_of table os s (suc b) x)) _ sound in
         (go_in false opens scope os s (suc b) x well.0 r.0 k.0 g.0, go_among opens scope os (s + stmts_in x) (suc (b + blocks_in x)) rest well.1 r.1 k.1 g.1)

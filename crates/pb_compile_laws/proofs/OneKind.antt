@@ -1,6 +1,8 @@
 -- Where a file keeps the rule on names, each name has one kind, and what is declared is new.
 use Rattle.std.proofs.Common.{◌≡◌, ℕ, suc, ◌<◌, Bool, true, false, ◌||◌, ◌&&◌, not, nat_eq, if◌then◌else◌, List, [], ◌∷◌, ◌++◌, length, get_or, refl, sym, ◌∙◌, arith}
 use Rattle.std.proofs.lemmas.Bool.Decides.{nat_tests}
+use Rattle.std.proofs.lemmas.Bool.{or_from, or_parts, true≢false}
+use Rattle.std.proofs.Math.Bool.{and-false}
 use Rattle.pb_syntax.specs.declared.core_label.CoreKernel.{CoreKernel}
 use Rattle.pb_syntax.specs.declared.core_label.KernelKind.{KernelKind}
 use Rattle.pb_syntax.specs.declared.core_label.KernelKind.TheVariants as K
@@ -9,7 +11,7 @@ use Rattle.pb_core_language.specs.Names.{Name, same, Kind, same_kind, kind_numbe
 use Rattle.pb_core_language.specs.FileRules.{is_visited, has_other_kind, is_misused, misnamed}
 use Rattle.pb_core_language.specs.Meaning.{position_of, has_kernel, kernel_names, kernels_at, kernels_in, kernels_among, kernels_after}
 use Rattle.pb_compile_laws.proofs.Words.{swapped}
-use Rattle.pb_compile_laws.proofs.Bools.{none_left, none_right, neither, differ, listed_if}
+use Rattle.pb_compile_laws.proofs.Bools.{listed_if}
 
 abbrev IsNew : Use → Bool → Type 0
 IsNew declared b = b ≡ false
@@ -35,14 +37,14 @@ pub other_both : (x : Name) (k : Kind) (xs ys : List Visit) → has_other_kind x
 other_both x k [] ys h = (refl, h)
 other_both x k (v ∷ xs) ys h =
     let here : Bool = same x v.spot.name && not (same_kind k v.kind) in
-    let g = other_both x k xs ys (none_right here (has_other_kind x k (xs ++ ys)) h) in
-    (neither (none_left here (has_other_kind x k (xs ++ ys)) h) g.0, g.1)
+    let g = other_both x k xs ys (or_parts here (has_other_kind x k (xs ++ ys)) h).1 in
+    (or_from _ _ (or_parts here (has_other_kind x k (xs ++ ys)) h).0 g.0, g.1)
 
 visited_both : (x : Name) (xs ys : List Visit) → is_visited x (xs ++ ys) ≡ false → (is_visited x xs ≡ false) × (is_visited x ys ≡ false)
 visited_both x [] ys h = (refl, h)
 visited_both x (v ∷ xs) ys h =
-    let g = visited_both x xs ys (none_right (same x v.spot.name) (is_visited x (xs ++ ys)) h) in
-    (neither (none_left (same x v.spot.name) (is_visited x (xs ++ ys)) h) g.0, g.1)
+    let g = visited_both x xs ys (or_parts (same x v.spot.name) (is_visited x (xs ++ ys)) h).1 in
+    (or_from _ _ (or_parts (same x v.spot.name) (is_visited x (xs ++ ys)) h).0 g.0, g.1)
 
 new_both : (how : Use) (x : Name) (xs ys : List Visit) → IsNew how (is_visited x (xs ++ ys)) → IsNew how (is_visited x xs) × IsNew how (is_visited x ys)
 new_both declared x xs ys h = visited_both x xs ys h
@@ -71,7 +73,7 @@ settle roles before (v ∷ vs) h =
     let g = listed_if (has_other_kind v.spot.name v.kind before || is_misused roles before v v.how) v.spot.place (misnamed roles (before ++ v ∷ []) vs) h in
     let rest = settle roles (before ++ v ∷ []) vs g.1 in
     let both = settled_both before (v ∷ []) vs rest.0 in
-    (((none_left (has_other_kind v.spot.name v.kind before) (is_misused roles before v v.how) g.0, fresh v.how (none_right (has_other_kind v.spot.name v.kind before) (is_misused roles before v v.how) g.0)), both.0), (both.1, rest.1))
+    ((((or_parts (has_other_kind v.spot.name v.kind before) (is_misused roles before v v.how) g.0).0, fresh v.how (or_parts (has_other_kind v.spot.name v.kind before) (is_misused roles before v v.how) g.0).1), both.0), (both.1, rest.1))
   where
     fresh : (how : Use) → is_misused roles before v how ≡ false → IsNew how (is_visited v.spot.name before)
     fresh declared m = m
@@ -97,8 +99,8 @@ same_either a b = at (same a b) (same b a) refl refl
     at : (u v : Bool) → same a b ≡ u → same b a ≡ v → same a b ≡ same b a
     at true true e f = e ∙ sym f
     at false false e f = e ∙ sym f
-    at true false e f = absurd (differ (sym e ∙ swapped b a f))
-    at false true e f = absurd (differ (sym f ∙ swapped a b e))
+    at true false e f = absurd (true≢false (sym e ∙ swapped b a f))
+    at false true e f = absurd (true≢false (sym f ∙ swapped a b e))
 
 kind_either : (a b : Kind) → same_kind a b ≡ same_kind b a
 kind_either a b = numbers (kind_number a) (kind_number b)
@@ -107,26 +109,22 @@ kind_either a b = numbers (kind_number a) (kind_number b)
     numbers m n = grind (arith, nat_tests)
 
 kind_self : (t : Bool) (k : Kind) → (t && not (same_kind k k)) ≡ false
-kind_self t k = rw (itself (kind_number k)) (at t)
+kind_self t k = rw (itself (kind_number k)) (and-false t)
   where
     itself : (n : ℕ) → nat_eq n n ≡ true
     itself n = grind (arith, nat_tests)
 
-    at : (t : Bool) → (t && false) ≡ false
-    at true = refl
-    at false = refl
-
 backwards : (v : Visit) (vs : List Visit) → AreSettled (v ∷ []) vs → has_other_kind v.spot.name v.kind vs ≡ false
 backwards v [] h = refl
-backwards v (w ∷ vs) h = neither (rw (same_either v.spot.name w.spot.name, kind_either v.kind w.kind) (none_left (same w.spot.name v.spot.name && not (same_kind w.kind v.kind)) false h.0.0)) (backwards v vs h.1)
+backwards v (w ∷ vs) h = or_from _ _ (rw (same_either v.spot.name w.spot.name, kind_either v.kind w.kind) (or_parts (same w.spot.name v.spot.name && not (same_kind w.kind v.kind)) false h.0.0).0) (backwards v vs h.1)
 
 forwards : (v : Visit) (all ws : List Visit) → AreSettled (v ∷ []) ws → AreOfOneKind all ws → AreOfOneKind (v ∷ all) ws
 forwards v all [] h g = tt
-forwards v all (w ∷ ws) h g = (neither (none_left (same w.spot.name v.spot.name && not (same_kind w.kind v.kind)) false h.0.0) g.0, forwards v all ws h.1 g.1)
+forwards v all (w ∷ ws) h g = (or_from _ _ (or_parts (same w.spot.name v.spot.name && not (same_kind w.kind v.kind)) false h.0.0).0 g.0, forwards v all ws h.1 g.1)
 
 pub of_one_kind : (vs : List Visit) → Pairs vs → AreOfOneKind vs vs
 of_one_kind [] h = tt
-of_one_kind (v ∷ vs) h = (neither (kind_self (same v.spot.name v.spot.name) v.kind) (backwards v vs h.0), forwards v vs vs h.0 (of_one_kind vs h.1))
+of_one_kind (v ∷ vs) h = (or_from _ _ (kind_self (same v.spot.name v.spot.name) v.kind) (backwards v vs h.0), forwards v vs vs h.0 (of_one_kind vs h.1))
 
 -- ---- kernels
 
@@ -143,20 +141,20 @@ kernels_none : (x : Name) (k : Kind) (xs ys : List CoreKernel) → other_kernel 
 kernels_none x k [] ys h g = g
 kernels_none x k (r ∷ xs) ys h g =
     let here : Bool = same x r.name && not (same_kind k (kernel_kind r.kind)) in
-    neither (none_left here (other_kernel x k xs) h) (kernels_none x k xs ys (none_right here (other_kernel x k xs) h) g)
+    or_from _ _ (or_parts here (other_kernel x k xs) h).0 (kernels_none x k xs ys (or_parts here (other_kernel x k xs) h).1 g)
 
 module _ (x : Name) (k : Kind) (c : Name) where
   mutual
     none_at : (scope : Scope) (s : PlainStatement) → has_other_kind x k (stmt_visits c scope s) ≡ false → other_kernel x k (kernels_at s) ≡ false
     none_at scope (message l p f t) h = refl
     none_at scope (foreach at y over place items) h =
-        none_in (with_variable y.name scope) items (other_both x k (range_visits c scope over) (block_visits c (with_variable y.name scope) items) (none_right _ (has_other_kind x k (range_visits c scope over ++ block_visits c (with_variable y.name scope) items)) h)).1
-    none_at scope (loop at y place body) h = none_in (with_loop y.name scope) body (none_right _ (has_other_kind x k (block_visits c (with_loop y.name scope) body)) h)
+        none_in (with_variable y.name scope) items (other_both x k (range_visits c scope over) (block_visits c (with_variable y.name scope) items) (or_parts _ (has_other_kind x k (range_visits c scope over ++ block_visits c (with_variable y.name scope) items)) h).1).1
+    none_at scope (loop at y place body) h = none_in (with_loop y.name scope) body (or_parts _ (has_other_kind x k (block_visits c (with_loop y.name scope) body)) h).1
     none_at scope (again at y) h = refl
     none_at scope (choice at kernel who bs) h =
-        neither (none_left _ (has_other_kind x k (end_visits c scope scope who ++ branches_visits c scope bs)) h)
-        (none_among scope bs (other_both x k (end_visits c scope scope who) (branches_visits c scope bs) (none_right _ (has_other_kind x k (end_visits c scope scope who ++ branches_visits c scope bs)) h)).1)
-    none_at scope (compute at kernel who) h = neither (none_left _ (has_other_kind x k (end_visits c scope scope who)) h) refl
+        or_from _ _ (or_parts _ (has_other_kind x k (end_visits c scope scope who ++ branches_visits c scope bs)) h).0
+        (none_among scope bs (other_both x k (end_visits c scope scope who) (branches_visits c scope bs) (or_parts _ (has_other_kind x k (end_visits c scope scope who ++ branches_visits c scope bs)) h).1).1)
+    none_at scope (compute at kernel who) h = or_from _ _ (or_parts _ (has_other_kind x k (end_visits c scope scope who)) h).0 refl
     none_at scope (barrier at) h = refl
     none_at scope (broadcast at l p f) h = refl
     none_at scope (reduce at l p o t) h = refl
@@ -177,11 +175,11 @@ module _ (x : Name) (k : Kind) (c : Name) where
 pub none_after : (x : Name) (k : Kind) (there ks : List CoreKernel) → other_kernel x k there ≡ false → other_kernel x k ks ≡ false → other_kernel x k (kernels_after there ks) ≡ false
 none_after x k there [] h g = h
 none_after x k there (r ∷ ks) h g =
-    none_after x k (if has_kernel r.name there then there else there ++ r ∷ []) ks (at (has_kernel r.name there)) (none_right (same x r.name && not (same_kind k (kernel_kind r.kind))) (other_kernel x k ks) g)
+    none_after x k (if has_kernel r.name there then there else there ++ r ∷ []) ks (at (has_kernel r.name there)) (or_parts (same x r.name && not (same_kind k (kernel_kind r.kind))) (other_kernel x k ks) g).1
   where
     at : (b : Bool) → other_kernel x k (if b then there else there ++ r ∷ []) ≡ false
     at true = h
-    at false = kernels_none x k there (r ∷ []) h (neither (none_left (same x r.name && not (same_kind k (kernel_kind r.kind))) (other_kernel x k ks) g) refl)
+    at false = kernels_none x k there (r ∷ []) h (or_from _ _ (or_parts (same x r.name && not (same_kind k (kernel_kind r.kind))) (other_kernel x k ks) g).0 refl)
 
 pub kind_at : (x : Name) (k : Kind) (rows : List CoreKernel) (d : CoreKernel) → position_of x (kernel_names rows) < length rows → other_kernel x k rows ≡ false → same_kind k (kernel_kind (get_or rows (position_of x (kernel_names rows)) d).kind) ≡ true
 kind_at x k [] d few h = absurd (omega (arith, few))

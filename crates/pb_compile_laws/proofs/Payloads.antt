@@ -1,13 +1,14 @@
 -- Where a file keeps the rule on payloads, each label has in the core the payload with which it stands.
 use Rattle.std.proofs.Common.{◌≡◌, suc, Bool, true, false, ◌&&◌, if◌then◌else◌, List, [], ◌∷◌, ◌++◌, get_or, refl, sym, ap, subst, ◌∙◌, arith}
 use Rattle.std.proofs.lemmas.Slice.Eq.{bytes_eq-Decides}
+use Rattle.std.proofs.lemmas.Bool.{and_parts, eqb-true}
 use Rattle.pb_syntax.specs.declared.core_label.CoreLabel.{CoreLabel}
 use Rattle.pb_syntax.specs.declared.tree.Payload.{Payload}
 use Rattle.pb_syntax.specs.declared.tree.Payload.TheVariants.{Unit as Signal, Int32, Uint32}
 use Rattle.pb_core_language.specs.Names.{Name, same}
 use Rattle.pb_core_language.specs.FileRules.{Labelled, payload_eq, first_payload, mislabelled}
 use Rattle.pb_core_language.specs.Meaning.{position_of, has_label, label_names, labels_after}
-use Rattle.pb_compile_laws.proofs.Bools.{two, number_same, listed_unless}
+use Rattle.pb_compile_laws.proofs.Bools.{listed_unless}
 use Rattle.pb_compile_laws.proofs.Distinct.{same_self}
 use Rattle.pb_compile_laws.proofs.Labels.{row_of, with_label}
 
@@ -79,8 +80,8 @@ kept x p there (l ∷ ls) h = kept x p (with_label there l) ls (has (has_label l
 
 payload_same : (p q : Payload) → payload_eq p q ≡ true → p ≡ q
 payload_same Signal Signal h = refl
-payload_same (Int32 a) (Int32 b) h = ap Int32 (number_same a b h)
-payload_same (Uint32 a) (Uint32 b) h = ap Uint32 (number_same a b h)
+payload_same (Int32 a) (Int32 b) h = ap Int32 (eqb-true a b h)
+payload_same (Uint32 a) (Uint32 b) h = ap Uint32 (eqb-true a b h)
 payload_same Signal (Int32 b) h = absurd (grind arith)
 payload_same Signal (Uint32 b) h = absurd (grind arith)
 payload_same (Int32 a) Signal h = absurd (grind arith)
@@ -121,7 +122,7 @@ rows_right before there (l ∷ ls) says h = ((t.0, λ p. kept l.label.name p (wi
     g = listed_unless (l.is_fine && payload_eq l.payload (first_payload l.label.name l.payload before)) l.label.place (mislabelled (before ++ l ∷ []) ls) h
 
     t : (l.is_fine ≡ true) × (payload_eq l.payload (first_payload l.label.name l.payload before) ≡ true)
-    t = two l.is_fine (payload_eq l.payload (first_payload l.label.name l.payload before)) g.0
+    t = and_parts l.is_fine (payload_eq l.payload (first_payload l.label.name l.payload before)) g.0
 
     was : l.payload ≡ row_payload l.label.name l.payload there
     was = payload_same l.payload _ t.1 ∙ says l.label.name l.payload

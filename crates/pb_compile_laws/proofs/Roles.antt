@@ -5,6 +5,7 @@ use Rattle.std.proofs.lemmas.Bool.Decides.{nat_tests}
 use Rattle.std.proofs.lemmas.Int.{ints}
 use Rattle.std.proofs.lemmas.List.{append-nil}
 use Rattle.std.proofs.lemmas.List.Elements.{All-cons, All-nil}
+use Rattle.std.proofs.lemmas.Bool.{or_parts, and_parts, eqb-true}
 use Rattle.pb_affine.specs.declared.lin.Base.{Base}
 use Rattle.pb_affine.specs.declared.lin.Base.TheVariants.{Fixed, Param, Var}
 use Rattle.pb_affine.specs.declared.range.NRange.{NRange}
@@ -22,16 +23,17 @@ use Rattle.pb_core_language.specs.Names.{Name, same, is_named, a_role, declared,
 use Rattle.pb_core_language.specs.FileRules.{role_names, growth, role_growth, total_growth, is_below, is_just, broken_5}
 use Rattle.pb_core_language.specs.Meaning.{lin_of, role_of, roles_of, high_of, meaning}
 use Rattle.pb_core_language.specs.Plain.{Protocol}
-use Rattle.pb_core_language.specs.Rules.{is_empty, empty_roles, nobody, Breach, broken_6, breaches}
+use Rattle.pb_core_language.specs.Lists.{is_empty}
+use Rattle.pb_core_language.specs.Rules.{empty_roles, nobody, Breach, broken_6, breaches}
 use Rattle.pb_core_language.specs.Sound.{is_small, is_over_n, is_bound, are_roles}
 use Rattle.pb_core_language.specs.Verdict.{IsIn, IsUpTo, KeepsAll}
 use Rattle.pb_local.specs.Names.{is_name}
 use Rattle.pb_local.specs.Ranks.{Sum, factor, no_ranks, size_with, with_role, ranks_of}
 use Rattle.pb_local.specs.WellMade.{IsInRange, IsRange, IsUpperEnd, IsSingle, IsRole}
 use Rattle.pb_local.specs.WellMade as W
-use Rattle.pb_shape.specs.Shape as S
+use Rattle.pb_shape.specs.Places as S
 use Rattle.pb_core_endpoint.proofs.Tests.{none_both}
-use Rattle.pb_compile_laws.proofs.Bools.{two, none_left, number_same, listed_if, listed_unless}
+use Rattle.pb_compile_laws.proofs.Bools.{listed_if, listed_unless}
 use Rattle.pb_compile_laws.proofs.Words.{named, swapped}
 use Rattle.pb_compile_laws.proofs.Forms.{IsTop}
 use Rattle.pb_compile_laws.proofs.Header.{AreNamed}
@@ -44,7 +46,7 @@ unvisited : (c : Name) (v : Visit) (rs : List RoleText) → AreSettled (v ∷ []
 unvisited c v [] h = refl
 unvisited c v (r ∷ rs) h =
     let g = split_settled (v ∷ []) (role_visits c r) (roles_visits c rs) h in
-    ap₂ (λ a b. a || b) (swapped r.role.name v.spot.name (none_left (same r.role.name v.spot.name) false g.0.0.1)) (unvisited c v rs g.1)
+    ap₂ (λ a b. a || b) (swapped r.role.name v.spot.name (or_parts (same r.role.name v.spot.name) false g.0.0.1).0) (unvisited c v rs g.1)
 
 pub roles_once : (c : Name) (rs : List RoleText) → Pairs (roles_visits c rs) → Distinct (role_names rs)
 roles_once c [] h = tt
@@ -90,7 +92,7 @@ wide_high x h = omega (arith, ints)
 
 small : (x : ℤ) → is_small x ≡ true → IsSmall x
 small x h =
-    let t = two (int_le (negsuc 99999) x) (int_le x (pos 100000)) h in
+    let t = and_parts (int_le (negsuc 99999) x) (int_le x (pos 100000)) h in
     record { low = wide_low x (le_true (negsuc 99999) x t.0); high = wide_high x (le_true x (pos 100000) t.1) }
 
 no_variable : (b : Base) → is_over_n b ≡ true → b ≢ Var
@@ -106,10 +108,10 @@ pub each_is : (over : NRange) (c : Name) (k : ℕ) (rs : List RoleText) → AreN
 each_is over c k [] well sound some = All-nil (IsRole over)
 each_is over c k (r ∷ rs) well sound some =
     let q = role_of c r in
-    let low = two (is_bound q.low) (is_bound q.high && are_roles (roles_of c rs)) sound in
-    let high = two (is_bound q.high) (are_roles (roles_of c rs)) low.1 in
-    let a = two (is_over_n q.low.base) (is_small q.low.off) low.0 in
-    let b = two (is_over_n q.high.base) (is_small q.high.off) high.0 in
+    let low = and_parts (is_bound q.low) (is_bound q.high && are_roles (roles_of c rs)) sound in
+    let high = and_parts (is_bound q.high) (are_roles (roles_of c rs)) low.1 in
+    let a = and_parts (is_over_n q.low.base) (is_small q.low.off) low.0 in
+    let b = and_parts (is_over_n q.high.base) (is_small q.high.off) high.0 in
     All-cons (IsRole over) (S.role_of q) (map S.role_of (roles_of c rs))
     (record {
       name = subst (λ x. IsTrue (is_name x)) (sym (named_so c r)) (named r.role.name well.0);
@@ -182,7 +184,7 @@ grown : (a t : ℤ) → a ≡ pos 0 +ℤ t → int_le (pos 1) t ≡ true → pos
 grown a t e h = grind (arith, ints)
 
 single : (high : High) (low : ℕ) → is_just high low ≡ true → high_of high ≡ Some low
-single (Upto hi) low h = ap Some (number_same hi low h)
+single (Upto hi) low h = ap Some (eqb-true hi low h)
 single Max low h = absurd (grind arith)
 
 pub sized : (f : PlainFile) → broken_5 f ≡ [] → (pos 1 ≤ℤ (ranks_of (map S.role_of (roles_of f.constant.name f.roles))).a) ⊎ IsSingle (meaning f).range

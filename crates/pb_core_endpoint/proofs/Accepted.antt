@@ -1,20 +1,21 @@
 -- An accepted protocol makes progress, so its endpoints keep the law.
 use Rattle.std.proofs.Common.{◌≡◌, ℕ, zero, suc, ◌<◌, ◌≤◌, ◌==◌, true, false, ◌||◌, ◌⊎◌, List, [], ◌∷◌, length, refl, sym, ap, ap₂, ◌∙◌, subst, inl, inr, le_refl, arith}
-use Rattle.std.proofs.lemmas.Bool.{eq-eqb}
+use Rattle.std.proofs.lemmas.Bool.{eq-eqb, or_cases, or_right, or_left, cases_Bool, or_parts}
 use Rattle.pb_world.specs.Actions.{Action, Choose, Run, Send, Recv, of_rank, Answers, AnswerTable}
 use Rattle.pb_world.specs.Family.{Laws}
 use Rattle.pb_world.specs.Sequencer.{emitted, state_after}
 use Rattle.pb_world.proofs.Lists.{eqb_cases}
 use Rattle.pb_world.proofs.Sequential.{internal_self, message_sender, message_receiver}
 use Rattle.pb_world.proofs.Theorem.{all_ranks}
-use Rattle.pb_core_language.specs.Flat.{Block, stop, message, compute, together, choice, looped, again, Branches, no_branch, branch, nth, takes_part, takes_part_among, count, branch_at}
+use Rattle.pb_core_language.specs.Lists.{nth}
+use Rattle.pb_core_language.specs.Flat.{Block, stop, message, compute, together, choice, looped, again, Branches, no_branch, branch, takes_part, takes_part_among, count, branch_at}
 use Rattle.pb_core_language.specs.Outcomes.{firsts_among, source_of}
 use Rattle.pb_core_language.specs.Run.{first_state, Setting, Depends, Opener, Top, Chosen, Body, Frame, Env, at_rank, env_over, env_of, live, back, back_over, move, State, branch_now, words_now, taken_at, emit, next, is_over_at}
 use Rattle.pb_core_endpoint.proofs.Kept.{Keeps}
 use Rattle.pb_core_endpoint.specs.Theorem.{family, EndpointsDo}
 use Rattle.pb_core_endpoint.proofs.Clean.{involved, Clean, Stack_keeps}
-use Rattle.pb_core_endpoint.proofs.Stacks.{or_no, bool_cases, live_env}
-use Rattle.pb_core_endpoint.proofs.Branches.{or_one, or_left, or_right, receives_in, part_first}
+use Rattle.pb_core_endpoint.proofs.Stacks.{live_env}
+use Rattle.pb_core_endpoint.proofs.Branches.{receives_in, part_first}
 use Rattle.pb_core_endpoint.proofs.Keep.{branch_less, together_of, clean_move, keeps_move}
 use Rattle.pb_core_endpoint.proofs.Whole.{laws}
 use Rattle.pb_core_endpoint.proofs.Kept.{Continued, Continued_each, Obeys}
@@ -42,10 +43,10 @@ module _ (r : ℕ) where
   back_still : (K : List Frame) → Clean r K → (n : ℕ) → nth (at_rank r (env_of K)) n ≡ false → n < length (env_of K) → involved r K ≡ true → involved r (back K n) ≡ true
   back_still [] c n out lt h = cc
   back_still (f ∷ K) c n out lt h =
-      elim (bool_cases (live r f.opener (env_of K))) [
+      elim (cases_Bool (live r f.opener (env_of K))) [
         | inl l ↦ (let yes = live_env r (f ∷ K) c l n lt in cc)
         | inr l ↦
-            let inner : involved r K ≡ true = elim (or_one (takes_part (at_rank r (env_of (f ∷ K))) r f.rest) (involved r K) h) [ inl y ↦ (let z = c.0 y in cc) | inr y ↦ y ] in
+            let inner : involved r K ≡ true = elim (or_cases (takes_part (at_rank r (env_of (f ∷ K))) r f.rest) (involved r K) h) [ inl y ↦ (let z = c.0 y in cc) | inr y ↦ y ] in
             go f.opener n out lt inner (λ m o' l'. back_still K c.2 m o' l' inner)
       ]
     where
@@ -85,7 +86,7 @@ module _ (w : Setting) (protocol : Block) where
       let i = branch_now w left p j bs in
       elim (eqb_cases p r) [
         | inl v ↦ inl (_, _, subst (λ q. of_rank q ((p, Choose j (count bs) i) ∷ []) ≡ Choose j (count bs) i ∷ []) v.0 (internal_self p (Choose j (count bs) i)))
-        | inr v ↦ elim (bool_cases (takes_part_among e r bs)) [
+        | inr v ↦ elim (cases_Bool (takes_part_among e r bs)) [
           | inl z ↦
               let told = k.2 r is_rank v.1 z in
               let src = source_of (firsts_among e r bs) in
@@ -95,13 +96,13 @@ module _ (w : Setting) (protocol : Block) where
       ]
   stays r is_rank o K (looped origin x g) left c k h =
       let e = at_rank r (env_over o (env_of K)) in
-      elim (bool_cases (takes_part (false ∷ e) r x)) [
+      elim (cases_Bool (takes_part (false ∷ e) r x)) [
         | inl z ↦ inr (or_left (takes_part (takes_part (false ∷ e) r x ∷ e) r x) _ (part_more (false ∷ e) (takes_part (false ∷ e) r x ∷ e) r x (le_under false (takes_part (false ∷ e) r x) e e (λ n. cc) (λ n t. t)) z))
         | inr z ↦ inr (or_right (takes_part (takes_part (false ∷ e) r x ∷ e) r x) _ (sym (ap (λ v. (v || takes_part e r g) || involved r K) z) ∙ h))
       ]
   stays r is_rank o K (again n) left c k h =
       let f : Frame = record { opener = o; rest = again n } in
-      elim (bool_cases (nth (at_rank r (env_over o (env_of K))) n)) [
+      elim (cases_Bool (nth (at_rank r (env_over o (env_of K))) n)) [
         | inl y ↦ inr (back_involved r (f ∷ K) n y)
         | inr y ↦ inr (back_still r (f ∷ K) c n y k h)
       ]
@@ -225,8 +226,8 @@ module _ (w : Setting) (protocol : Block) where
       let env = env_over o (env_of K) in
       let here : List Frame = record { opener = o; rest = g } ∷ K in
       let q : State = record { stack = record { opener = o; rest = looped origin x g } ∷ K; left = left } in
-      let inside : Nobody_in (env_over (Body x) env) x = λ r lt. (let no = (or_no _ (takes_part (at_rank r env) r g) (h r lt)).0 in subst (λ u. takes_part (u ∷ at_rank r env) r x ≡ false) (sym no) no) in
-      let walk = comes_then (next w q) here K (block_out (Body x) here x (next w q).left k.0 s.0 inside) (λ left'. block_out o K g left' k.1 s.1 (λ r lt. (or_no _ (takes_part (at_rank r env) r g) (h r lt)).1)) in
+      let inside : Nobody_in (env_over (Body x) env) x = λ r lt. (let no = (or_parts _ (takes_part (at_rank r env) r g) (h r lt)).0 in subst (λ u. takes_part (u ∷ at_rank r env) r x ≡ false) (sym no) no) in
+      let walk = comes_then (next w q) here K (block_out (Body x) here x (next w q).left k.0 s.0 inside) (λ left'. block_out o K g left' k.1 s.1 (λ r lt. (or_parts _ (takes_part (at_rank r env) r g) (h r lt)).1)) in
       (suc walk.0, walk.1)
   block_out o K (again n) left k s h = let out = h s.0 s.1 in let yes = s.2 in cc
 
@@ -236,8 +237,8 @@ module _ (w : Setting) (protocol : Block) where
   runs_out : (K : List Frame) (left : ℕ → Answers) → Stack_keeps w.total K → Stack_people K → Nobody K → Comes (record { stack = K; left = left }) []
   runs_out [] left k s h = (0, refl)
   runs_out (f ∷ K) left k s h =
-      comes_then (record { stack = f ∷ K; left = left }) K [] (block_out f.opener K f.rest left k.0 s.0 (λ r lt. (or_no _ (involved r K) (h r lt)).0))
-      (λ left'. runs_out K left' k.2 s.2 (λ r lt. (or_no (takes_part (at_rank r (env_of (f ∷ K))) r f.rest) (involved r K) (h r lt)).1))
+      comes_then (record { stack = f ∷ K; left = left }) K [] (block_out f.opener K f.rest left k.0 s.0 (λ r lt. (or_parts _ (involved r K) (h r lt)).0))
+      (λ left'. runs_out K left' k.2 s.2 (λ r lt. (or_parts (takes_part (at_rank r (env_of (f ∷ K))) r f.rest) (involved r K) (h r lt)).1))
 
   -- some rank takes part, or none does
   someone : (K : List Frame) (n : ℕ) → n ≤ w.total → ((r : ℕ) × (r < w.total) × (involved r K ≡ true)) ⊎ ((r : ℕ) → r < n → involved r K ≡ false)
@@ -245,7 +246,7 @@ module _ (w : Setting) (protocol : Block) where
   someone K (suc n) le =
       elim (someone K n (omega arith)) [
         | inl h ↦ inl h
-        | inr all ↦ elim (bool_cases (involved n K)) [
+        | inr all ↦ elim (cases_Bool (involved n K)) [
           | inl y ↦ inl (n, omega arith, y)
           | inr y ↦ inr (λ r h. elim (eqb_cases r n) [ inl e ↦ subst (λ k. involved k K ≡ false) (sym e.0) y | inr e ↦ all r (let ne = e.0 in omega arith) ])
         ]

@@ -8,7 +8,8 @@ use Rattle.pb_core_language.specs.Ranks.{Seat, seats_from, total, seat_at}
 use Rattle.pb_core_language.specs.Plain.{Protocol}
 use Rattle.pb_core_language.specs.Collectives.{word_count, payload_of, combine, setting_of}
 use Rattle.pb_core_language.specs.Outcomes.{Outcome}
-use Rattle.pb_core_language.specs.Rules.{is_empty, empty_roles, over_below, each_origin, strays, loners, deserted, misfits, receives_only, keeps_source, keeps_labels, nobody, somebody, ranked, breaches, flat_at, total_at, ranks_at, misfitting, broken_6, broken_7, broken_8, broken_9, broken_10, broken_11, broken_12}
+use Rattle.pb_core_language.specs.Lists.{over_below, is_empty}
+use Rattle.pb_core_language.specs.Rules.{empty_roles, each_origin, strays, loners, deserted, misfits, receives_only, keeps_source, keeps_labels, nobody, somebody, ranked, breaches, flat_at, total_at, ranks_at, misfitting, broken_6, broken_7, broken_8, broken_9, broken_10, broken_11, broken_12}
 use Rattle.pb_core_endpoint.specs.Rules.{Accepted}
 use Rattle.pb_core_endpoint.specs.Core.{IsProper, CoreRanks}
 use Rattle.pb_core_endpoint.proofs.Tests.{none_both, not_listed}

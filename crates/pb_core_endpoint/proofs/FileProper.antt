@@ -1,6 +1,6 @@
 -- The core of a file that keeps the rules on scopes and ends keeps them.
 use Rattle.std.proofs.Common.{◌≡◌, ◌≢◌, ℕ, suc, ◌+◌, Bool, true, false, ◌&&◌, ◌||◌, not, nat_eq, if◌then◌else◌, List, [], ◌∷◌, ◌++◌, refl, sym, ap, ap₂, ◌∙◌, inl, inr}
-use Rattle.std.proofs.lemmas.Bool.{eq-eqb}
+use Rattle.std.proofs.lemmas.Bool.{eq-eqb, or_right, or_left, and_from, and_parts, cases_Bool}
 use Rattle.pb_text.specs.declared.place.Spot.{Spot}
 use Rattle.pb_syntax.specs.declared.tree.IndexText.{IndexText}
 use Rattle.pb_syntax.specs.declared.tree.IndexText.TheVariants.{Zero, At, Bind}
@@ -14,13 +14,7 @@ use Rattle.pb_core_language.specs.Tree.{StmtTree}
 use Rattle.pb_core_endpoint.specs.Core as C
 use Rattle.pb_core_endpoint.specs.Core.{is_simple, are_simple, has_simple_items, have_simple_items, branches_have_simple_items, is_open, has_branch, is_scoped, are_scoped, branches_are_scoped, loops_end_in, all_loops_end, branches_loops_end, keeps_ends, all_keep_ends, branches_keep_ends, IsProper}
 use Rattle.pb_core_endpoint.specs.File.{is_item, are_items, has_some, has_shape, have_shape, branches_have_shape, IsShaped}
-use Rattle.pb_core_endpoint.proofs.Stacks.{bool_cases}
-use Rattle.pb_core_endpoint.proofs.Branches.{or_left, or_right}
-use Rattle.pb_core_endpoint.proofs.Progress.{and_both}
 use Rattle.pb_core_endpoint.proofs.Tests.{none_both}
-
-and_two : (a b : Bool) → a ≡ true → b ≡ true → (a && b) ≡ true
-and_two a b e f = ap₂ (λ u v. u && v) e f
 
 -- a place that isn't listed
 listed_not : {A : Type 0} (t : Bool) (x : A) → (if t then [] else x ∷ []) ≡ [] → t ≡ true
@@ -48,7 +42,7 @@ module _ (t : Table) where
 
   simple_stmt : (os : List Open) (s b : ℕ) (x : PlainStatement) → is_item x ≡ true → is_simple (stmt_of t os s b x) ≡ true
   simple_stmt os s b (message l p f to) h =
-      let both = and_both (not (binds f.index)) (not (binds to.index)) h in
+      let both = and_parts (not (binds f.index)) (not (binds to.index)) h in
       stays t s b l f to f.index _ both.0 (stays t s b l f to to.index (message_of t l f to) both.1 refl)
   simple_stmt os s b (compute at k who) h = refl
   simple_stmt os s b (foreach at x over place items) h = cc
@@ -63,15 +57,15 @@ module _ (t : Table) where
   simple_items : (os : List Open) (s b : ℕ) (xs : PlainStatements) → are_items xs ≡ true → are_simple (block_of t os s b xs) ≡ true
   simple_items os s b nothing h = refl
   simple_items os s b (more x rest) h =
-      let both = and_both (is_item x) (are_items rest) h in
-      and_two _ _ (simple_stmt os s b x both.0) (simple_items os (s + stmts_at x) (b + blocks_at x) rest both.1)
+      let both = and_parts (is_item x) (are_items rest) h in
+      and_from _ _ (simple_stmt os s b x both.0) (simple_items os (s + stmts_at x) (b + blocks_at x) rest both.1)
 
   mutual
     items_at : (os : List Open) (s b : ℕ) (x : PlainStatement) → has_shape x ≡ true → has_simple_items (stmt_of t os s b x) ≡ true
     items_at os s b (message l p f to) h = of_message (λ y. has_simple_items y ≡ true) t s b l f to (λ over. refl) refl
     items_at os s b (foreach at x over place items) h = simple_items os (suc s) (suc b) items h
     items_at os s b (loop at x place body) h = items_in (record { name = x.name; id = s } ∷ os) (suc s) (suc b) body h
-    items_at os s b (choice at k who bs) h = items_among os (suc s) b bs (and_both (has_some bs) (branches_have_shape bs) h).1
+    items_at os s b (choice at k who bs) h = items_among os (suc s) b bs (and_parts (has_some bs) (branches_have_shape bs) h).1
     items_at os s b (again at x) h = refl
     items_at os s b (compute at k who) h = refl
     items_at os s b (barrier at) h = refl
@@ -82,14 +76,14 @@ module _ (t : Table) where
     items_in : (os : List Open) (s b : ℕ) (xs : PlainStatements) → have_shape xs ≡ true → have_simple_items (block_of t os s b xs) ≡ true
     items_in os s b nothing h = refl
     items_in os s b (more x rest) h =
-        let both = and_both (has_shape x) (have_shape rest) h in
-        and_two _ _ (items_at os s b x both.0) (items_in os (s + stmts_at x) (b + blocks_at x) rest both.1)
+        let both = and_parts (has_shape x) (have_shape rest) h in
+        and_from _ _ (items_at os s b x both.0) (items_in os (s + stmts_at x) (b + blocks_at x) rest both.1)
 
     items_among : (os : List Open) (s b : ℕ) (bs : PlainBranches) → branches_have_shape bs ≡ true → branches_have_simple_items (branches_of t os s b bs) ≡ true
     items_among os s b no_branch h = refl
     items_among os s b (branch at x rest) h =
-        let both = and_both (have_shape x) (branches_have_shape rest) h in
-        and_two _ _ (items_in os s (suc b) x both.0) (items_among os (s + stmts_in x) (suc (b + blocks_in x)) rest both.1)
+        let both = and_parts (have_shape x) (branches_have_shape rest) h in
+        and_from _ _ (items_in os s (suc b) x both.0) (items_among os (s + stmts_in x) (suc (b + blocks_in x)) rest both.1)
 
   -- ---- scopes
 
@@ -104,7 +98,7 @@ module _ (t : Table) where
   open_id : (x : Name) (os : List Open) → is_named x (names os) ≡ true → is_open (id_of x os) (ids os) ≡ true
   open_id x [] h = cc
   open_id x (o ∷ os) h =
-      elim (bool_cases (same x o.name)) [
+      elim (cases_Bool (same x o.name)) [
         | inl y ↦ ap (λ u. is_open (if u then o.id else id_of x os) (o.id ∷ ids os)) y ∙ or_left (nat_eq o.id o.id) (is_open o.id (ids os)) (eq-eqb o.id o.id refl)
         | inr y ↦
             let later : is_named x (names os) ≡ true = sym (ap (λ u. u || is_named x (names os)) y) ∙ h in
@@ -120,10 +114,10 @@ module _ (t : Table) where
     scoped_at os s b z (message l p f to) h a = of_message (λ y. is_scoped (ids os) y ≡ true) t s b l f to (λ over. refl) refl
     scoped_at os s b z (foreach at x over place items) h a = scoped_items os (suc s) (suc b) items h
     scoped_at os s b z (loop at x place body) h a = scoped_in (record { name = x.name; id = s } ∷ os) (suc s) (suc b) body h a
-    scoped_at os s b z (again at x) h a = open_id x.name os (and_both z (is_named x.name (names os)) (listed_not _ at a)).1
+    scoped_at os s b z (again at x) h a = open_id x.name os (and_parts z (is_named x.name (names os)) (listed_not _ at a)).1
     scoped_at os s b z (choice at k who bs) h a =
-        let both = and_both (has_some bs) (branches_have_shape bs) h in
-        and_two _ _ (some_branch os (suc s) b bs both.0) (scoped_among os (suc s) b bs both.1 a)
+        let both = and_parts (has_some bs) (branches_have_shape bs) h in
+        and_from _ _ (some_branch os (suc s) b bs both.0) (scoped_among os (suc s) b bs both.1 a)
     scoped_at os s b z (compute at k who) h a = refl
     scoped_at os s b z (barrier at) h a = refl
     scoped_at os s b z (broadcast at l p f) h a = refl
@@ -133,23 +127,23 @@ module _ (t : Table) where
     scoped_in : (os : List Open) (s b : ℕ) (xs : PlainStatements) → have_shape xs ≡ true → astray_in (names os) xs ≡ [] → are_scoped (ids os) (block_of t os s b xs) ≡ true
     scoped_in os s b nothing h a = refl
     scoped_in os s b (more x rest) h a =
-        let both = and_both (has_shape x) (have_shape rest) h in
+        let both = and_parts (has_shape x) (have_shape rest) h in
         let none = none_both (astray_at (names os) (is_nothing rest) x) (astray_in (names os) rest) a in
-        and_two _ _ (scoped_at os s b (is_nothing rest) x both.0 none.0) (scoped_in os (s + stmts_at x) (b + blocks_at x) rest both.1 none.1)
+        and_from _ _ (scoped_at os s b (is_nothing rest) x both.0 none.0) (scoped_in os (s + stmts_at x) (b + blocks_at x) rest both.1 none.1)
 
     scoped_among : (os : List Open) (s b : ℕ) (bs : PlainBranches) → branches_have_shape bs ≡ true → astray_among (names os) bs ≡ [] → branches_are_scoped (ids os) (branches_of t os s b bs) ≡ true
     scoped_among os s b no_branch h a = refl
     scoped_among os s b (branch at x rest) h a =
-        let both = and_both (have_shape x) (branches_have_shape rest) h in
+        let both = and_parts (have_shape x) (branches_have_shape rest) h in
         let none = none_both (astray_in (names os) x) (astray_among (names os) rest) a in
-        and_two _ _ (scoped_in os s (suc b) x both.0 none.0) (scoped_among os (s + stmts_in x) (suc (b + blocks_in x)) rest both.1 none.1)
+        and_from _ _ (scoped_in os s (suc b) x both.0 none.0) (scoped_among os (s + stmts_in x) (suc (b + blocks_in x)) rest both.1 none.1)
 
     -- items hold no continue
     scoped_items : (os : List Open) (s b : ℕ) (xs : PlainStatements) → are_items xs ≡ true → are_scoped (ids os) (block_of t os s b xs) ≡ true
     scoped_items os s b nothing h = refl
     scoped_items os s b (more x rest) h =
-        let both = and_both (is_item x) (are_items rest) h in
-        and_two _ _ (scoped_item os s b x both.0) (scoped_items os (s + stmts_at x) (b + blocks_at x) rest both.1)
+        let both = and_parts (is_item x) (are_items rest) h in
+        and_from _ _ (scoped_item os s b x both.0) (scoped_items os (s + stmts_at x) (b + blocks_at x) rest both.1)
 
     scoped_item : (os : List Open) (s b : ℕ) (x : PlainStatement) → is_item x ≡ true → is_scoped (ids os) (stmt_of t os s b x) ≡ true
     scoped_item os s b (message l p f to) h = of_message (λ y. is_scoped (ids os) y ≡ true) t s b l f to (λ over. refl) refl
@@ -191,8 +185,8 @@ module _ (t : Table) where
     loops_at os s b (message l p f to) h = of_message (λ y. loops_end_in y ≡ true) t s b l f to (λ over. refl) refl
     loops_at os s b (foreach at x over place items) h = refl
     loops_at os s b (loop at x place body) h =
-        let both = and_both (R.all_can_end body) (all_loops_can_end body) h in
-        and_two _ _ (end_in (record { name = x.name; id = s } ∷ os) (suc s) (suc b) body ∙ both.0) (loops_in (record { name = x.name; id = s } ∷ os) (suc s) (suc b) body both.1)
+        let both = and_parts (R.all_can_end body) (all_loops_can_end body) h in
+        and_from _ _ (end_in (record { name = x.name; id = s } ∷ os) (suc s) (suc b) body ∙ both.0) (loops_in (record { name = x.name; id = s } ∷ os) (suc s) (suc b) body both.1)
     loops_at os s b (choice at k who bs) h = loops_among os (suc s) b bs h
     loops_at os s b (again at x) h = refl
     loops_at os s b (compute at k who) h = refl
@@ -204,14 +198,14 @@ module _ (t : Table) where
     loops_in : (os : List Open) (s b : ℕ) (xs : PlainStatements) → all_loops_can_end xs ≡ true → all_loops_end (block_of t os s b xs) ≡ true
     loops_in os s b nothing h = refl
     loops_in os s b (more x rest) h =
-        let both = and_both (loops_can_end x) (all_loops_can_end rest) h in
-        and_two _ _ (loops_at os s b x both.0) (loops_in os (s + stmts_at x) (b + blocks_at x) rest both.1)
+        let both = and_parts (loops_can_end x) (all_loops_can_end rest) h in
+        and_from _ _ (loops_at os s b x both.0) (loops_in os (s + stmts_at x) (b + blocks_at x) rest both.1)
 
     loops_among : (os : List Open) (s b : ℕ) (bs : PlainBranches) → branches_loops_can_end bs ≡ true → branches_loops_end (branches_of t os s b bs) ≡ true
     loops_among os s b no_branch h = refl
     loops_among os s b (branch at x rest) h =
-        let both = and_both (all_loops_can_end x) (branches_loops_can_end rest) h in
-        and_two _ _ (loops_in os s (suc b) x both.0) (loops_among os (s + stmts_in x) (suc (b + blocks_in x)) rest both.1)
+        let both = and_parts (all_loops_can_end x) (branches_loops_can_end rest) h in
+        and_from _ _ (loops_in os s (suc b) x both.0) (loops_among os (s + stmts_in x) (suc (b + blocks_in x)) rest both.1)
 
   nothing_same : (os : List Open) (s b : ℕ) (xs : PlainStatements) → C.is_nothing (block_of t os s b xs) ≡ is_nothing xs
   nothing_same os s b nothing = refl
@@ -220,8 +214,8 @@ module _ (t : Table) where
   last_or_ends : (os : List Open) (s b s' b' : ℕ) (x : PlainStatement) (rest : PlainStatements) → (is_nothing rest || (R.can_end x && loops_can_end x)) ≡ true → (C.is_nothing (block_of t os s' b' rest) || (C.can_end (stmt_of t os s b x) && loops_end_in (stmt_of t os s b x))) ≡ true
   last_or_ends os s b s' b' x nothing h = refl
   last_or_ends os s b s' b' x (more y rest) h =
-      let both = and_both (R.can_end x) (loops_can_end x) h in
-      and_two _ _ (end_at os s b x ∙ both.0) (loops_at os s b x both.1)
+      let both = and_parts (R.can_end x) (loops_can_end x) h in
+      and_from _ _ (end_at os s b x ∙ both.0) (loops_at os s b x both.1)
 
   mutual
     ends_at : (os : List Open) (s b : ℕ) (x : PlainStatement) → endless_at x ≡ [] → keeps_ends (stmt_of t os s b x) ≡ true
@@ -241,14 +235,14 @@ module _ (t : Table) where
     ends_in os s b (more x rest) h =
         let first = none_both (if is_nothing rest || (R.can_end x && loops_can_end x) then [] else place_of x ∷ []) (endless_at x ++ endless_in rest) h in
         let both = none_both (endless_at x) (endless_in rest) first.1 in
-        and_two _ _ (last_or_ends os s b (s + stmts_at x) (b + blocks_at x) x rest (listed_not _ (place_of x) first.0))
-        (and_two _ _ (ends_at os s b x both.0) (ends_in os (s + stmts_at x) (b + blocks_at x) rest both.1))
+        and_from _ _ (last_or_ends os s b (s + stmts_at x) (b + blocks_at x) x rest (listed_not _ (place_of x) first.0))
+        (and_from _ _ (ends_at os s b x both.0) (ends_in os (s + stmts_at x) (b + blocks_at x) rest both.1))
 
     ends_among : (os : List Open) (s b : ℕ) (bs : PlainBranches) → endless_among bs ≡ [] → branches_keep_ends (branches_of t os s b bs) ≡ true
     ends_among os s b no_branch h = refl
     ends_among os s b (branch at x rest) h =
         let both = none_both (endless_in x) (endless_among rest) h in
-        and_two _ _ (ends_in os s (suc b) x both.0) (ends_among os (s + stmts_in x) (suc (b + blocks_in x)) rest both.1)
+        and_from _ _ (ends_in os s (suc b) x both.0) (ends_among os (s + stmts_in x) (suc (b + blocks_in x)) rest both.1)
 
 pub proper_of : (f : PlainFile) → IsShaped f → broken_3 f ≡ [] → broken_4 f ≡ [] → IsProper (meaning f)
 proper_of f shaped astray endless = record {

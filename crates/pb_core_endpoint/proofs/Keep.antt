@@ -1,7 +1,7 @@
 -- What the steps of a run keep.
 use Rattle.std.proofs.Common.{◌≡◌, ℕ, zero, suc, ◌<◌, ◌==◌, Bool, cond, true, false, ◌||◌, ◌⊎◌, MatchBool, List, [], ◌∷◌, length, replicate, refl, sym, ap, ap₂, ◌∙◌, subst, inl, inr}
 use Rattle.std.proofs.Math.ListN.{length-replicate}
-use Rattle.std.proofs.lemmas.Bool.{eq-eqb, eqb-true, eqb-false, ltb-true}
+use Rattle.std.proofs.lemmas.Bool.{eq-eqb, eqb-true, eqb-false, ltb-true, or_right, or_left, cases_Bool, or_parts}
 use Rattle.pb_world.specs.Actions.{Action, Choose, Run, Send, Recv, Enter, Leave, Collective, kind_of, of_rank, Answers, IsAnswered}
 use Rattle.pb_world.specs.Family.{Statement, nothing, internal, message as message_st, joint, choosing, running, IsOwn}
 use Rattle.pb_world.specs.Sequencer.{answers_after, answers_after_all}
@@ -13,13 +13,13 @@ use Rattle.pb_core_language.specs.Run.{Setting, Opener, Top, Chosen, Body, Frame
 use Rattle.pb_core_endpoint.proofs.Kept.{Receives_first, Receives_each, first_label, first_label_among, Keeps}
 use Rattle.pb_core_endpoint.specs.Theorem.{family}
 use Rattle.pb_core_endpoint.proofs.Clean.{top_live, Clean, Body_keeps, Stack_keeps}
-use Rattle.pb_core_endpoint.proofs.Stacks.{or_no, bool_cases, move_dead}
-use Rattle.pb_core_endpoint.proofs.Branches.{or_left, or_right, keeps_at, part_at, receives_in, label_at, first_ending_fine}
+use Rattle.pb_core_endpoint.proofs.Stacks.{move_dead}
+use Rattle.pb_core_endpoint.proofs.Branches.{keeps_at, part_at, receives_in, label_at, first_ending_fine}
 
 -- each rank's stack stays clean
 module _ (r : ℕ) where
   body_fits : (b : Block) (env : Env) → takes_part (at_rank r (env_over (Body b) env)) r b ≡ true → takes_part (false ∷ at_rank r env) r b ≡ true
-  body_fits b env h = elim (bool_cases (takes_part (false ∷ at_rank r env) r b)) [
+  body_fits b env h = elim (cases_Bool (takes_part (false ∷ at_rank r env) r b)) [
     | inl y ↦ y
     | inr y ↦ subst (λ u. takes_part (u ∷ at_rank r env) r b ≡ true) y h
   ]
@@ -194,12 +194,12 @@ module _ (r p : ℕ) (test : ℕ → Bool) where
     pub emits_none : (env : List Bool) (g : Block) → takes_part env r g ≡ false → of_rank r (emit_at w g left) ≡ []
     emits_none env stop h = refl
     emits_none env (message origin p' q' l g) h =
-        let a = or_no (p' == r) _ h in
-        let b = or_no (q' == r) _ a.1 in
+        let a = or_parts (p' == r) _ h in
+        let b = or_parts (q' == r) _ a.1 in
         message_other p' q' l _ r (eqb-false p' r a.0) (eqb-false q' r b.0)
-    emits_none env (compute origin p' k g) h = internal_other p' r (Run k) (eqb-false p' r (or_no (p' == r) _ h).0)
+    emits_none env (compute origin p' k g) h = internal_other p' r (Run k) (eqb-false p' r (or_parts (p' == r) _ h).0)
     emits_none env (together origin j g) h = cc
-    emits_none env (choice origin p' k bs g) h = internal_other p' r _ (eqb-false p' r (or_no (p' == r) _ (or_no _ _ h).0).0)
+    emits_none env (choice origin p' k bs g) h = internal_other p' r _ (eqb-false p' r (or_parts (p' == r) _ (or_parts _ _ h).0).0)
     emits_none env (looped origin b g) h = refl
     emits_none env (again n) h = refl
 
@@ -250,7 +250,7 @@ module _ (r p : ℕ) (test : ℕ → Bool) where
           | inl y ↦ absurd (subst (λ u. MatchBool u ⊥ (MatchBool (takes_part_among e r bs) (Receives_each e r p bs) (Receives_first e r p g))) y.1 h.first)
           | inr y ↦
               let first = subst (λ u. MatchBool u ⊥ (MatchBool (takes_part_among e r bs) (Receives_each e r p bs) (Receives_first e r p g))) y.1 h.first in
-              elim (bool_cases (takes_part_among e r bs)) [
+              elim (cases_Bool (takes_part_among e r bs)) [
                 | inl z ↦
                     let all = subst (λ u. MatchBool u (Receives_each e r p bs) (Receives_first e r p g)) z first in
                     let labels : (i : ℕ) → first_label e r (branch_at x bs) i ≡ true → test i ≡ true = λ i f. h.labels i (ap (λ u. cond u (first_label_among e r bs i) (first_label e r g i)) z ∙ label_at e r bs x i f) in
@@ -270,7 +270,7 @@ module _ (r p : ℕ) (test : ℕ → Bool) where
         let e = at_rank r (env_over o (env_of K)) in
         let here : Frame = record { opener = o; rest = g } in
         let top : Frame = record { opener = Body b; rest = b } in
-        elim (bool_cases (takes_part (false ∷ e) r b)) [
+        elim (cases_Bool (takes_part (false ∷ e) r b)) [
           | inl z ↦
               let told : Told (true ∷ e) b = record {
                 first = subst (λ u. MatchBool u (Receives_first (true ∷ e) r p b) (Receives_first e r p g)) z h.first;
@@ -292,10 +292,10 @@ module _ (r p : ℕ) (test : ℕ → Bool) where
     unfolding Step_told
     first_step T o K g c k h =
         let f : Frame = record { opener = o; rest = g } in
-        elim (bool_cases (live r o (env_of K))) [
+        elim (cases_Bool (live r o (env_of K))) [
           | inl l ↦ live_step T o K g l k (first_told f K l h)
           | inr l ↦
-              let out : takes_part (at_rank r (env_of (f ∷ K))) r g ≡ false = elim (bool_cases (takes_part (at_rank r (env_of (f ∷ K))) r g)) [ inl y ↦ (let z = c.0 y in cc) | inr y ↦ y ] in
+              let out : takes_part (at_rank r (env_of (f ∷ K))) r g ≡ false = elim (cases_Bool (takes_part (at_rank r (env_of (f ∷ K))) r g)) [ inl y ↦ (let z = c.0 y in cc) | inr y ↦ y ] in
               let scope : (n : ℕ) → g ≡ again n → n < length (env_of (f ∷ K)) = λ n e. subst (λ x. Keeps T (env_over o (env_of K)) x) e k in
               inl (emits_none (at_rank r (env_of (f ∷ K))) g out, move_dead r First_in first_put first_drop f K (taken_at w g left) c scope l (first_drop f K l h))
         ]

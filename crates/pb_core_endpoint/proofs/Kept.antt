@@ -1,7 +1,8 @@
 -- The rules in the form that the proofs use.
 use Rattle.std.proofs.Common.{◌≡◌, ◌≢◌, ℕ, ◌<◌, ◌==◌, cond, Bool, true, false, ◌||◌, MatchBool, List, [], ◌∷◌, length}
-use Rattle.pb_core_language.specs.Flat.{Block, stop, message, compute, together, choice, looped, again, Branches, no_branch, branch, nth, takes_part, takes_part_among, count, branch_at, can_end, some_can_end}
-use Rattle.pb_core_language.specs.Outcomes.{firsts, firsts_among, source_of, labels_of, is_among}
+use Rattle.pb_core_language.specs.Lists.{nth, is_among}
+use Rattle.pb_core_language.specs.Flat.{Block, stop, message, compute, together, choice, looped, again, Branches, no_branch, branch, takes_part, takes_part_among, count, branch_at, can_end, some_can_end}
+use Rattle.pb_core_language.specs.Outcomes.{firsts, firsts_among, source_of, labels_of}
 use Rattle.pb_core_language.specs.Run.{Env, at_rank}
 use Rattle.pb_core_endpoint.specs.Rules.{is_stop}
 

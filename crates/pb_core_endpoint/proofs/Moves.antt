@@ -1,19 +1,20 @@
 -- A rank's endpoint moves with the run.
 use Rattle.std.proofs.Common.{◌≡◌, ◌≢◌, ℕ, zero, suc, ◌<◌, ◌==◌, Bool, cond, true, false, ◌||◌, ◌⊎◌, List, [], ◌∷◌, ◌++◌, length, Some, None, refl, sym, ap, ap₂, ◌∙◌, subst, inl, inr, arith}
+use Rattle.std.proofs.lemmas.Bool.{or_cases, or_right, or_left, cases_Bool, or_parts}
 use Rattle.pb_world.specs.Actions.{Action, Choose, Run, Send, Recv, Enter, Leave, of_rank, Answers, Chooses}
 use Rattle.pb_world.specs.Machine.{Does, Probe}
 use Rattle.pb_world.proofs.Lists.{eqb_cases}
 use Rattle.pb_world.proofs.Sequential.{internal_self, internal_other, message_sender, message_receiver, message_other}
 use Rattle.pb_world.proofs.Local.{Leads, there, by_silent, by_act}
-use Rattle.pb_core_language.specs.Flat.{Origin, Block, stop, message, compute, together, choice, looped, again, Branches, no_branch, branch, nth, takes_part, takes_part_among, in_choice, count, branch_at}
+use Rattle.pb_core_language.specs.Lists.{nth, is_among}
+use Rattle.pb_core_language.specs.Flat.{Origin, Block, stop, message, compute, together, choice, looped, again, Branches, no_branch, branch, takes_part, takes_part_among, in_choice, count, branch_at}
 use Rattle.pb_core_language.specs.Run.{Setting, Opener, Chosen, Body, Frame, at_rank, env_over, env_of, live, back, back_over, is_allowed, branch_now, words_now, entered_now, emit_at}
 use Rattle.pb_core_endpoint.proofs.Kept.{Apart, IsTold}
 use Rattle.pb_core_endpoint.specs.Endpoint.{Code, done, send, receive, run, enter, leave, choose, told, loop, Arms, code, arms, Part, count_arms, arm_at, arm_of, next_at, return_to, read_at, chosen, machine, body_of, shadow}
-use Rattle.pb_core_language.specs.Outcomes.{Outcome, nothing_first, receives, other_first, again_first, firsts, firsts_among, source_of, labels_of, is_among}
+use Rattle.pb_core_language.specs.Outcomes.{Outcome, nothing_first, receives, other_first, again_first, firsts, firsts_among, source_of, labels_of}
 use Rattle.pb_core_endpoint.specs.Endpoint as E
 use Rattle.pb_core_endpoint.proofs.Clean.{top_live, Clean}
-use Rattle.pb_core_endpoint.proofs.Stacks.{or_no, bool_cases, live_env, back_live}
-use Rattle.pb_core_endpoint.proofs.Branches.{or_one, or_left, or_right}
+use Rattle.pb_core_endpoint.proofs.Stacks.{live_env, back_live}
 use Rattle.pb_core_endpoint.proofs.Keep.{sends_fine, branch_fine, entry_fine, together_of}
 
 -- ---- the arms of a choice are its branches
@@ -36,7 +37,7 @@ labels_append (again_first ∷ xs) ys = labels_append xs ys
 
 pub among_left : (l : ℕ) (xs ys : List ℕ) → is_among l xs ≡ true → is_among l (xs ++ ys) ≡ true
 among_left l [] ys h = cc
-among_left l (x ∷ xs) ys h = elim (or_one (x == l) (is_among l xs) h) [ inl y ↦ or_left (x == l) (is_among l (xs ++ ys)) y | inr y ↦ or_right (x == l) _ (among_left l xs ys y) ]
+among_left l (x ∷ xs) ys h = elim (or_cases (x == l) (is_among l xs) h) [ inl y ↦ or_left (x == l) (is_among l (xs ++ ys)) y | inr y ↦ or_right (x == l) _ (among_left l xs ys y) ]
 
 pub among_right : (l : ℕ) (xs ys : List ℕ) → is_among l ys ≡ true → is_among l (xs ++ ys) ≡ true
 among_right l [] ys h = h
@@ -53,28 +54,28 @@ arm_reads : (held : List Bool) (r : ℕ) (bs : Branches) (x l : ℕ) → x < cou
 arm_reads held r no_branch x l lt a h = absurd (omega arith)
 arm_reads held r (branch mark b bs) zero l lt a h = ap (λ t. cond t (Some (code held r b)) (arm_of (arms held r bs) l)) h
 arm_reads held r (branch mark b bs) (suc x) l lt a h =
-    let not : is_among l (labels_of (firsts held r b)) ≡ false = elim (bool_cases (is_among l (labels_of (firsts held r b)))) [ inl v ↦ absurd (a.0 l v (among_at held r bs x l h)) | inr v ↦ v ] in
+    let not : is_among l (labels_of (firsts held r b)) ≡ false = elim (cases_Bool (is_among l (labels_of (firsts held r b)))) [ inl v ↦ absurd (a.0 l v (among_at held r bs x l h)) | inr v ↦ v ] in
     ap (λ t. cond t (Some (code held r b)) (arm_of (arms held r bs) l)) not ∙ arm_reads held r bs x l (omega arith) a.1 h
 
 -- of a block in which the rank takes no part nothing is left
 pub code_dead : (held : List Bool) (r : ℕ) (g : Block) → takes_part held r g ≡ false → code held r g ≡ done
 code_dead held r stop h = refl
 code_dead held r (message origin p q l g) h =
-    let a = or_no (p == r) _ h in
-    let b = or_no (q == r) _ a.1 in
+    let a = or_parts (p == r) _ h in
+    let b = or_parts (q == r) _ a.1 in
     let c = code held r g in
     ap₂ (λ u v. cond u (send q l c) (cond v (receive p l c) c)) a.0 b.0 ∙ code_dead held r g b.1
 code_dead held r (compute origin p k g) h =
-    let a = or_no (p == r) _ h in
+    let a = or_parts (p == r) _ h in
     ap (λ u. cond u (run k (code held r g)) (code held r g)) a.0 ∙ code_dead held r g a.1
 code_dead held r (together origin j g) h = cc
 code_dead held r (choice origin p k bs g) h =
-    let a = or_no _ (takes_part held r g) h in
-    let b = or_no (p == r) _ a.0 in
+    let a = or_parts _ (takes_part held r g) h in
+    let b = or_parts (p == r) _ a.0 in
     let c = code held r g in
     ap₂ (λ u v. cond u (choose k (arms held r bs) c) (cond v (told (source_of (firsts_among held r bs)) (arms held r bs) c) c)) b.0 b.1 ∙ code_dead held r g a.1
 code_dead held r (looped origin b g) h =
-    let a = or_no (takes_part (false ∷ held) r b) _ h in
+    let a = or_parts (takes_part (false ∷ held) r b) _ h in
     let c = code held r g in
     ap (λ u. cond u (loop (code (takes_part (false ∷ held) r b ∷ held) r b) c) c) a.0 ∙ code_dead held r g a.1
 code_dead held r (again n) h = ap (λ u. cond u (E.again n) done) h
@@ -159,7 +160,7 @@ module _ (w : Setting) (r : ℕ) where
         let cb = code (t ∷ held) r b in
         let whole : Bool → List Part → List Part = λ t M. cond t (record { body = Some cb; code = cb } ∷ M) M in
         let is : (u : Bool) → t ≡ u → code held r (looped origin b g) ≡ cond u (loop cb c) c = λ u e. ap (λ u. cond u (loop cb c) c) e in
-        elim (bool_cases t) [
+        elim (cases_Bool t) [
           | inl y ↦ from_now (looped origin b g) (loop cb c) [] (record { body = Some cb; code = cb } ∷ mine c) (whole t (now g)) (is true y) (by_silent refl there) (ap₂ (λ t M. whole t M) (sym y) (sym (now_is g)))
           | inr y ↦ from_now (looped origin b g) c [] (mine c) (whole t (now g)) (is false y) there (ap₂ (λ t M. whole t M) (sym y) (sym (now_is g)))
         ]
@@ -199,7 +200,7 @@ module _ (w : Setting) (r : ℕ) where
               (from_now (choice origin p k bs g) (choose k xs c) (Choose k n x ∷ []) taken M (is true (takes_part_among held r bs) z.1 refl)
               (by_act chooses (branch_fine w left r p k bs some) there)
               (ap₂ (λ d N. record { body = None; code = d } ∷ N) (arm_is held r bs x) (sym (now_is g)) ∙ ap (λ u. whole u (now g)) (sym (or_left (p == r) (takes_part_among held r bs) z.1)))))
-          | inr z ↦ elim (bool_cases (takes_part_among held r bs)) [
+          | inr z ↦ elim (cases_Bool (takes_part_among held r bs)) [
             | inr y ↦
                 inl (subst (λ s. Goes (now (choice origin p k bs g)) s M) (sym (internal_other p r (Choose k n x) z.0))
                 (from_now (choice origin p k bs g) c [] (mine c) M (is false false z.1 y) there (sym (now_is g) ∙ ap (λ u. whole u (now g)) (sym (ap₂ (λ u v. u || v) z.1 y)))))

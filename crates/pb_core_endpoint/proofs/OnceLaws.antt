@@ -1,6 +1,6 @@
 -- An endpoint doesn't go back to a loop twice without an action between.
 use Rattle.std.proofs.Common.{◌≡◌, ℕ, zero, suc, ◌<◌, ◌==◌, Bool, cond, true, false, ◌||◌, ◌&&◌, List, [], ◌∷◌, Option, Some, None, refl, sym, ap, ◌∙◌, subst, inl, inr}
-use Rattle.std.proofs.lemmas.Bool.{eq-eqb, eqb-true}
+use Rattle.std.proofs.lemmas.Bool.{eq-eqb, eqb-true, or_cases, or_right, or_left, cases_Bool}
 use Rattle.pb_world.specs.Actions.{Action}
 use Rattle.pb_world.specs.Machine.{Silent}
 use Rattle.pb_world.specs.Family.{Laws}
@@ -8,16 +8,14 @@ use Rattle.pb_world.specs.Once.{once_start, once}
 use Rattle.pb_world.proofs.OnceFollows.{KeepsOnce, follows_once}
 use Rattle.pb_world.proofs.OnMachine.{laws_on}
 use Rattle.pb_world.proofs.Theorem.{all_ranks}
-use Rattle.pb_core_language.specs.Flat.{Block, stop, message, compute, together, choice, looped, again, Branches, no_branch, branch, nth, takes_part, takes_part_among}
+use Rattle.pb_core_language.specs.Lists.{nth, is_among}
+use Rattle.pb_core_language.specs.Flat.{Block, stop, message, compute, together, choice, looped, again, Branches, no_branch, branch, takes_part, takes_part_among}
 use Rattle.pb_core_language.specs.Run.{Setting, is_allowed}
 use Rattle.pb_core_endpoint.specs.Endpoint.{Code, done, send, receive, run, enter, leave, choose, told, loop, Arms, no_arm, arm, code, arms, Part, arm_at, arm_of, next_at, return_to, quiet_at, branch_of, act_at, chosen, read_at, machine, endpoint}
 use Rattle.pb_core_endpoint.specs.Endpoint as E
-use Rattle.pb_core_language.specs.Outcomes.{is_among}
 use Rattle.pb_core_endpoint.specs.Theorem.{family}
 use Rattle.pb_core_endpoint.specs.Once.{is_at_again, once_family, EndpointsDoOnce}
 use Rattle.pb_core_endpoint.proofs.Kept.{Obeys}
-use Rattle.pb_core_endpoint.proofs.Stacks.{bool_cases}
-use Rattle.pb_core_endpoint.proofs.Branches.{or_one, or_left, or_right}
 use Rattle.pb_core_endpoint.proofs.Derive.{obeyed}
 use Rattle.pb_core_endpoint.proofs.Accepted.{bridge_is}
 use Rattle.pb_core_endpoint.proofs.Starts.{Start, Acts, Returns, Ends, lower, then_start, start_of, has_again, has_again_arms, Acting_arms, Fine, Fine_arms, message_code, choice_code, loop_code, fine}
@@ -130,7 +128,7 @@ record Arm (xs : Arms) (c : Code) : Type 0 where
 arm_ok : (xs : Arms) (l : ℕ) (c : Code) → arm_of xs l ≡ Some c → Acting_arms xs → Fine_arms xs → Arm xs c
 arm_ok no_arm l c e a f = cc
 arm_ok (arm ls d xs) l c e a f =
-    elim (bool_cases (is_among l ls)) [
+    elim (cases_Bool (is_among l ls)) [
       | inl y ↦
           let e' : Some d ≡ Some c = sym (ap (λ u. cond u (Some d) (arm_of xs l)) y) ∙ e in
           let same : d ≡ c = cc in
@@ -215,16 +213,16 @@ module _ (r : ℕ) where
     open_again held (choice origin p k bs g) n h = go (p == r) (takes_part_among held r bs) h (open_again_arms held bs n) (open_again held g n)
       where
         go : (u v : Bool) → has_again n (choice_code u v held r k bs (code held r g)) ≡ true → (has_again_arms n (arms held r bs) ≡ true → nth held n ≡ true) → (has_again n (code held r g) ≡ true → nth held n ≡ true) → nth held n ≡ true
-        go true v h ia ih = elim (or_one (has_again_arms n (arms held r bs)) _ h) [ inl x ↦ ia x | inr x ↦ ih x ]
-        go false true h ia ih = elim (or_one (has_again_arms n (arms held r bs)) _ h) [ inl x ↦ ia x | inr x ↦ ih x ]
+        go true v h ia ih = elim (or_cases (has_again_arms n (arms held r bs)) _ h) [ inl x ↦ ia x | inr x ↦ ih x ]
+        go false true h ia ih = elim (or_cases (has_again_arms n (arms held r bs)) _ h) [ inl x ↦ ia x | inr x ↦ ih x ]
         go false false h ia ih = ih h
     open_again held (looped origin b g) n h = go (takes_part (false ∷ held) r b) h (open_again (takes_part (false ∷ held) r b ∷ held) b (suc n)) (open_again held g n)
       where
         go : (u : Bool) → has_again n (loop_code u (code (takes_part (false ∷ held) r b ∷ held) r b) (code held r g)) ≡ true → (has_again (suc n) (code (takes_part (false ∷ held) r b ∷ held) r b) ≡ true → nth held n ≡ true) → (has_again n (code held r g) ≡ true → nth held n ≡ true) → nth held n ≡ true
-        go true h ib ih = elim (or_one (has_again (suc n) (code (takes_part (false ∷ held) r b ∷ held) r b)) _ h) [ inl x ↦ ib x | inr x ↦ ih x ]
+        go true h ib ih = elim (or_cases (has_again (suc n) (code (takes_part (false ∷ held) r b ∷ held) r b)) _ h) [ inl x ↦ ib x | inr x ↦ ih x ]
         go false h ib ih = ih h
     open_again held (again m) n h =
-        elim (bool_cases (nth held m)) [
+        elim (cases_Bool (nth held m)) [
           | inl y ↦ subst (λ k. nth held k ≡ true) (eqb-true m n (sym (ap (λ u. has_again n (cond u (E.again m) done)) y) ∙ h)) y
           | inr y ↦ (let no' = sym (ap (λ u. has_again n (cond u (E.again m) done)) y) ∙ h in cc)
         ]
@@ -232,7 +230,7 @@ module _ (r : ℕ) where
     open_again_arms : (held : List Bool) (bs : Branches) (n : ℕ) → has_again_arms n (arms held r bs) ≡ true → nth held n ≡ true
     open_again_arms held no_branch n h = cc
     open_again_arms held (branch mark b bs) n h =
-        elim (or_one (has_again n (code held r b)) (has_again_arms n (arms held r bs)) h) [ inl x ↦ open_again held b n x | inr x ↦ open_again_arms held bs n x ]
+        elim (or_cases (has_again n (code held r b)) (has_again_arms n (arms held r bs)) h) [ inl x ↦ open_again held b n x | inr x ↦ open_again_arms held bs n x ]
 
 module _ (w : Setting) (protocol : Block) (obeys : Obeys w.total protocol) where
   inv_start : (r : ℕ) → r < w.total → Inv (endpoint protocol r) false

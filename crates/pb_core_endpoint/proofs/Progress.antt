@@ -1,22 +1,20 @@
 -- A rank that takes part in what is still to do acts.
 use Rattle.std.proofs.Common.{◌≡◌, ℕ, zero, suc, ◌+◌, ◌<◌, ◌≤◌, ◌==◌, Bool, true, false, ◌||◌, ◌&&◌, MatchBool, List, [], ◌∷◌, ◌++◌, length, refl, sym, ap, ap₂, ◌∙◌, subst, inl, inr, append-nil, le_refl, le_trans, lt_of_lt_of_le, arith}
+use Rattle.std.proofs.lemmas.Bool.{or_cases, or_right, or_left, and_parts, cases_Bool, or_parts, and_right}
 use Rattle.pb_world.specs.Actions.{Action, Choose, Run, Send, Recv, Enter, Leave, of_rank, Answers}
 use Rattle.pb_world.specs.Sequencer.{behind_first, answers_after, answers_after_all, first_or, emitted, state_after}
 use Rattle.pb_world.proofs.Lists.{eqb_cases, of_append}
 use Rattle.pb_world.proofs.Sequential.{internal_self, message_sender, message_receiver}
-use Rattle.pb_core_language.specs.Flat.{Origin, Block, stop, message, compute, together, choice, looped, again, Branches, no_branch, branch, nth, takes_part, takes_part_among, in_choice, count, branch_at, can_end, some_can_end, first_ending}
+use Rattle.pb_core_language.specs.Lists.{nth}
+use Rattle.pb_core_language.specs.Flat.{Origin, Block, stop, message, compute, together, choice, looped, again, Branches, no_branch, branch, takes_part, takes_part_among, in_choice, count, branch_at, can_end, some_can_end, first_ending}
 use Rattle.pb_core_language.specs.Outcomes.{firsts_among, source_of}
 use Rattle.pb_core_language.specs.Run.{Setting, Opener, Top, Chosen, Body, Frame, at_rank, env_over, env_of, live, back, back_over, move, State, is_allowed, branch_now, words_now, emit, next}
 use Rattle.pb_core_endpoint.proofs.Kept.{Receives_first, Receives_each, Keeps, Loops_end, Loops_end_each, Ends_before}
 use Rattle.pb_core_endpoint.specs.Rules.{is_stop}
 use Rattle.pb_core_endpoint.proofs.Clean.{involved, Clean, Body_keeps, Stack_keeps}
-use Rattle.pb_core_endpoint.proofs.Stacks.{or_no, bool_cases, live_env}
-use Rattle.pb_core_endpoint.proofs.Branches.{or_one, or_left, or_right, keeps_at, loops_end_at, ends_before_at, no_part_at, receives_in, first_ending_ends, none_ends}
+use Rattle.pb_core_endpoint.proofs.Stacks.{live_env}
+use Rattle.pb_core_endpoint.proofs.Branches.{keeps_at, loops_end_at, ends_before_at, no_part_at, receives_in, first_ending_ends, none_ends}
 use Rattle.pb_core_endpoint.proofs.Keep.{branch_less, together_of}
-
-pub and_both : (a b : Bool) → (a && b) ≡ true → (a ≡ true) × (b ≡ true)
-and_both true b e = (refl, e)
-and_both false b e = cc
 
 -- the number of branches that are left to all ranks below n
 abbrev pub budget : ℕ → (ℕ → Answers) → ℕ
@@ -64,26 +62,26 @@ mutual
   pub part_more : (u v : List Bool) (r : ℕ) (g : Block) → Le u v → takes_part u r g ≡ true → takes_part v r g ≡ true
   part_more u v r stop l h = h
   part_more u v r (message origin p q m g) l h =
-      elim (or_one (p == r) _ h) [
+      elim (or_cases (p == r) _ h) [
         | inl y ↦ or_left (p == r) ((q == r) || takes_part v r g) y
-        | inr y ↦ elim (or_one (q == r) _ y) [
+        | inr y ↦ elim (or_cases (q == r) _ y) [
           | inl z ↦ or_right (p == r) _ (or_left (q == r) (takes_part v r g) z)
           | inr z ↦ or_right (p == r) _ (or_right (q == r) _ (part_more u v r g l z))
         ]
       ]
   part_more u v r (compute origin p k g) l h =
-      elim (or_one (p == r) _ h) [ inl y ↦ or_left (p == r) (takes_part v r g) y | inr y ↦ or_right (p == r) _ (part_more u v r g l y) ]
+      elim (or_cases (p == r) _ h) [ inl y ↦ or_left (p == r) (takes_part v r g) y | inr y ↦ or_right (p == r) _ (part_more u v r g l y) ]
   part_more u v r (together origin j g) l h = refl
   part_more u v r (choice origin p k bs g) l h =
-      elim (or_one (in_choice u r p bs) _ h) [
+      elim (or_cases (in_choice u r p bs) _ h) [
         | inr y ↦ or_right (in_choice v r p bs) _ (part_more u v r g l y)
-        | inl y ↦ or_left (in_choice v r p bs) (takes_part v r g) (elim (or_one (p == r) _ y) [
+        | inl y ↦ or_left (in_choice v r p bs) (takes_part v r g) (elim (or_cases (p == r) _ y) [
           | inl z ↦ or_left (p == r) (takes_part_among v r bs) z
           | inr z ↦ or_right (p == r) _ (part_more_among u v r bs l z)
         ])
       ]
   part_more u v r (looped origin b g) l h =
-      elim (or_one (takes_part (false ∷ u) r b) _ h) [
+      elim (or_cases (takes_part (false ∷ u) r b) _ h) [
         | inl y ↦ or_left (takes_part (false ∷ v) r b) (takes_part v r g) (part_more (false ∷ u) (false ∷ v) r b (le_under false false u v (λ e. e) l) y)
         | inr y ↦ or_right (takes_part (false ∷ v) r b) _ (part_more u v r g l y)
       ]
@@ -92,7 +90,7 @@ mutual
   pub part_more_among : (u v : List Bool) (r : ℕ) (bs : Branches) → Le u v → takes_part_among u r bs ≡ true → takes_part_among v r bs ≡ true
   part_more_among u v r no_branch l h = h
   part_more_among u v r (branch mark b bs) l h =
-      elim (or_one (takes_part u r b) (takes_part_among u r bs) h) [ inl y ↦ or_left (takes_part v r b) (takes_part_among v r bs) (part_more u v r b l y) | inr y ↦ or_right (takes_part v r b) _ (part_more_among u v r bs l y) ]
+      elim (or_cases (takes_part u r b) (takes_part_among u r bs) h) [ inl y ↦ or_left (takes_part v r b) (takes_part_among v r bs) (part_more u v r b l y) | inr y ↦ or_right (takes_part v r b) _ (part_more_among u v r bs l y) ]
 
 -- what is below is all at its end
 abbrev pub tail_stops : List Frame → Bool
@@ -238,7 +236,7 @@ module _ (w : Setting) (protocol : Block) (r : ℕ) (is_rank : r < w.total) (b :
         step_out s (Is K) (ends_at g o K (steps s).left c k.1 (step_budget s le))
     ends_at (choice origin p j bs g) o K left c k le =
         let s : State = at (record { opener = o; rest = choice origin p j bs g } ∷ K) left in
-        let cs = and_both _ _ c in
+        let cs = and_parts _ _ c in
         let i = branch_now w left p j bs in
         let here : List Frame = record { opener = o; rest = g } ∷ K in
         choice_out o K p j bs g left (Is K) k.0 le (λ e.
@@ -246,7 +244,7 @@ module _ (w : Setting) (protocol : Block) (r : ℕ) (is_rank : r < w.total) (b :
         (λ q is le'. from_stack q here (Is K) is (ends_at g o K q.left cs.1 k.4 le')))
     ends_at (looped origin x g) o K left c k le =
         let s : State = at (record { opener = o; rest = looped origin x g } ∷ K) left in
-        let cs = and_both _ _ c in
+        let cs = and_parts _ _ c in
         let here : List Frame = record { opener = o; rest = g } ∷ K in
         step_out s (Is K) (then_out (steps s) (Is here) (Is K) (ends_at x (Body x) here (steps s).left cs.0 k.0 (step_budget s le))
         (λ q is le'. from_stack q here (Is K) is (ends_at g o K q.left cs.1 k.1 le')))
@@ -299,11 +297,11 @@ module _ (w : Setting) (protocol : Block) (r : ℕ) (is_rank : r < w.total) (b :
         let i = branch_now w left p' j bs in
         let here : List Frame = record { opener = o; rest = g } ∷ K in
         let kept = keeps_at w.total (env_over o (env_of K)) bs i k.3 in
-        elim (bool_cases (p' == r)) [
+        elim (cases_Bool (p' == r)) [
           | inl v ↦ absurd (subst (λ u. MatchBool u ⊥ (MatchBool (takes_part_among e r bs) (Receives_each e r p bs) (Receives_first e r p g))) v h)
           | inr v ↦
               let h' = subst (λ u. MatchBool u ⊥ (MatchBool (takes_part_among e r bs) (Receives_each e r p bs) (Receives_first e r p g))) v h in
-              elim (bool_cases (takes_part_among e r bs)) [
+              elim (cases_Bool (takes_part_among e r bs)) [
                 | inl z ↦
                     let all = subst (λ u. MatchBool u (Receives_each e r p bs) (Receives_first e r p g)) z h' in
                     step_out s (λ X. ⊥) (receives_at_each bs i p (Chosen p' bs) here (steps s).left (receives_in e r p bs i (branch_less w left p' j bs k.1) all) kept (ends_before_at bs i f.1) (step_budget s le))
@@ -319,7 +317,7 @@ module _ (w : Setting) (protocol : Block) (r : ℕ) (is_rank : r < w.total) (b :
         let s : State = at (record { opener = o; rest = looped origin x g } ∷ K) left in
         let e = at_rank r (env_over o (env_of K)) in
         let here : List Frame = record { opener = o; rest = g } ∷ K in
-        elim (bool_cases (takes_part (false ∷ e) r x)) [
+        elim (cases_Bool (takes_part (false ∷ e) r x)) [
           | inl z ↦
               let inner = subst (λ u. MatchBool u (Receives_first (true ∷ e) r p x) (Receives_first e r p g)) z h in
               step_out s (λ X. ⊥) (receives_at x p (Body x) here (steps s).left (subst (λ u. Receives_first (u ∷ e) r p x) (sym z) inner) k.0 f.1 (step_budget s le))
@@ -382,7 +380,7 @@ module _ (w : Setting) (protocol : Block) (r : ℕ) (is_rank : r < w.total) (b :
       let src = source_of (firsts_among e r bs) in
       elim (eqb_cases p r) [
         | inl v ↦ acts (now s _ _ (subst (λ q. of_rank q (does s) ≡ Choose j (count bs) i ∷ []) v.0 (internal_self p (Choose j (count bs) i))))
-        | inr v ↦ elim (bool_cases (takes_part_among e r bs)) [
+        | inr v ↦ elim (cases_Bool (takes_part_among e r bs)) [
           | inl z ↦
               let told = k.2 r is_rank v.1 z in
               step_out s (Back u o K) (then_out (steps s) (λ X. ⊥) (Back u o K)
@@ -390,9 +388,9 @@ module _ (w : Setting) (protocol : Block) (r : ℕ) (is_rank : r < w.total) (b :
               (λ q no' le'. absurd no'))
           | inr z ↦
               let rest : takes_part u r g ≡ true =
-              elim (or_one (in_choice u r p bs) (takes_part u r g) h) [
+              elim (or_cases (in_choice u r p bs) (takes_part u r g) h) [
                 | inr x ↦ x
-                | inl x ↦ elim (or_one (p == r) (takes_part_among u r bs) x) [
+                | inl x ↦ elim (or_cases (p == r) (takes_part_among u r bs) x) [
                   | inl a ↦ (let c = v.1 in cc)
                   | inr a ↦ (let c = part_more_among u e r bs l a in cc)
                 ]
@@ -407,7 +405,7 @@ module _ (w : Setting) (protocol : Block) (r : ℕ) (is_rank : r < w.total) (b :
       let s : State = at (record { opener = o; rest = looped origin x g } ∷ K) left in
       let e = at_rank r (env_over o (env_of K)) in
       let here : List Frame = record { opener = o; rest = g } ∷ K in
-      elim (bool_cases (takes_part (false ∷ u) r x)) [
+      elim (cases_Bool (takes_part (false ∷ u) r x)) [
         | inl z ↦ step_out s (Back u o K) (then_out (steps s) (Back (false ∷ u) (Body x) here) (Back u o K)
             (goes_back x (false ∷ u) (Body x) here (steps s).left z (le_under false (takes_part (false ∷ e) r x) u e (λ n. cc) l) k.0 f.1 (step_budget s le))
             (λ q h' le'. outer q h'.0 h'.1 h'.2 le'))
@@ -438,10 +436,10 @@ module _ (w : Setting) (protocol : Block) (r : ℕ) (is_rank : r < w.total) (b :
     leaves stop o K left c l out k le = cc
     leaves (message origin p q m g) o K left c l out k le =
         let s : State = at (record { opener = o; rest = message origin p q m g } ∷ K) left in
-        step_out s (Dead_back o K) (leaves g o K (steps s).left c l (or_no (q == r) _ (or_no (p == r) _ out).1).1 k.3 (step_budget s le))
+        step_out s (Dead_back o K) (leaves g o K (steps s).left c l (or_parts (q == r) _ (or_parts (p == r) _ out).1).1 k.3 (step_budget s le))
     leaves (compute origin p j g) o K left c l out k le =
         let s : State = at (record { opener = o; rest = compute origin p j g } ∷ K) left in
-        step_out s (Dead_back o K) (leaves g o K (steps s).left c l (or_no (p == r) _ out).1 k.1 (step_budget s le))
+        step_out s (Dead_back o K) (leaves g o K (steps s).left c l (or_parts (p == r) _ out).1 k.1 (step_budget s le))
     leaves (together origin j g) o K left c l out k le = cc
     leaves (choice origin p j bs g) o K left c l out k le =
         let s : State = at (record { opener = o; rest = choice origin p j bs g } ∷ K) left in
@@ -449,18 +447,18 @@ module _ (w : Setting) (protocol : Block) (r : ℕ) (is_rank : r < w.total) (b :
         let i = branch_now w left p j bs in
         let here : List Frame = record { opener = o; rest = g } ∷ K in
         let kept = keeps_at w.total (env_over o (env_of K)) bs i k.3 in
-        let parts = or_no _ (takes_part e r g) out in
+        let parts = or_parts _ (takes_part e r g) out in
         choice_out o K p j bs g left (Dead_back o K) k.0 le (λ none.
-        elim (bool_cases (some_can_end bs)) [
+        elim (cases_Bool (some_can_end bs)) [
           | inl z ↦ then_out (steps s) (Is here) (Dead_back o K) (ends_at_each bs i (Chosen p bs) here (steps s).left (taken_ends p j bs left none z) kept (step_budget s le))
               (λ q is le'. from_stack q here (Dead_back o K) is (leaves g o K q.left (and_rest _ _ c z) l.1 parts.1 k.4 le'))
-          | inr z ↦ leaves_each bs i (Chosen p bs) here (steps s).left (none_ends bs i (branch_less w left p j bs k.1) z) (loops_end_at bs i l.0) (no_part_at e r bs i (or_no (p == r) _ parts.0).1) kept (step_budget s le)
+          | inr z ↦ leaves_each bs i (Chosen p bs) here (steps s).left (none_ends bs i (branch_less w left p j bs k.1) z) (loops_end_at bs i l.0) (no_part_at e r bs i (or_parts (p == r) _ parts.0).1) kept (step_budget s le)
         ])
     leaves (looped origin x g) o K left c l out k le =
         let s : State = at (record { opener = o; rest = looped origin x g } ∷ K) left in
         let here : List Frame = record { opener = o; rest = g } ∷ K in
         step_out s (Dead_back o K) (then_out (steps s) (Is here) (Dead_back o K) (ends_at x (Body x) here (steps s).left l.0 k.0 (step_budget s le))
-        (λ q is le'. from_stack q here (Dead_back o K) is (leaves g o K q.left (and_rest _ _ c l.0) l.2 (or_no _ _ out).1 k.1 le')))
+        (λ q is le'. from_stack q here (Dead_back o K) is (leaves g o K q.left (and_rest _ _ c l.0) l.2 (or_parts _ _ out).1 k.1 le')))
     leaves (again n) o K left c l out k le = comes 1 (n, out, k, refl) (step_budget (at (record { opener = o; rest = again n } ∷ K) left) le)
 
     leaves_each : (bs : Branches) (i : ℕ) → Leaves_at (branch_at i bs)
@@ -490,14 +488,10 @@ module _ (w : Setting) (protocol : Block) (r : ℕ) (is_rank : r < w.total) (b :
   involved_below : (K : List Frame) → involved r K ≡ true → tail_stops K ≡ false
   involved_below [] h = cc
   involved_below (f ∷ K) h =
-      elim (or_one (takes_part (at_rank r (env_of (f ∷ K))) r f.rest) (involved r K) h) [
+      elim (or_cases (takes_part (at_rank r (env_of (f ∷ K))) r f.rest) (involved r K) h) [
         | inl y ↦ ap (λ u. u && tail_stops K) (part_not_last (at_rank r (env_of (f ∷ K))) f.rest y)
-        | inr y ↦ and_no (is_stop f.rest) (tail_stops K) (involved_below K y)
+        | inr y ↦ and_right (is_stop f.rest) (tail_stops K) (involved_below K y)
       ]
-    where
-      and_no : (c d : Bool) → d ≡ false → (c && d) ≡ false
-      and_no true d e = e
-      and_no false d e = refl
 
   -- a rank that takes part in a stack acts, and so it does where the run goes back over frames in which it takes none
   abbrev pub Acts_from : List Frame → Type 0
@@ -509,19 +503,19 @@ module _ (w : Setting) (protocol : Block) (r : ℕ) (is_rank : r < w.total) (b :
       let below = stack_acts K c.2 k.2 s.3 in
       let e = at_rank r (env_of (f ∷ K)) in
       let back_acts : (m : ℕ) → nth e m ≡ false → m < length (env_of (f ∷ K)) → involved r (f ∷ K) ≡ true → Acts_from (back (f ∷ K) m) = λ m n lt h left le.
-      elim (bool_cases (live r f.opener (env_of K))) [
+      elim (cases_Bool (live r f.opener (env_of K))) [
         | inl l ↦ (let yes = live_env r (f ∷ K) c l m lt in cc)
         | inr l ↦
-            let inner : involved r K ≡ true = elim (or_one (takes_part e r f.rest) (involved r K) h) [ inl y ↦ (let z = c.0 y in cc) | inr y ↦ y ] in
+            let inner : involved r K ≡ true = elim (or_cases (takes_part e r f.rest) (involved r K) h) [ inl y ↦ (let z = c.0 y in cc) | inr y ↦ y ] in
             dead_frame f.opener K m n lt below.1 below.0 k.1 (λ t. (s.2 t).1) inner left le
       ] in (
         (λ h left le.
-            elim (bool_cases (takes_part e r f.rest)) [
+            elim (cases_Bool (takes_part e r f.rest)) [
               | inl y ↦ then_out (at (f ∷ K) left) (Back e f.opener K) (λ X. ⊥) (goes_back f.rest e f.opener K left y (λ n t. t) k.0 s.0 le)
                   (λ q h' le'. from_stack q (back (f ∷ K) h'.0) (λ X. ⊥) h'.2 (loop_acts (f ∷ K) k s h'.0 h'.1 q.left le'))
               | inr y ↦
                   let inner : involved r K ≡ true = sym (ap (λ u. u || involved r K) y) ∙ h in
-                  elim (bool_cases (can_end f.rest)) [
+                  elim (cases_Bool (can_end f.rest)) [
                     | inl z ↦ then_out (at (f ∷ K) left) (Is K) (λ X. ⊥) (ends_at f.rest f.opener K left z k.0 le) (λ q is le'. from_stack q K (λ X. ⊥) is (below.0 inner q.left le'))
                     | inr z ↦ then_out (at (f ∷ K) left) (Dead_back f.opener K) (λ X. ⊥) (leaves f.rest f.opener K left z (s.2 (involved_below K inner)).0 y k.0 le)
                         (λ q h' le'. from_stack q (back (f ∷ K) h'.0) (λ X. ⊥) h'.3 (back_acts h'.0 h'.1 h'.2 h q.left le'))

@@ -1,17 +1,11 @@
 -- Stacks of the protocol and of a rank.
-use Rattle.std.proofs.Common.{◌≡◌, ℕ, zero, suc, ◌<◌, Bool, cond, true, false, ◌||◌, ◌⊎◌, List, [], ◌∷◌, length, Some, None, refl, sym, ap, ◌∙◌, inl, inr, arith}
-use Rattle.pb_core_language.specs.Flat.{Block, stop, message, compute, together, choice, looped, again, nth, takes_part, branch_at}
+use Rattle.std.proofs.Common.{◌≡◌, ℕ, zero, suc, ◌<◌, cond, true, false, List, [], ◌∷◌, length, Some, None, refl, sym, ap, ◌∙◌, inl, inr, arith}
+use Rattle.std.proofs.lemmas.Bool.{cases_Bool, or_parts}
+use Rattle.pb_core_language.specs.Lists.{nth}
+use Rattle.pb_core_language.specs.Flat.{Block, stop, message, compute, together, choice, looped, again, takes_part, branch_at}
 use Rattle.pb_core_language.specs.Run.{Opener, Top, Chosen, Body, Frame, at_rank, env_over, env_of, live, back, back_over, move}
 use Rattle.pb_core_endpoint.specs.Endpoint.{code, return_to, shadow}
 use Rattle.pb_core_endpoint.proofs.Clean.{top_live, Clean}
-
-pub or_no : (a b : Bool) → (a || b) ≡ false → (a ≡ false) × (b ≡ false)
-or_no false b e = (refl, e)
-or_no true b e = cc
-
-pub bool_cases : (b : Bool) → (b ≡ true) ⊎ (b ≡ false)
-bool_cases true = inl refl
-bool_cases false = inr refl
 
 module _ (r : ℕ) where
   pub live_env : (K : List Frame) → Clean r K → top_live r K ≡ true → (n : ℕ) → n < length (env_of K) → nth (at_rank r (env_of K)) n ≡ true
@@ -47,7 +41,7 @@ module _ (r : ℕ) where
     pub back_dead : (K : List Frame) → Clean r K → (n : ℕ) → n < length (env_of K) → nth (at_rank r (env_of K)) n ≡ false → P K → P (back K n)
     back_dead [] c n lt out h = absurd (omega arith)
     back_dead (f ∷ K) c n lt out h =
-        elim (bool_cases (live r f.opener (env_of K))) [
+        elim (cases_Bool (live r f.opener (env_of K))) [
           | inl l ↦ (let yes = live_env (f ∷ K) c l n lt in cc)
           | inr l ↦ go f.opener n l out lt (drop f K l h) (λ m lt' out'. back_dead K c.2 m lt' out' (drop f K l h))
         ]
@@ -61,7 +55,7 @@ module _ (r : ℕ) where
     -- no more is it where the protocol moves in such a frame
     pub move_dead : (f : Frame) (K : List Frame) (x : ℕ) → Clean r (f ∷ K) → ((n : ℕ) → f.rest ≡ again n → n < length (env_of (f ∷ K))) → live r f.opener (env_of K) ≡ false → P K → P (move f.opener K f.rest x)
     move_dead f K x c scope l h =
-        go f.rest refl (elim (bool_cases (takes_part (at_rank r (env_of (f ∷ K))) r f.rest)) [ inl y ↦ (let z = c.0 y in cc) | inr n ↦ n ])
+        go f.rest refl (elim (cases_Bool (takes_part (at_rank r (env_of (f ∷ K))) r f.rest)) [ inl y ↦ (let z = c.0 y in cc) | inr n ↦ n ])
       where
         top : (g : Block) → P (record { opener = f.opener; rest = g } ∷ K)
         top g = put (record { opener = f.opener; rest = g }) K l h
@@ -71,6 +65,6 @@ module _ (r : ℕ) where
         go (message origin p q m g) e out = top g
         go (compute origin p k g) e out = top g
         go (together origin j g) e out = cc
-        go (choice origin p k bs g) e out = put (record { opener = Chosen p bs; rest = branch_at x bs }) (record { opener = f.opener; rest = g } ∷ K) (or_no _ _ out).0 (top g)
-        go (looped origin b g) e out = put (record { opener = Body b; rest = b }) (record { opener = f.opener; rest = g } ∷ K) (or_no _ _ out).0 (top g)
+        go (choice origin p k bs g) e out = put (record { opener = Chosen p bs; rest = branch_at x bs }) (record { opener = f.opener; rest = g } ∷ K) (or_parts _ _ out).0 (top g)
+        go (looped origin b g) e out = put (record { opener = Body b; rest = b }) (record { opener = f.opener; rest = g } ∷ K) (or_parts _ _ out).0 (top g)
         go (again n) e out = back_dead (f ∷ K) c n (scope n e) out (put f K l h)

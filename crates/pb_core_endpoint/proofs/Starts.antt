@@ -1,15 +1,14 @@
 -- With what an endpoint starts.
 use Rattle.std.proofs.Common.{◌≡◌, ℕ, zero, suc, ◌<◌, ◌==◌, Bool, cond, true, false, ◌||◌, ◌&&◌, MatchBool, List, ◌∷◌, refl, sym, ap, ap₂, ◌∙◌, subst, inl, inr}
-use Rattle.std.proofs.lemmas.Bool.{eqb-true}
-use Rattle.pb_core_language.specs.Flat.{Block, stop, message, compute, together, choice, looped, again, Branches, no_branch, branch, nth, takes_part, takes_part_among, can_end, some_can_end}
+use Rattle.std.proofs.lemmas.Bool.{eqb-true, or_cases, cases_Bool, and_right}
+use Rattle.pb_core_language.specs.Lists.{nth}
+use Rattle.pb_core_language.specs.Flat.{Block, stop, message, compute, together, choice, looped, again, Branches, no_branch, branch, takes_part, takes_part_among, can_end, some_can_end}
 use Rattle.pb_core_language.specs.Run.{Env, at_rank}
 use Rattle.pb_core_language.specs.Outcomes.{firsts_among, source_of}
 use Rattle.pb_core_endpoint.specs.Rules.{is_stop}
 use Rattle.pb_core_endpoint.specs.Endpoint.{Code, done, send, receive, run, enter, leave, choose, told, loop, Arms, no_arm, arm, code, arms}
 use Rattle.pb_core_endpoint.specs.Endpoint as E
 use Rattle.pb_core_endpoint.proofs.Kept.{Receives_first, Receives_each, Keeps, Keeps_each, Ends_before, Ends_before_each}
-use Rattle.pb_core_endpoint.proofs.Stacks.{bool_cases}
-use Rattle.pb_core_endpoint.proofs.Branches.{or_one}
 use Rattle.pb_core_endpoint.proofs.Progress.{Le, le_under, part_more, part_more_among}
 
 -- an action or a probe, a way back to the n-th open loop, or nothing
@@ -87,10 +86,6 @@ or_rest : (a b : Bool) → (a || b) ≡ true → a ≡ false → b ≡ true
 or_rest false b h e = h
 or_rest true b h e = cc
 
-and_last : (a b : Bool) → b ≡ false → (a && b) ≡ false
-and_last true b e = e
-and_last false b e = refl
-
 stop_is : (g : Block) → is_stop g ≡ true → g ≡ stop
 stop_is stop h = refl
 stop_is (message origin p q l g) h = cc
@@ -119,25 +114,25 @@ module _ (r : ℕ) where
   not_ends held stop h e = cc
   not_ends held (message origin p q l g) h e =
       let c = code held r g in
-      elim (bool_cases (p == r)) [
+      elim (cases_Bool (p == r)) [
         | inl y ↦ (let no' = sym (ap (λ u. start_of (message_code u (q == r) p q l c)) y) ∙ e in cc)
-        | inr y ↦ elim (bool_cases (q == r)) [
+        | inr y ↦ elim (cases_Bool (q == r)) [
           | inl z ↦ (let no' = sym (ap₂ (λ u v. start_of (message_code u v p q l c)) y z) ∙ e in cc)
           | inr z ↦ not_ends held g (or_rest _ _ (or_rest _ _ h y) z) (sym (ap₂ (λ u v. start_of (message_code u v p q l c)) y z) ∙ e)
         ]
       ]
   not_ends held (compute origin p k g) h e =
       let c = code held r g in
-      elim (bool_cases (p == r)) [
+      elim (cases_Bool (p == r)) [
         | inl y ↦ (let no' = sym (ap (λ u. start_of (cond u (run k c) c)) y) ∙ e in cc)
         | inr y ↦ not_ends held g (or_rest _ _ h y) (sym (ap (λ u. start_of (cond u (run k c) c)) y) ∙ e)
       ]
   not_ends held (together origin j g) h e = cc
   not_ends held (choice origin p k bs g) h e =
       let c = code held r g in
-      elim (bool_cases (p == r)) [
+      elim (cases_Bool (p == r)) [
         | inl y ↦ (let no' = sym (ap (λ u. start_of (choice_code u (takes_part_among held r bs) held r k bs c)) y) ∙ e in cc)
-        | inr y ↦ elim (bool_cases (takes_part_among held r bs)) [
+        | inr y ↦ elim (cases_Bool (takes_part_among held r bs)) [
           | inl z ↦ (let no' = sym (ap₂ (λ u v. start_of (choice_code u v held r k bs c)) y z) ∙ e in cc)
           | inr z ↦ not_ends held g (or_rest _ _ h (ap₂ (λ u v. u || v) y z)) (sym (ap₂ (λ u v. start_of (choice_code u v held r k bs c)) y z) ∙ e)
         ]
@@ -146,7 +141,7 @@ module _ (r : ℕ) where
       let c = code held r g in
       let t = takes_part (false ∷ held) r b in
       let cb = code (t ∷ held) r b in
-      elim (bool_cases t) [
+      elim (cases_Bool t) [
         | inl z ↦ live (start_of cb) refl (not_ends (t ∷ held) b (inside held b z)) (sym (ap (λ u. start_of (loop_code u cb c)) z) ∙ e)
         | inr z ↦ not_ends held g (or_rest _ _ h z) (sym (ap (λ u. start_of (loop_code u cb c)) z) ∙ e)
       ]
@@ -163,42 +158,42 @@ module _ (r : ℕ) where
   not_end held stop m e = cc
   not_end held (message origin p q l g) m e =
       let c = code held r g in
-      elim (bool_cases (p == r)) [
+      elim (cases_Bool (p == r)) [
         | inl y ↦ (let no' = sym (ap (λ u. start_of (message_code u (q == r) p q l c)) y) ∙ e in cc)
-        | inr y ↦ elim (bool_cases (q == r)) [
+        | inr y ↦ elim (cases_Bool (q == r)) [
           | inl z ↦ (let no' = sym (ap₂ (λ u v. start_of (message_code u v p q l c)) y z) ∙ e in cc)
           | inr z ↦ not_end held g m (sym (ap₂ (λ u v. start_of (message_code u v p q l c)) y z) ∙ e)
         ]
       ]
   not_end held (compute origin p k g) m e =
       let c = code held r g in
-      elim (bool_cases (p == r)) [
+      elim (cases_Bool (p == r)) [
         | inl y ↦ (let no' = sym (ap (λ u. start_of (cond u (run k c) c)) y) ∙ e in cc)
         | inr y ↦ not_end held g m (sym (ap (λ u. start_of (cond u (run k c) c)) y) ∙ e)
       ]
   not_end held (together origin j g) m e = cc
   not_end held (choice origin p k bs g) m e =
       let c = code held r g in
-      elim (bool_cases (p == r)) [
+      elim (cases_Bool (p == r)) [
         | inl y ↦ (let no' = sym (ap (λ u. start_of (choice_code u (takes_part_among held r bs) held r k bs c)) y) ∙ e in cc)
-        | inr y ↦ elim (bool_cases (takes_part_among held r bs)) [
+        | inr y ↦ elim (cases_Bool (takes_part_among held r bs)) [
           | inl z ↦ (let no' = sym (ap₂ (λ u v. start_of (choice_code u v held r k bs c)) y z) ∙ e in cc)
-          | inr z ↦ and_last (some_can_end bs) (can_end g) (not_end held g m (sym (ap₂ (λ u v. start_of (choice_code u v held r k bs c)) y z) ∙ e))
+          | inr z ↦ and_right (some_can_end bs) (can_end g) (not_end held g m (sym (ap₂ (λ u v. start_of (choice_code u v held r k bs c)) y z) ∙ e))
         ]
       ]
   not_end held (looped origin b g) m e =
       let c = code held r g in
       let t = takes_part (false ∷ held) r b in
       let cb = code (t ∷ held) r b in
-      elim (bool_cases t) [
+      elim (cases_Bool t) [
         | inl z ↦ live (start_of cb) refl (λ i. not_end (t ∷ held) b i) (λ f. not_end held g m f) (sym (ap (λ u. start_of (loop_code u cb c)) z) ∙ e)
-        | inr z ↦ and_last (can_end b) (can_end g) (not_end held g m (sym (ap (λ u. start_of (loop_code u cb c)) z) ∙ e))
+        | inr z ↦ and_right (can_end b) (can_end g) (not_end held g m (sym (ap (λ u. start_of (loop_code u cb c)) z) ∙ e))
       ]
     where
       live : (s : Start) → start_of (code (takes_part (false ∷ held) r b ∷ held) r b) ≡ s → ((i : ℕ) → start_of (code (takes_part (false ∷ held) r b ∷ held) r b) ≡ Returns i → can_end b ≡ false) → (start_of (code held r g) ≡ Returns m → can_end g ≡ false) → then_start (lower (start_of (code (takes_part (false ∷ held) r b ∷ held) r b))) (start_of (code held r g)) ≡ Returns m → (can_end b && can_end g) ≡ false
       live Acts i n k f = (let x = sym (ap (λ s. then_start (lower s) (start_of (code held r g))) i) ∙ f in cc)
       live (Returns j) i n k f = ap (λ u. u && can_end g) (n j i)
-      live Ends i n k f = and_last (can_end b) (can_end g) (k (sym (ap (λ s. then_start (lower s) (start_of (code held r g))) i) ∙ f))
+      live Ends i n k f = and_right (can_end b) (can_end g) (k (sym (ap (λ s. then_start (lower s) (start_of (code held r g))) i) ∙ f))
   not_end held (again n) m e = refl
 
   -- what starts with a way back to a loop has no other way back, and the rank takes part in it for no other reason
@@ -210,9 +205,9 @@ module _ (r : ℕ) where
   only held stop m f e = cc
   only held (message origin p q l g) m f e =
       let c = code held r g in
-      elim (bool_cases (p == r)) [
+      elim (cases_Bool (p == r)) [
         | inl y ↦ (let no' = sym (ap (λ u. start_of (message_code u (q == r) p q l c)) y) ∙ e in cc)
-        | inr y ↦ elim (bool_cases (q == r)) [
+        | inr y ↦ elim (cases_Bool (q == r)) [
           | inl z ↦ (let no' = sym (ap₂ (λ u v. start_of (message_code u v p q l c)) y z) ∙ e in cc)
           | inr z ↦
               let ih = only held g m f (sym (ap₂ (λ u v. start_of (message_code u v p q l c)) y z) ∙ e) in
@@ -221,7 +216,7 @@ module _ (r : ℕ) where
       ]
   only held (compute origin p j g) m f e =
       let c = code held r g in
-      elim (bool_cases (p == r)) [
+      elim (cases_Bool (p == r)) [
         | inl y ↦ (let no' = sym (ap (λ u. start_of (cond u (run j c) c)) y) ∙ e in cc)
         | inr y ↦
             let ih = only held g m f (sym (ap (λ u. start_of (cond u (run j c) c)) y) ∙ e) in
@@ -230,14 +225,14 @@ module _ (r : ℕ) where
   only held (together origin j g) m f e = cc
   only held (choice origin p j bs g) m f e =
       let c = code held r g in
-      elim (bool_cases (p == r)) [
+      elim (cases_Bool (p == r)) [
         | inl y ↦ (let no' = sym (ap (λ u. start_of (choice_code u (takes_part_among held r bs) held r j bs c)) y) ∙ e in cc)
-        | inr y ↦ elim (bool_cases (takes_part_among held r bs)) [
+        | inr y ↦ elim (cases_Bool (takes_part_among held r bs)) [
           | inl z ↦ (let no' = sym (ap₂ (λ u v. start_of (choice_code u v held r j bs c)) y z) ∙ e in cc)
           | inr z ↦
               let ih = only held g m f.2 (sym (ap₂ (λ u v. start_of (choice_code u v held r j bs c)) y z) ∙ e) in
               record {
-                reason = λ u le h. elim (or_one ((p == r) || takes_part_among u r bs) (takes_part u r g) h) [
+                reason = λ u le h. elim (or_cases ((p == r) || takes_part_among u r bs) (takes_part u r g) h) [
                   | inl x ↦ (let a = part_more_among u held r bs le (or_rest _ _ x y) in cc)
                   | inr x ↦ ih.reason u le x
                 ];
@@ -249,12 +244,12 @@ module _ (r : ℕ) where
       let c = code held r g in
       let t = takes_part (false ∷ held) r b in
       let cb = code (t ∷ held) r b in
-      elim (bool_cases t) [
+      elim (cases_Bool t) [
         | inl z ↦ live z (start_of cb) refl (λ i. only (t ∷ held) b i f.1) (sym (ap (λ u. start_of (loop_code u cb c)) z) ∙ e)
         | inr z ↦
             let ih = only held g m f.2 (sym (ap (λ u. start_of (loop_code u cb c)) z) ∙ e) in
             record {
-              reason = λ u le h. elim (or_one (takes_part (false ∷ u) r b) (takes_part u r g) h) [
+              reason = λ u le h. elim (or_cases (takes_part (false ∷ u) r b) (takes_part u r g) h) [
                 | inl x ↦ (let a = part_more (false ∷ u) (false ∷ held) r b (le_under false false u held (λ i. i) le) x in cc)
                 | inr x ↦ ih.reason u le x
               ];
@@ -271,21 +266,21 @@ module _ (r : ℕ) where
           let cb = code (t ∷ held) r b in
           let y : Returns j ≡ Returns m = sym (ap (λ s. then_start (lower s) (start_of (code held r g))) i) ∙ x in
           let same : j ≡ m = cc in
-          let last : is_stop g ≡ true = elim (bool_cases (is_stop g)) [ inl v ↦ v | inr v ↦ (let a = (f.0 v).0 in let b' = not_end (t ∷ held) b (suc j) i in cc) ] in
+          let last : is_stop g ≡ true = elim (cases_Bool (is_stop g)) [ inl v ↦ v | inr v ↦ (let a = (f.0 v).0 in let b' = not_end (t ∷ held) b (suc j) i in cc) ] in
           let g_is = stop_is g last in
           record {
-            reason = λ u le h. elim (or_one (takes_part (false ∷ u) r b) (takes_part u r g) h) [
+            reason = λ u le h. elim (or_cases (takes_part (false ∷ u) r b) (takes_part u r g) h) [
               | inl v ↦ subst (λ k. nth u k ≡ true) same ((n (suc j) i).reason (false ∷ u) (le_under false t u held (λ n. cc) le) v)
               | inr v ↦ (let no' = sym (ap (takes_part u r) g_is) ∙ v in cc)
             ];
             way = λ k h. (let h' = sym (ap (λ u. has_again k (loop_code u cb (code held r g))) z) ∙ h in
-                elim (or_one (has_again (suc k) cb) (has_again k (code held r g)) h') [
+                elim (or_cases (has_again (suc k) cb) (has_again k (code held r g)) h') [
                   | inl v ↦ (let up = (n (suc j) i).way (suc k) v in cc)
                   | inr v ↦ (let no' = sym (ap (λ x. has_again k (code held r x)) g_is) ∙ v in cc)
                 ]);
           }
   only held (again n) m f e =
-      elim (bool_cases (nth held n)) [
+      elim (cases_Bool (nth held n)) [
         | inl y ↦
             let e' : Returns n ≡ Returns m = sym (ap (λ u. start_of (cond u (E.again n) done)) y) ∙ e in
             let same : n ≡ m = cc in
@@ -315,18 +310,18 @@ module _ (r : ℕ) where
   receives_start held p (message origin p' q l g) h =
       let c = code held r g in
       let goal : Bool → Bool → Type 0 = λ u v. MatchBool u ⊥ (MatchBool v (p' ≡ p) (Receives_first held r p g)) in
-      elim (bool_cases (p' == r)) [
+      elim (cases_Bool (p' == r)) [
         | inl y ↦ absurd (subst (λ u. goal u (q == r)) y h)
         | inr y ↦
             let h' = subst (λ u. goal u (q == r)) y h in
-            elim (bool_cases (q == r)) [
+            elim (cases_Bool (q == r)) [
               | inl z ↦ ap₂ (λ u v. start_of (message_code u v p' q l c)) y z
               | inr z ↦ ap₂ (λ u v. start_of (message_code u v p' q l c)) y z ∙ receives_start held p g (subst (λ v. goal false v) z h')
             ]
       ]
   receives_start held p (compute origin p' k g) h =
       let c = code held r g in
-      elim (bool_cases (p' == r)) [
+      elim (cases_Bool (p' == r)) [
         | inl y ↦ absurd (subst (λ u. MatchBool u ⊥ (Receives_first held r p g)) y h)
         | inr y ↦ ap (λ u. start_of (cond u (run k c) c)) y ∙ receives_start held p g (subst (λ u. MatchBool u ⊥ (Receives_first held r p g)) y h)
       ]
@@ -334,11 +329,11 @@ module _ (r : ℕ) where
   receives_start held p (choice origin p' k bs g) h =
       let c = code held r g in
       let goal : Bool → Bool → Type 0 = λ u v. MatchBool u ⊥ (MatchBool v (Receives_each held r p bs) (Receives_first held r p g)) in
-      elim (bool_cases (p' == r)) [
+      elim (cases_Bool (p' == r)) [
         | inl y ↦ absurd (subst (λ u. goal u (takes_part_among held r bs)) y h)
         | inr y ↦
             let h' = subst (λ u. goal u (takes_part_among held r bs)) y h in
-            elim (bool_cases (takes_part_among held r bs)) [
+            elim (cases_Bool (takes_part_among held r bs)) [
               | inl z ↦ ap₂ (λ u v. start_of (choice_code u v held r k bs c)) y z
               | inr z ↦ ap₂ (λ u v. start_of (choice_code u v held r k bs c)) y z ∙ receives_start held p g (subst (λ v. goal false v) z h')
             ]
@@ -348,7 +343,7 @@ module _ (r : ℕ) where
       let t = takes_part (false ∷ held) r b in
       let cb = code (t ∷ held) r b in
       let goal : Bool → Type 0 = λ u. MatchBool u (Receives_first (true ∷ held) r p b) (Receives_first held r p g) in
-      elim (bool_cases t) [
+      elim (cases_Bool t) [
         | inl z ↦
             let ih = receives_start (t ∷ held) p b (subst (λ u. Receives_first (u ∷ held) r p b) (sym z) (subst goal z h)) in
             ap (λ u. start_of (loop_code u cb c)) z ∙ ap (λ s. then_start (lower s) (start_of c)) ih
@@ -382,10 +377,10 @@ module _ (r : ℕ) where
           let c = code e r g in
           let ih = fine env g k.4 f.2 in
           let all = fine_arms env bs k.3 f.1 in
-          elim (bool_cases (p == r)) [
+          elim (cases_Bool (p == r)) [
             | inl y ↦ subst (λ u. Fine (choice_code u (takes_part_among e r bs) e r j bs c)) (sym y) (all, ih)
             | inr y ↦ subst (λ u. Fine (choice_code u (takes_part_among e r bs) e r j bs c)) (sym y)
-                (elim (bool_cases (takes_part_among e r bs)) [
+                (elim (cases_Bool (takes_part_among e r bs)) [
                   | inl z ↦ subst (λ v. Fine (choice_code false v e r j bs c)) (sym z) (acting_arms e (source_of (firsts_among e r bs)) bs (k.2 r is_rank y z).receives, all, ih)
                   | inr z ↦ subst (λ v. Fine (choice_code false v e r j bs c)) (sym z) ih
                 ])
@@ -397,7 +392,7 @@ module _ (r : ℕ) where
           let cb = code (t ∷ e) r b in
           let ih = fine env g k.1 f.2 in
           let ib = fine ((λ r. takes_part (false ∷ at_rank r env) r b) ∷ env) b k.0 f.1 in
-          elim (bool_cases t) [
+          elim (cases_Bool t) [
             | inl z ↦ subst (λ u. Fine (loop_code u cb c)) (sym z) (loop_starts e b f.1 z, ib, ih)
             | inr z ↦ subst (λ u. Fine (loop_code u cb c)) (sym z) ih
           ]

@@ -2,13 +2,12 @@
 use Rattle.std.proofs.Common.{◌≡◌, ◌⊎◌, ℕ, zero, suc, ◌<◌, ◌==◌, Bool, true, false, ◌||◌, ◌&&◌, not, List, [], ◌∷◌, ◌++◌, refl, sym, ap, ap₂, ◌∙◌, subst, inl, inr, append_assoc, append-nil, arith, if◌then◌else◌}
 use Rattle.pb_core_language.specs.Flat.{Block, stop, message, compute, together, choice, looped, again, Branches, no_branch, branch, takes_part, takes_part_among}
 use Rattle.pb_core_language.specs.Run.{Env, at_rank}
-use Rattle.pb_core_language.specs.Outcomes.{Outcome, nothing_first, receives, other_first, again_first, firsts, firsts_among, only_receives, only_from, source_of, comes_from_one, labels_of, is_among, none_shared}
-use Rattle.pb_core_language.specs.Rules.{some_below, holds_again, deserted, deserted_among, misfits, misfits_among, receives_only, keeps_source, keeps_labels}
-use Rattle.std.proofs.lemmas.Bool.{eqb-true}
+use Rattle.pb_core_language.specs.Lists.{some_below, is_among, none_shared}
+use Rattle.pb_core_language.specs.Outcomes.{Outcome, nothing_first, receives, other_first, again_first, firsts, firsts_among, only_receives, only_from, source_of, comes_from_one, labels_of}
+use Rattle.pb_core_language.specs.Rules.{holds_again, deserted, deserted_among, misfits, misfits_among, receives_only, keeps_source, keeps_labels}
+use Rattle.std.proofs.lemmas.Bool.{eqb-true, or_cases, or_right, or_left, and_parts}
 use Rattle.pb_core_endpoint.proofs.Kept.{Apart}
-use Rattle.pb_core_endpoint.proofs.Branches.{or_one, or_left, or_right}
 use Rattle.pb_core_endpoint.proofs.Moves.{labels_append, among_left, among_right}
-use Rattle.pb_core_endpoint.proofs.Progress.{and_both}
 
 -- ---- the tests
 
@@ -167,7 +166,7 @@ receives_both (again_first ∷ xs) ys h k = cc
 pub says_receives : (before : List Outcome) (held : List Bool) (r : ℕ) (bs : Branches) → all_fit receives_only before held r bs ≡ true → all_receives held r bs ≡ true
 says_receives before held r no_branch h = refl
 says_receives before held r (branch mark b bs) h =
-    let both = and_both (only_receives (firsts held r b)) _ h in
+    let both = and_parts (only_receives (firsts held r b)) _ h in
     receives_both (firsts held r b) (firsts_among held r bs) both.0 (says_receives (before ++ firsts held r b) held r bs both.1)
 
 keeps_one : (a b : Bool) → (a || not b) ≡ true → b ≡ true → a ≡ true
@@ -179,7 +178,7 @@ sources_after : (before : List Outcome) (held : List Bool) (r : ℕ) (bs : Branc
 sources_after before held r no_branch c h = ap comes_from_one (append-nil before) ∙ c
 sources_after before held r (branch mark b bs) c h =
     let here = firsts held r b in
-    let both = and_both (keeps_source before here) _ h in
+    let both = and_parts (keeps_source before here) _ h in
     ap comes_from_one (sym (append_assoc before here (firsts_among held r bs))) ∙ sources_after (before ++ here) held r bs (keeps_one (comes_from_one (before ++ here)) (comes_from_one before) both.0 c) both.1
 
 pub says_source : (held : List Bool) (r : ℕ) (bs : Branches) → all_fit keeps_source [] held r bs ≡ true → from_one held r bs ≡ true
@@ -188,8 +187,8 @@ says_source held r bs h = sources_after [] held r bs refl h
 pub not_shared : (xs ys : List ℕ) → none_shared xs ys ≡ true → (l : ℕ) → is_among l xs ≡ true → is_among l ys ≡ true → ⊥
 not_shared [] ys h l a b = cc
 not_shared (x ∷ xs) ys h l a b =
-    let both = and_both (not (is_among x ys)) (none_shared xs ys) h in
-    elim (or_one (x == l) (is_among l xs) a) [
+    let both = and_parts (not (is_among x ys)) (none_shared xs ys) h in
+    elim (or_cases (x == l) (is_among l xs) a) [
       | inl y ↦
           let in_ys : is_among x ys ≡ true = subst (λ k. is_among k ys ≡ true) (sym (eqb-true x l y)) b in
           let out : not (is_among x ys) ≡ false = ap not in_ys in
@@ -201,7 +200,7 @@ not_shared (x ∷ xs) ys h l a b =
 among_one : (l : ℕ) (xs ys : List ℕ) → is_among l (xs ++ ys) ≡ true → (is_among l xs ≡ true) ⊎ (is_among l ys ≡ true)
 among_one l [] ys h = inr h
 among_one l (x ∷ xs) ys h =
-    elim (or_one (x == l) (is_among l (xs ++ ys)) h) [
+    elim (or_cases (x == l) (is_among l (xs ++ ys)) h) [
       | inl y ↦ inl (or_left (x == l) (is_among l xs) y)
       | inr y ↦ elim (among_one l xs ys y) [ inl z ↦ inl (or_right (x == l) (is_among l xs) z) | inr z ↦ inr z ]
     ]
@@ -212,7 +211,7 @@ apart_after before held r no_branch h = (tt, λ l a b. cc)
 apart_after before held r (branch mark b bs) h =
     let here = firsts held r b in
     let rest = firsts_among held r bs in
-    let both = and_both (keeps_labels before here) _ h in
+    let both = and_parts (keeps_labels before here) _ h in
     let later = apart_after (before ++ here) held r bs both.1 in (
       ((λ l x y. later.1 l (ap (is_among l) (labels_append before here) ∙ among_right l (labels_of before) (labels_of here) x) y), later.0),
       λ l x y. elim (among_one l (labels_of here) (labels_of rest) (sym (ap (is_among l) (labels_append here rest)) ∙ y)) [

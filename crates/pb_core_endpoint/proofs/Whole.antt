@@ -1,5 +1,6 @@
 -- The endpoints keep the laws of a family, where the protocol makes progress.
 use Rattle.std.proofs.Common.{◌≡◌, ℕ, zero, suc, ◌<◌, ◌==◌, Bool, cond, true, false, ◌||◌, ◌⊎◌, List, [], ◌∷◌, ◌++◌, length, refl, sym, ap, ◌∙◌, subst, inl, inr}
+use Rattle.std.proofs.lemmas.Bool.{or_right, cases_Bool, or_parts}
 use Rattle.pb_world.specs.Actions.{Action, Recv, of_rank, Answers, AnswerTable}
 use Rattle.pb_world.specs.Machine.{Follows, ended}
 use Rattle.pb_world.specs.Family.{Family, Laws, Statement, nothing}
@@ -11,12 +12,13 @@ use Rattle.pb_world.proofs.Shadow.{More, Moves, acts, asks, shadow_laws}
 use Rattle.pb_core_language.specs.Flat.{Block, stop, message, compute, together, choice, looped, again, takes_part, takes_part_among, branch_at}
 use Rattle.pb_core_language.specs.Run.{first_state, Setting, Depends, Opener, Chosen, Frame, at_rank, env_over, env_of, live, State, is_allowed, branch_now, taken_at, emit, next, is_over_at}
 use Rattle.pb_core_endpoint.proofs.Kept.{Receives_first, Keeps}
-use Rattle.pb_core_language.specs.Outcomes.{firsts, firsts_among, source_of, labels_of, is_among}
+use Rattle.pb_core_language.specs.Lists.{is_among}
+use Rattle.pb_core_language.specs.Outcomes.{firsts, firsts_among, source_of, labels_of}
 use Rattle.pb_core_endpoint.specs.Endpoint.{Part, code, machine, body_of, shadow}
 use Rattle.pb_core_endpoint.specs.Theorem.{family}
 use Rattle.pb_core_endpoint.proofs.Clean.{involved, Clean, Stack_keeps}
-use Rattle.pb_core_endpoint.proofs.Stacks.{or_no, bool_cases, move_dead}
-use Rattle.pb_core_endpoint.proofs.Branches.{or_right, receives_in, part_first}
+use Rattle.pb_core_endpoint.proofs.Stacks.{move_dead}
+use Rattle.pb_core_endpoint.proofs.Branches.{receives_in, part_first}
 use Rattle.pb_core_endpoint.proofs.Keep.{branch_less, clean_move, keeps_move, statement_of, uses_of, First_in, first_live, emits_none, first_step}
 use Rattle.pb_core_endpoint.proofs.Moves.{Goes, stop_moves, dead_moves, message_moves, compute_moves, together_moves, loop_moves, again_moves, choice_moves}
 
@@ -89,7 +91,7 @@ module _ (w : Setting) (protocol : Block) (keeps : Keeps w.total [] protocol) wh
   not_live : (r : ℕ) (f : Frame) (K : List Frame) (left : ℕ → Answers) → IsGood (record { stack = f ∷ K; left = left }) → live r f.opener (env_of K) ≡ false → Moves_so (record { stack = f ∷ K; left = left }) r
   not_live r f K left g l =
       let q : State = record { stack = f ∷ K; left = left } in
-      let out : takes_part (at_rank r (env_of (f ∷ K))) r f.rest ≡ false = elim (bool_cases (takes_part (at_rank r (env_of (f ∷ K))) r f.rest)) [ inl y ↦ (let z = (g.0 r).0 y in cc) | inr y ↦ y ] in
+      let out : takes_part (at_rank r (env_of (f ∷ K))) r f.rest ≡ false = elim (cases_Bool (takes_part (at_rank r (env_of (f ∷ K))) r f.rest)) [ inl y ↦ (let z = (g.0 r).0 y in cc) | inr y ↦ y ] in
       let none : of_rank r (does q) ≡ [] = emits_none r 0 (λ l. true) w left (at_rank r (env_of (f ∷ K))) f.rest out in
       let scope : (n : ℕ) → f.rest ≡ again n → n < length (env_of (f ∷ K)) = λ n e. subst (λ x. Keeps w.total (env_over f.opener (env_of K)) x) e g.1.0 in
       let P : List Frame → Type 0 = λ X. shadow r X ≡ shadow r K in
@@ -133,15 +135,15 @@ module _ (w : Setting) (protocol : Block) (keeps : Keeps w.total [] protocol) wh
     moves_at : (r : ℕ) → r < w.total → (K : List Frame) (left : ℕ → Answers) → IsGood (record { stack = K; left = left }) → Moves_so (record { stack = K; left = left }) r
     moves_at r lt [] left g = acts there
     moves_at r lt (f ∷ K) left g =
-        elim (bool_cases (live r f.opener (env_of K))) [ inl l ↦ live_moves r lt f.opener K f.rest left g l | inr l ↦ not_live r f K left g l ]
+        elim (cases_Bool (live r f.opener (env_of K))) [ inl l ↦ live_moves r lt f.opener K f.rest left g l | inr l ↦ not_live r f K left g l ]
 
     -- a rank that takes part in nothing that is left comes to its end
     quiet_stack : (r : ℕ) (K : List Frame) → involved r K ≡ false → Goes w r (shadow r K) [] []
     quiet_stack r [] out = there
     quiet_stack r (f ∷ K) out =
-        let parts = or_no _ _ out in
+        let parts = or_parts _ _ out in
         let rest = quiet_stack r K parts.1 in
-        elim (bool_cases (live r f.opener (env_of K))) [
+        elim (cases_Bool (live r f.opener (env_of K))) [
           | inl l ↦ leads_on machine (is_allowed w r) [] (dead_moves w r f.opener K l f.rest parts.0) rest
           | inr l ↦
               let here : shadow r (f ∷ K) ≡ shadow r K = ap (λ b. cond b (record { body = body_of r f.opener (env_of K); code = code (at_rank r (env_over f.opener (env_of K))) r f.rest } ∷ shadow r K) (shadow r K)) l in
@@ -150,7 +152,7 @@ module _ (w : Setting) (protocol : Block) (keeps : Keeps w.total [] protocol) wh
 
     goes : (q : State) → IsGood q → (r : ℕ) → r < w.total → Follows machine (is_allowed w r) (shadow_of q r) [] true ⊎ Acts_on q r
     goes q g r lt =
-        elim (bool_cases (involved r q.stack)) [
+        elim (cases_Bool (involved r q.stack)) [
           | inl y ↦ inr (acts_later q g r lt y)
           | inr y ↦ inl (leads_follows machine (is_allowed w r) [] true (quiet_stack r q.stack y) (ended refl))
         ]

@@ -3,9 +3,10 @@ use Rattle.std.specs.Prelude.{ℕ, zero, suc, ◌==◌, cond, Bool, false, List,
 use Rattle.pb_world.specs.Actions.{Action, Choose, Run, Send, Recv, Enter, Leave, Collective, Chooses, Runs, Sends, Receives, Enters, Leaves}
 use Rattle.pb_world.specs.Machine.{Next, Silent, Does, Probe, Ended, Machine}
 use Rattle.pb_core_language.specs.Flat as F
-use Rattle.pb_core_language.specs.Flat.{Block, stop, message, compute, together, choice, looped, Branches, no_branch, branch, nth, takes_part, takes_part_among}
+use Rattle.pb_core_language.specs.Lists.{nth, is_among}
+use Rattle.pb_core_language.specs.Flat.{Block, stop, message, compute, together, choice, looped, Branches, no_branch, branch, takes_part, takes_part_among}
 use Rattle.pb_core_language.specs.Run.{Opener, Top, Chosen, Body, Frame, Env, at_rank, env_over, env_of, live}
-use Rattle.pb_core_language.specs.Outcomes.{firsts, firsts_among, source_of, labels_of, is_among}
+use Rattle.pb_core_language.specs.Outcomes.{firsts, firsts_among, source_of, labels_of}
 
 mutual
   pub data Code : Type 0 where

@@ -1,6 +1,7 @@
 -- A table of labels with one label more.
 use Rattle.std.proofs.Common.{◌≡◌, ℕ, zero, suc, ◌<◌, ◌≤◌, Bool, true, false, ◌&&◌, if◌then◌else◌, List, [], ◌∷◌, ◌++◌, length, get_or, refl, ap, ◌∙◌, arith}
 use Rattle.std.proofs.lemmas.Bool.Decides.{nat_tests}
+use Rattle.std.proofs.Math.Bool.{and-true}
 use Rattle.pb_syntax.specs.declared.core_label.CoreLabel.{CoreLabel}
 use Rattle.pb_syntax.specs.declared.tree.Payload.{Payload}
 use Rattle.pb_syntax.specs.declared.tree.Payload.TheVariants.{Unit as Signal, Int32, Uint32}
@@ -68,14 +69,10 @@ pub goes_last : (rows : List CoreLabel) (l : Labelled) (k : ℕ) → k ≡ posit
     with_label rows l ≡ rows ++ (row l ∷ [])
 goes_last rows l k e h = ap (λ b. if b then rows else rows ++ row l ∷ []) (is_lacking l.label.name rows (omega (arith, e, h)))
 
-pub fine_and : (a : Bool) → (a && true) ≡ a
-fine_and true = refl
-fine_and false = refl
-
 pub keeps_new : (rows : List CoreLabel) (l : Labelled) (k : ℕ) → k ≡ position_of l.label.name (label_names rows) → length rows ≤ k → keeps rows l ≡ l.is_fine
 keeps_new rows l k e h =
     ap (λ p. l.is_fine && payload_eq l.payload p) (no_payload l.label.name l.payload rows (is_lacking l.label.name rows (omega (arith, e, h))))
-    ∙ ap (λ b. l.is_fine && b) (payload_same l.payload) ∙ fine_and l.is_fine
+    ∙ ap (λ b. l.is_fine && b) (payload_same l.payload) ∙ and-true l.is_fine
 
 pub just_behind : (rows : List CoreLabel) (x : Name) (k : ℕ) → k ≡ position_of x (label_names rows) → length rows ≤ k → length rows ≡ position_of x (label_names rows)
 just_behind rows x k e h = let w = within x (label_names rows) in let n = as_many rows in omega (arith, e, h, w, n)

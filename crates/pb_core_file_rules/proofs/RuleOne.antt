@@ -3,13 +3,14 @@ use Rattle.std.proofs.Common.{◌≡◌, ℕ, Bool, true, false, ◌&&◌, ◌||
 use Rattle.std.proofs.lemmas.Bool.Decides.{nat_tests}
 use Rattle.std.proofs.lemmas.List.{map-append}
 use Rattle.std.proofs.lemmas.Slice.Eq.{bytes_eq-Decides}
+use Rattle.std.proofs.Math.Bool.{or-false, or_assoc}
+use Rattle.std.proofs.lemmas.Bool.{or_parts}
 use Rattle.pb_core_file_rules.specs.declared.visits.Met.{Met}
 use Rattle.pb_core_file_rules.specs.declared.visits.NameKind.{NameKind}
 use Rattle.pb_core_language.specs.Names.{Name, same, Kind, the_constant, the_protocol, a_role, a_label, a_compute_kernel, a_choice_kernel, a_loop, a_variable, kind_number, Use, declared, bound, mentioned, Visit}
 use Rattle.pb_core_language.specs.FileRules.{has_other_kind, is_visited, is_misused, misnamed}
 use Rattle.pb_core_file_rules.specs.Lowering.{first}
 use Rattle.pb_core_file_rules.specs.Visiting.{kind_of, kind_no, declares, is_astray, met, is_met, is_other, is_wrong, wrong, is_other_row, is_wrong_row, with_met, wrong_behind}
-use Rattle.pb_core_file_rules.proofs.Endless.{or_both, or_false}
 use Rattle.pb_core_file_rules.proofs.MetRows.{no_row}
 
 -- ---- the names as they are noted
@@ -35,7 +36,7 @@ met_is roles x [] = refl
 met_is roles x (v ∷ vs) = ap (λ r. same x v.spot.name || r) (met_is roles x vs)
 
 misused_is : (roles : List Name) (before : List Visit) (v : Visit) (how : Use) → ((declares how && is_visited v.spot.name before) || is_astray roles v how) ≡ is_misused roles before v how
-misused_is roles before v declared = or_false (is_visited v.spot.name before)
+misused_is roles before v declared = or-false (is_visited v.spot.name before)
 misused_is roles before v bound = refl
 misused_is roles before v mentioned = refl
 
@@ -53,15 +54,15 @@ all_wrong roles before (v ∷ vs) =
 -- ---- one name more
 
 met_last : (x : Name) (ms : List Met) (m : Met) → is_met x (ms ++ m ∷ []) ≡ (is_met x ms || same x m.spot.name)
-met_last x [] m = or_false (same x m.spot.name)
-met_last x (r ∷ rs) m = ap (λ b. same x r.spot.name || b) (met_last x rs m) ∙ sym (or_both (same x r.spot.name) (is_met x rs) (same x m.spot.name))
+met_last x [] m = or-false (same x m.spot.name)
+met_last x (r ∷ rs) m = ap (λ b. same x r.spot.name || b) (met_last x rs m) ∙ sym (or_assoc (same x r.spot.name) (is_met x rs) (same x m.spot.name))
 
 abbrev differs : Name → NameKind → Met → Bool
 differs x k m = same x m.spot.name && not (nat_eq (kind_no k) (kind_no m.kind))
 
 other_last : (x : Name) (k : NameKind) (ms : List Met) (m : Met) → is_other x k (ms ++ m ∷ []) ≡ (is_other x k ms || differs x k m)
-other_last x k [] m = or_false (differs x k m)
-other_last x k (r ∷ rs) m = ap (λ b. differs x k r || b) (other_last x k rs m) ∙ sym (or_both (differs x k r) (is_other x k rs) (differs x k m))
+other_last x k [] m = or-false (differs x k m)
+other_last x k (r ∷ rs) m = ap (λ b. differs x k r || b) (other_last x k rs m) ∙ sym (or_assoc (differs x k r) (is_other x k rs) (differs x k m))
 
 one_row : (b c : Bool) → (if b then c else false) ≡ (b && c)
 one_row true c = refl
@@ -97,16 +98,12 @@ record Tells (rows before : List Met) : Type 0 where
   others : (x : Name) (k : NameKind) → is_other_row x k rows ≡ is_other x k before
   there : (x : Name) → is_met x rows ≡ is_met x before
 
-or_left_false : (a b : Bool) → (a || b) ≡ false → a ≡ false
-or_left_false true b h = absurd (grind arith)
-or_left_false false b h = refl
-
 with_there : (rows : List Met) (m : Met) (x : Name) → is_met x (with_met rows m) ≡ (is_met x rows || same x m.spot.name)
 with_there rows m x = at (is_met m.spot.name rows) refl
   where
     again : (b : Bool) → same x m.spot.name ≡ b → is_met m.spot.name rows ≡ true → is_met x rows ≡ (is_met x rows || b)
     again true e h = (ap (λ y. is_met y rows) ((bytes_eq-Decides x m.spot.name).0 e) ∙ h) ∙ sym (ap (λ b. b || true) (ap (λ y. is_met y rows) ((bytes_eq-Decides x m.spot.name).0 e) ∙ h))
-    again false e h = sym (or_false (is_met x rows))
+    again false e h = sym (or-false (is_met x rows))
 
     at : (b : Bool) → is_met m.spot.name rows ≡ b → is_met x (if b then rows else rows ++ m ∷ []) ≡ (is_met x rows || same x m.spot.name)
     at true h = again (same x m.spot.name) refl h
@@ -119,14 +116,14 @@ with_others rows m x k right = at (is_met m.spot.name rows) refl
     again true e h =
         let is : x ≡ m.spot.name = (bytes_eq-Decides x m.spot.name).0 e in
         sym (kept_kind x rows m.kind k (ap (λ y. is_met y rows) is ∙ h) (ap (λ y. is_other_row y m.kind rows) is ∙ right))
-    again false e h = sym (or_false (is_other_row x k rows))
+    again false e h = sym (or-false (is_other_row x k rows))
 
     lone : (b : Bool) → is_met x rows ≡ b → (same x m.spot.name ≡ true → b ≡ false) → (if b then is_other_row x k rows else differs x k m) ≡ (is_other_row x k rows || differs x k m)
     lone true e no_same = apart (same x m.spot.name) no_same
       where
         apart : (c : Bool) → (c ≡ true → true ≡ false) → is_other_row x k rows ≡ (is_other_row x k rows || (c && not (nat_eq (kind_no k) (kind_no m.kind))))
         apart true lacks = absurd (grind (arith, lacks refl))
-        apart false lacks = sym (or_false (is_other_row x k rows))
+        apart false lacks = sym (or-false (is_other_row x k rows))
     lone false e no_same = sym (ap (λ b. b || differs x k m) (no_row x k rows e))
 
     at : (b : Bool) → is_met m.spot.name rows ≡ b → is_other_row x k (if b then rows else rows ++ m ∷ []) ≡ (is_other_row x k rows || differs x k m)
@@ -149,7 +146,7 @@ first_same rows before (m ∷ ms) t = at (is_wrong_row rows m) refl (first_same 
     at : (b : Bool) → is_wrong_row rows m ≡ b → (Tells (with_met rows m) (before ++ m ∷ []) → first (wrong_behind (with_met rows m) ms) ≡ first (wrong (before ++ m ∷ []) ms)) →
         first ((if b then m.spot.place ∷ [] else []) ++ wrong_behind (with_met rows m) ms) ≡ first ((if b then m.spot.place ∷ [] else []) ++ wrong (before ++ m ∷ []) ms)
     at true e rest = refl
-    at false e rest = rest (tells_more rows before m t (or_left_false (is_other_row m.spot.name m.kind rows) ((m.declares && is_met m.spot.name rows) || m.is_astray) e))
+    at false e rest = rest (tells_more rows before m t (or_parts (is_other_row m.spot.name m.kind rows) ((m.declares && is_met m.spot.name rows) || m.is_astray) e).0)
 
 pub first_misnamed : (roles : List Name) (vs : List Visit) → first (wrong_behind [] (map (met roles) vs)) ≡ first (misnamed roles [] vs)
 first_misnamed roles vs = first_same [] [] (map (met roles) vs) (record { others = λ x k. refl; there = λ x. refl }) ∙ ap first (all_wrong roles [] vs)

@@ -13,6 +13,7 @@ pub struct NameTable {
 }
 
 impl NameTable {
+    /// No names. Takes no memory.
     pub fn new(alloc: Global) -> NameTable
         ensures { result.names ≡ [] }
     {

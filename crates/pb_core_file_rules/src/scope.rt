@@ -14,6 +14,7 @@ impl Around<'_> {
     ghost use Rattle.pb_core_language.specs.Names.{is_named};
     ghost use Rattle.pb_core_file_rules.specs.Lowering.{names_of};
 
+    /// Whether the name is one of these. Takes no memory.
     pub fn has(&self, name: &Name) -> bool
         ensures { result ≡ is_named name.now (names_of self.now) }
     {
@@ -24,6 +25,7 @@ impl Around<'_> {
     }
 }
 
+/// Whether both names have the same bytes. Takes no memory.
 pub fn is_same(a: &Name, b: &Name) -> bool
     ensures { result ≡ same a.now b.now }
 {

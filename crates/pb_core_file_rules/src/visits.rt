@@ -9,7 +9,7 @@ use pb_syntax::{End, IndexText, LinText, NoMemory, RangeText, RoleText};
 use pb_text::{Name, Spot};
 
 /// What a name is of.
-#[derive(Clone, Copy)]
+#[derive(Clone, Copy, PartialEq, Eq)]
 pub enum NameKind {
     Constant,
     Protocol,
@@ -46,10 +46,11 @@ pub struct Inside<'a> {
     pub variables: &'a Around<'a>,
 }
 
+/// Whether both are the same kind.
 pub fn is_kind(a: NameKind, b: NameKind) -> bool
     ensures { result ≡ nat_eq (kind_no a) (kind_no b) }
 {
-    a as u8 == b as u8
+    a == b
 }
 
 fn has_role(roles: &[RoleText], name: &Name) -> bool

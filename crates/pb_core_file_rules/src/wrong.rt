@@ -72,7 +72,8 @@ impl MetTable {
     }
 }
 
-// The first of the names that may not stand where it does.
+/// The place of the first of the names that may not stand where it does; `None` exactly where each may. There are fewer
+/// than 2^32 - 1 names.
 pub fn first_wrong_of(alloc: Global, list: &[Met]) -> Result<Option<Place>, NoMemory>
     requires { length list.now < 2 ^ 32 - 1 }
     ensures { IfOk result (λ found. found ≡ first (wrong_behind [] list.now)) }

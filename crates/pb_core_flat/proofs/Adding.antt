@@ -3,11 +3,11 @@ use Rattle.std.proofs.Common.{◌≡◌, ℕ, ℤ, Bool, true, false, List, [], 
 use Rattle.std.proofs.lemmas.Bool.{and_parts, false≢true}
 use Rattle.pb_affine.specs.Values.{value, range}
 use Rattle.pb_core_language.specs.declared.protocol.CoreRole.{CoreRole}
-use Rattle.pb_core_language.specs.Tree.{Mark, StmtTree, message, foreach, loop, again, choice, run, barrier, broadcast, reduce, allreduce, BlockTree, nothing, more}
+use Rattle.pb_core_language.specs.Tree.{Mark, StmtTree, message, foreach, loop, again, choice, run, barrier, broadcast, reduce, allreduce, BlockTree, nothing, more, is_again}
 use Rattle.pb_core_language.specs.Flat.{Block, stop}
 use Rattle.pb_core_language.specs.Sound.{Rows, is_stmt}
 use Rattle.pb_core_language.specs.FlatOf.{for_each, flat_stmt, flat_block}
-use Rattle.pb_core_flat.specs.GoesOn.{is_again, goes_on, go_on}
+use Rattle.pb_core_flat.specs.GoesOn.{goes_on, go_on}
 use Rattle.pb_core_flat.proofs.SoundOnes.{sound_goes_on, dropped}
 
 -- neither a foreach nor a continue

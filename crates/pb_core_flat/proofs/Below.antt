@@ -3,7 +3,7 @@ use Rattle.std.proofs.Common.{◌≡◌, ℕ, zero, suc, ◌<◌, Bool, true, �
 use Rattle.std.specs.List.{Contains}
 use Rattle.std.proofs.lemmas.Bool.{or_cases, or_left, or_right, false≢true}
 use Rattle.std.proofs.lemmas.List.Elements.{Contains-append_left, Contains-append_right, Contains-append_cases}
-use Rattle.pb_core_language.specs.Rules.{some_below, over_below}
+use Rattle.pb_core_language.specs.Lists.{some_below, over_below}
 use Rattle.pb_core_flat.specs.Laws.{SomeBelowIs, OverBelowIs}
 
 last_or_below : (r n : ℕ) → r < suc n → (r ≡ n) ⊎ (r < n)

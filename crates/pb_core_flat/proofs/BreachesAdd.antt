@@ -1,22 +1,24 @@
 -- What breaks the rules 9 to 12, one statement at a time.
 use Rattle.std.proofs.Common.{◌≡◌, ℕ, suc, ◌==◌, ℤ, Bool, true, false, not, ◌||◌, ◌&&◌, if◌then◌else◌, List, [], ◌∷◌, ◌++◌, refl, ap, ap₂, sym, ◌∙◌, append_assoc, append-nil}
 use Rattle.std.proofs.lemmas.Bool.{and_parts, false≢true}
+use Rattle.std.proofs.Math.Bool.{or-false, or_assoc}
 use Rattle.pb_affine.specs.Values.{value, range}
 use Rattle.pb_core_language.specs.declared.protocol.CoreRole.{CoreRole}
-use Rattle.pb_core_language.specs.Tree.{Mark, StmtTree, message, foreach, loop, again, choice, run, barrier, broadcast, reduce, allreduce, BlockTree, nothing, more, BranchTrees}
+use Rattle.pb_core_language.specs.Tree.{Mark, StmtTree, message, foreach, loop, again, choice, run, barrier, broadcast, reduce, allreduce, BlockTree, nothing, more, BranchTrees, is_again}
 use Rattle.pb_core_language.specs.Tree as T
 use Rattle.pb_core_language.specs.Flat as F
 use Rattle.pb_core_language.specs.Flat.{Origin, Block, stop, takes_part, takes_part_among}
 use Rattle.pb_core_language.specs.FlatOf.{for_each, rank_of, flat_stmt, flat_block, flat_branches}
 use Rattle.pb_core_language.specs.Outcomes.{Outcome}
 use Rattle.pb_core_language.specs.Run.{Env, at_rank}
-use Rattle.pb_core_language.specs.Rules.{holds_again, holds_again_among, some_below, deserted, deserted_among, misfits, misfits_among}
+use Rattle.pb_core_language.specs.Lists.{some_below}
+use Rattle.pb_core_language.specs.Rules.{holds_again, holds_again_among, deserted, deserted_among, misfits, misfits_among}
 use Rattle.pb_core_language.specs.Sound.{Rows, is_item, is_bound, is_end, has_branch, are_branches, is_stmt, is_block}
-use Rattle.pb_core_flat.specs.GoesOn.{is_again, goes_on, are_items, has_again, have_again, some_have_again}
+use Rattle.pb_core_flat.specs.GoesOn.{goes_on, are_items, has_again, have_again, some_have_again}
 use Rattle.pb_core_flat.specs.Laws.{MisfitsOneByOne, MisfitsFirst, DesertedOneByOne, DesertedFirst, HoldsAgainOneByOne, EachKeepsRules, HoldsAgainIs}
 use Rattle.pb_core_flat.proofs.Adding.{Adds, is_single, stmt_adds, first_adds}
 use Rattle.pb_core_flat.proofs.SoundOnes.{sound_items, sound_goes_on, dropped}
-use Rattle.pb_core_flat.proofs.TakersAdd.{or_assoc, or_false, or_first}
+use Rattle.pb_core_flat.proofs.TakersAdd.{or_first}
 
 append_first : {A : Type 0} (xs ys : List A) → xs ++ ys ≡ (xs ++ []) ++ ys
 append_first xs ys = ap (λ z. z ++ ys) (sym (append-nil xs))
@@ -131,7 +133,7 @@ each_keeps_rules fits T env j roles n i r held opens m b k items h = (
 module _ (rows : Rows) (roles : List CoreRole) (n : ℤ) where
   behind : (k : ℕ) (opens : List ℕ) (i : ℤ) (m : Mark) (s : StmtTree) (b : BlockTree) (p q a : Bool) → is_again s ≡ a → goes_on s ≡ not (is_again s) →
       holds_again k (flat_stmt roles n opens i m s stop) ≡ p → holds_again k (flat_block roles n opens i b stop) ≡ q → holds_again k (flat_stmt roles n opens i m s (flat_block roles n opens i b stop)) ≡ p || (not a && q)
-  behind k opens i m s b p q true e f g h = ap (holds_again k) (dropped roles n opens i m s (flat_block roles n opens i b stop) e) ∙ g ∙ sym (or_false p)
+  behind k opens i m s b p q true e f g h = ap (holds_again k) (dropped roles n opens i m s (flat_block roles n opens i b stop) e) ∙ g ∙ sym (or-false p)
   behind k opens i m s b p q false e f g h =
       holds_again_one_by_one k roles n i opens m s (flat_block roles n opens i b stop) (f ∙ ap not e) ∙ ap₂ (λ y z. y || z) g h
 
@@ -144,13 +146,13 @@ module _ (rows : Rows) (roles : List CoreRole) (n : ℤ) where
         each_passes (holds_again k) (λ a p q l g. refl) (λ a p k g. refl) roles n opens items (range (value b.low n i) (value b.high n i)) stop (sound_items rows ids items ks.1)
     stmt_has k varies ids opens i m (loop id j body) h =
         let hs = and_parts _ (is_block rows false (id ∷ ids) body) h in
-        or_false (holds_again (suc k) (flat_block roles n (id ∷ opens) i body stop)) ∙ block_has (suc k) false (id ∷ ids) (id ∷ opens) i body hs.1
+        or-false (holds_again (suc k) (flat_block roles n (id ∷ opens) i body stop)) ∙ block_has (suc k) false (id ∷ ids) (id ∷ opens) i body hs.1
     stmt_has k varies ids opens i m (again id) h = refl
     stmt_has k varies ids opens i m (choice j at bs) h =
         let hs = and_parts _ (is_end rows false at && (has_branch bs && are_branches rows ids bs)) h in
         let ks = and_parts (is_end rows false at) (has_branch bs && are_branches rows ids bs) hs.1 in
         let ls = and_parts (has_branch bs) (are_branches rows ids bs) ks.1 in
-        or_false (holds_again_among k (flat_branches roles n opens i bs)) ∙ some_has k ids opens i bs ls.1
+        or-false (holds_again_among k (flat_branches roles n opens i bs)) ∙ some_has k ids opens i bs ls.1
     stmt_has k varies ids opens i m (run j at) h = refl
     stmt_has k varies ids opens i m barrier h = refl
     stmt_has k varies ids opens i m (broadcast l root) h = refl

@@ -2,6 +2,7 @@
 use Rattle.std.proofs.Common.{◌≡◌, ℕ, ◌==◌, ℤ, Bool, true, false, ◌||◌, List, ap₂, ◌∙◌}
 use Rattle.std.specs.List.{list_any}
 use Rattle.std.proofs.lemmas.Bool.{and_parts, false≢true}
+use Rattle.std.proofs.Math.Bool.{or-false}
 use Rattle.pb_affine.specs.Values.{value, range}
 use Rattle.pb_core_language.specs.declared.protocol.CoreRole.{CoreRole}
 use Rattle.pb_core_language.specs.declared.tree.CoreEnd.{CoreEnd}
@@ -16,7 +17,7 @@ use Rattle.pb_core_flat.specs.Laws.{EachIsMet}
 use Rattle.pb_core_flat.proofs.Ranges.{any_or, any_none, any_same, end_is_met}
 use Rattle.pb_core_flat.proofs.Seats.{end_is_at}
 use Rattle.pb_core_flat.proofs.SoundOnes.{items_go_on, item_goes_on}
-use Rattle.pb_core_flat.proofs.TakersAdd.{or_false, takes_one_by_one, takes_in_block, takes_for_some}
+use Rattle.pb_core_flat.proofs.TakersAdd.{takes_one_by_one, takes_in_block, takes_for_some}
 
 module _ (roles : List CoreRole) (n : ℤ) (role : ℕ) (x : ℤ) (held : List Bool) (opens : List ℕ) (there : is_rank roles n role x ≡ true) where
   -- it takes part in the statement with i for the variable
@@ -30,7 +31,7 @@ module _ (roles : List CoreRole) (n : ℤ) (role : ℕ) (x : ℤ) (held : List B
   at_end e i = end_is_at roles n i e role x there
 
   one_end : (e : CoreEnd) (i : ℤ) → (rank_of roles n e i == rank roles n role x) || false ≡ is_at e n i role x
-  one_end e i = or_false (rank_of roles n e i == rank roles n role x) ∙ at_end e i
+  one_end e i = or-false (rank_of roles n e i == rank roles n role x) ∙ at_end e i
 
   item_met : (low high : ℤ) (m : Mark) (s : StmtTree) → is_item s ≡ true → list_any (in_stmt m s) (range low high) ≡ meets s low high n role x
   item_met low high m (message l f t) h =

@@ -1,10 +1,10 @@
 -- Lists of outcomes, and the sets that they are.
 use Rattle.std.proofs.Common.{◌≡◌, List, [], ◌∷◌, ◌++◌, Bool, true, false, not, ◌||◌, ◌&&◌, refl, ap, sym, ◌∙◌, append_assoc, append-nil, arith}
 use Rattle.std.proofs.lemmas.Bool.Decides.{nat_tests}
+use Rattle.std.proofs.Math.Bool.{and-false, or_assoc}
 use Rattle.pb_core_language.specs.Outcomes.{Outcome, nothing_first, receives, other_first, again_first, or_then}
 use Rattle.pb_core_flat.specs.OutcomeSets.{outcome_eq, is_nothing, is_outcome}
 use Rattle.pb_core_flat.specs.Laws.{EitherOutcome}
-use Rattle.pb_core_flat.proofs.TakersAdd.{or_assoc}
 
 -- ---- as lists
 
@@ -62,10 +62,7 @@ either_outcome o (receives s l ∷ os) rest =
     other_step (outcome_eq (receives s l) o) (is_nothing o) (is_outcome o rest) (is_outcome o os) (is_outcome nothing_first os) (is_outcome o (or_then os rest)) (apart o) (either_outcome o os rest) where
       apart : (o : Outcome) → (outcome_eq (receives s l) o && is_nothing o) ≡ false
       apart nothing_first = refl
-      apart (receives t k) = and_false (outcome_eq (receives s l) (receives t k)) where
-        and_false : (b : Bool) → b && false ≡ false
-        and_false true = refl
-        and_false false = refl
+      apart (receives t k) = and-false (outcome_eq (receives s l) (receives t k))
       apart other_first = refl
       apart again_first = refl
 either_outcome o (other_first ∷ os) rest =

@@ -1,7 +1,8 @@
 -- The tests on lists of outcomes are tests on the sets.
 use Rattle.std.proofs.Common.{◌≡◌, ℕ, ◌==◌, Bool, true, false, not, ◌||◌, inl, inr, List, [], ◌∷◌, refl, ap, sym, ◌∙◌, subst}
 use Rattle.std.proofs.lemmas.Bool.{and_parts, and_from, or_cases, or_left, or_right, eqb-true, eq-eqb, false_from_ne_true, false≢true}
-use Rattle.pb_core_language.specs.Outcomes.{Outcome, nothing_first, receives, other_first, again_first, only_from, source_of, labels_of, is_among, none_shared}
+use Rattle.pb_core_language.specs.Lists.{is_among, none_shared}
+use Rattle.pb_core_language.specs.Outcomes.{Outcome, nothing_first, receives, other_first, again_first, only_from, source_of, labels_of}
 use Rattle.pb_core_flat.specs.OutcomeSets.{outcome_eq, is_outcome}
 use Rattle.pb_core_flat.specs.Laws.{OnlyReceivesIs, FromOneIs, LabelIs, NoneSharedIs}
 

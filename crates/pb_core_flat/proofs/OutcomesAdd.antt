@@ -4,7 +4,8 @@ use Rattle.std.proofs.lemmas.Bool.{false≢true, or_parts}
 use Rattle.pb_core_language.specs.declared.protocol.CoreRole.{CoreRole}
 use Rattle.pb_core_language.specs.Tree.{Mark, StmtTree, message, foreach, loop, again, choice, run, barrier, broadcast, reduce, allreduce}
 use Rattle.pb_core_language.specs.Flat as F
-use Rattle.pb_core_language.specs.Flat.{Origin, Block, stop, nth, Branches, no_branch, branch, takes_part, takes_part_among}
+use Rattle.pb_core_language.specs.Lists.{nth}
+use Rattle.pb_core_language.specs.Flat.{Origin, Block, stop, Branches, no_branch, branch, takes_part, takes_part_among}
 use Rattle.pb_core_language.specs.FlatOf.{rank_of, flat_stmt, flat_block, flat_branches}
 use Rattle.pb_core_language.specs.Outcomes.{Outcome, nothing_first, receives, other_first, again_first, or_then, firsts, firsts_among}
 use Rattle.pb_core_flat.specs.Laws.{FindsOneByOne, FindsInBlock, FindsFirst, BystanderFinds}

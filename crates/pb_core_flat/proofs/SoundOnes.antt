@@ -4,9 +4,9 @@ use Rattle.std.proofs.lemmas.Bool.{and_parts, and_from, false≢true}
 use Rattle.pb_core_language.specs.declared.protocol.CoreRole.{CoreRole}
 use Rattle.pb_core_language.specs.Flat.{Block, stop}
 use Rattle.pb_core_language.specs.FlatOf.{flat_stmt}
-use Rattle.pb_core_language.specs.Tree.{Mark, StmtTree, message, foreach, loop, again, choice, run, barrier, broadcast, reduce, allreduce, BlockTree, nothing, more}
+use Rattle.pb_core_language.specs.Tree.{Mark, StmtTree, message, foreach, loop, again, choice, run, barrier, broadcast, reduce, allreduce, BlockTree, nothing, more, is_again}
 use Rattle.pb_core_language.specs.Sound.{Rows, is_item, is_bound, is_stmt, is_block}
-use Rattle.pb_core_flat.specs.GoesOn.{is_again, goes_on, go_on, are_items}
+use Rattle.pb_core_flat.specs.GoesOn.{goes_on, go_on, are_items}
 use Rattle.pb_core_flat.specs.Laws.{SoundGoesOn}
 
 pub item_goes_on : (s : StmtTree) → is_item s ≡ true → goes_on s ≡ true

@@ -1,7 +1,7 @@
 -- The lists of those who stop at a foreach give what is found value by value.
 use Rattle.std.proofs.Common.{◌≡◌, ℕ, zero, suc, ℤ, pos, ◌+ℤ◌, ◌-ℤ◌, int_le, nat_eq, nat_lt, cond, Bool, true, false, not, ◌||◌, ◌&&◌, if◌then◌else◌, Option, Some, None, List, [], ◌∷◌, ◌++◌, map, refl, ap, ap₂, sym, ◌∙◌, arith}
 use Rattle.std.specs.Ordering.{int_eq}
-use Rattle.std.proofs.lemmas.Bool.{or_parts, false≢true}
+use Rattle.std.proofs.lemmas.Bool.{or_parts, or_from, false≢true, cond-false}
 use Rattle.std.proofs.lemmas.Bool.Decides.{nat_tests}
 use Rattle.pb_affine.specs.declared.lin.Base.{Base}
 use Rattle.pb_affine.specs.declared.lin.Base.TheVariants.{Fixed, Param, Var}
@@ -13,7 +13,7 @@ use Rattle.pb_core_flat.specs.Seated.{is_at}
 use Rattle.pb_core_flat.specs.Meets.{is_var, is_moving}
 use Rattle.pb_core_flat.specs.Stops.{Visit, off_of, moving, IsByFalling, Stop, first_of, outcome_at, at_value, has_fixed, at_first, at_fixed, at_some, stops, few_stops}
 use Rattle.pb_core_flat.proofs.Ranges.{count_some, count_ends}
-use Rattle.pb_core_flat.proofs.StopOrder.{or_first, first_append, in_turn, in_turn_same, if_false, at_count, moved, counted, counted_in_turn}
+use Rattle.pb_core_flat.proofs.StopOrder.{or_first, first_append, in_turn, in_turn_same, at_count, moved, counted, counted_in_turn}
 
 -- two lists with the same stops for a rank, one by one
 same_stops : (f g : Visit → Stop) (role : ℕ) (x : ℤ) → ((v : Visit) → (f v).has role x ≡ (g v).has role x) → ((v : Visit) → (f v).finds x ≡ (g v).finds x) → (vs : List Visit) → first_of (map f vs) role x ≡ first_of (map g vs) role x
@@ -23,7 +23,7 @@ same_stops f g role x h k (v ∷ vs) =
 
 no_stops : (f : Visit → Stop) (role : ℕ) (x : ℤ) → ((v : Visit) → (f v).has role x ≡ false) → (vs : List Visit) → first_of (map f vs) role x ≡ None
 no_stops f role x h [] = refl
-no_stops f role x h (v ∷ vs) = if_false ((f v).has role x) (Some ((f v).finds x)) (first_of (map f vs) role x) (h v) ∙ no_stops f role x h vs
+no_stops f role x h (v ∷ vs) = cond-false ((f v).has role x) (Some ((f v).finds x)) (first_of (map f vs) role x) (h v) ∙ no_stops f role x h vs
 
 -- an end that stays has the index at each value, or at none; one that moves is at its offset
 stays_at : (base : Base) (off n i x : ℤ) → is_var base ≡ false → int_eq (off +ℤ base_value base n i) x ≡ int_eq (off +ℤ base_value base n (pos 0)) x
@@ -63,7 +63,7 @@ module _ (roles : List CoreRole) (n : ℤ) (role : ℕ) (x : ℤ) where
   move_step v vs i true e h k =
       ap₂ (λ t z. if t then Some (outcome_at roles n i v.finding) else z) (moving_at v.end n i role x e) k
   move_step v vs i false e h k =
-      if_false (is_at v.end n i role x) (Some (outcome_at roles n i v.finding)) (at_i i vs) (fixed_at v.end n i role x e ∙ h) ∙ k
+      cond-false (is_at v.end n i role x) (Some (outcome_at roles n i v.finding)) (at_i i vs) (fixed_at v.end n i role x e ∙ h) ∙ k
 
   moving_alone : (vs : List Visit) → has_fixed roles n vs role x ≡ false → (i : ℤ) → at_i i vs ≡ moved roles n role x i (moving vs)
   moving_alone [] h i = refl
@@ -80,15 +80,11 @@ module _ (roles : List CoreRole) (n : ℤ) (role : ℕ) (x : ℤ) where
   not_fixed v i true e h = refl
   not_fixed v i false e h = sym (fixed_at v.end n i role x e) ∙ h
 
-  both_false : (a b : Bool) → a ≡ false → b ≡ false → a || b ≡ false
-  both_false true b h k = h
-  both_false false b h k = k
-
   none_fixed : (vs : List Visit) (i : ℤ) → at_i i vs ≡ None → has_fixed roles n vs role x ≡ false
   none_fixed [] i h = refl
   none_fixed (v ∷ vs) i h =
       let hs = none_parts (is_at v.end n i role x) (outcome_at roles n i v.finding) (at_i i vs) h in
-      both_false (not (is_moving v.end) && is_at v.end n (pos 0) role x) (has_fixed roles n vs role x) (not_fixed v i (is_moving v.end) refl hs.0) (none_fixed vs i hs.1)
+      or_from (not (is_moving v.end) && is_at v.end n (pos 0) role x) (has_fixed roles n vs role x) (not_fixed v i (is_moving v.end) refl hs.0) (none_fixed vs i hs.1)
 
   -- the ends at the first of k values, and then the ends that move
   abbrev front : Bool → ℤ → Visit → Stop
@@ -149,7 +145,7 @@ module _ (roles : List CoreRole) (n : ℤ) (role : ℕ) (x : ℤ) where
     without_fixed low high h [] k = refl
     without_fixed low high h (w ∷ ws) k =
         let ks = or_parts (not (is_moving w.end) && is_at w.end n (pos 0) role x) (has_fixed roles n ws role x) k in
-        if_false (int_le low high && (is_at w.end n low role x && (not (is_moving w.end) || has_fixed roles n vs role x))) (Some (outcome_at roles n low w.finding)) (first_of (map (at_fixed roles n low high vs) ws) role x)
+        cond-false (int_le low high && (is_at w.end n low role x && (not (is_moving w.end) || has_fixed roles n vs role x))) (Some (outcome_at roles n low w.finding)) (first_of (map (at_fixed roles n low high vs) ws) role x)
         (ap (λ z. int_le low high && (is_at w.end n low role x && (not (is_moving w.end) || z))) h ∙ not_few low high w (is_moving w.end) refl ks.0)
         ∙ without_fixed low high h ws ks.1
 

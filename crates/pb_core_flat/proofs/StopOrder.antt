@@ -2,7 +2,7 @@
 use Rattle.std.proofs.Common.{◌≡◌, ℕ, zero, suc, ℤ, pos, ◌+ℤ◌, ◌-ℤ◌, int_le, int_lt, nat_eq, cond, Bool, true, false, ◌||◌, ◌&&◌, if◌then◌else◌, Option, Some, None, List, [], ◌∷◌, ◌++◌, map, refl, ap, ap₂, sym, ◌∙◌, arith}
 use Rattle.std.specs.List.{list_all}
 use Rattle.std.specs.Ordering.{int_eq}
-use Rattle.std.proofs.lemmas.Bool.{and_parts, false≢true}
+use Rattle.std.proofs.lemmas.Bool.{and_parts, cond-false, cond-true}
 use Rattle.std.proofs.lemmas.Bool.Decides.{nat_tests}
 use Rattle.std.proofs.lemmas.Int.{ints}
 use Rattle.pb_affine.specs.Values.{count_from}
@@ -36,14 +36,6 @@ in_turn p (y ∷ ys) = or_first (p y) (in_turn p ys)
 pub in_turn_same : (p q : ℤ → Option Outcome) → ((y : ℤ) → p y ≡ q y) → (ys : List ℤ) → in_turn p ys ≡ in_turn q ys
 in_turn_same p q h [] = refl
 in_turn_same p q h (y ∷ ys) = ap₂ or_first (h y) (in_turn_same p q h ys)
-
-pub if_true : {A : Type 0} (t : Bool) (a b : A) → t ≡ true → (if t then a else b) ≡ a
-if_true true a b h = refl
-if_true false a b h = absurd (false≢true h)
-
-pub if_false : {A : Type 0} (t : Bool) (a b : A) → t ≡ false → (if t then a else b) ≡ b
-if_false true a b h = absurd (false≢true (sym h))
-if_false false a b h = refl
 
 -- ---- ends that move
 
@@ -98,18 +90,18 @@ module _ (roles : List CoreRole) (n : ℤ) (role : ℕ) (x : ℤ) where
   none_moved a c [] h k = refl
   none_moved a c (v ∷ vs) h k =
       let hs = and_parts (int_le (off_of v) c) (list_all (λ w. int_le (off_of w) c) vs) h in
-      if_false (now a v) (Some (outcome_at roles n a v.finding)) (moved a vs) (lower_not (nat_eq v.end.role role) a (off_of v) c x hs.0 k) ∙ none_moved a c vs hs.1 k
+      cond-false (now a v) (Some (outcome_at roles n a v.finding)) (moved a vs) (lower_not (nat_eq v.end.role role) a (off_of v) c x hs.0 k) ∙ none_moved a c vs hs.1 k
 
   none_counted : (a : ℤ) (vs : List Visit) → counted 0 a vs ≡ None
   none_counted a [] = refl
   none_counted a (v ∷ vs) =
-      if_false (later 0 a v) (Some (outcome_at roles n (x -ℤ off_of v) v.finding)) (counted 0 a vs) (no_count (nat_eq v.end.role role) a (off_of v) x) ∙ none_counted a vs
+      cond-false (later 0 a v) (Some (outcome_at roles n (x -ℤ off_of v) v.finding)) (counted 0 a vs) (no_count (nat_eq v.end.role role) a (off_of v) x) ∙ none_counted a vs
 
   head_step : (b q m : Bool) (o p : Outcome) (rest first after : Option Outcome) → b ≡ q || m → (q ≡ true → o ≡ p) → (m ≡ true → first ≡ None) → rest ≡ or_first first after →
       (if b then Some o else rest) ≡ or_first (if q then Some p else first) (if m then Some o else after)
-  head_step b true m o p rest first after e f g h = if_true b (Some o) rest e ∙ ap Some (f refl)
-  head_step b false true o p rest first after e f g h = if_true b (Some o) rest e ∙ sym (ap (λ z. or_first z (Some o)) (g refl))
-  head_step b false false o p rest first after e f g h = if_false b (Some o) rest e ∙ h
+  head_step b true m o p rest first after e f g h = cond-true b (Some o) rest e ∙ ap Some (f refl)
+  head_step b false true o p rest first after e f g h = cond-true b (Some o) rest e ∙ sym (ap (λ z. or_first z (Some o)) (g refl))
+  head_step b false false o p rest first after e f g h = cond-false b (Some o) rest e ∙ h
 
   -- one value more at the front
   counted_more : (k : ℕ) (a : ℤ) (vs : List Visit) → falling vs ≡ true → counted (suc k) a vs ≡ or_first (moved a vs) (counted k (a +ℤ pos 1) vs)
@@ -129,7 +121,7 @@ module _ (roles : List CoreRole) (n : ℤ) (role : ℕ) (x : ℤ) where
   moved_with a (v ∷ vs) = by_test (int_eq (off_of v) (x -ℤ a)) refl (moved_with a vs) where
     by_test : (t : Bool) → int_eq (off_of v) (x -ℤ a) ≡ t → moved a vs ≡ moved a (with_off (x -ℤ a) vs) → moved a (v ∷ vs) ≡ moved a (cond t (v ∷ with_off (x -ℤ a) vs) (with_off (x -ℤ a) vs))
     by_test true e h = ap (λ z. if now a v then Some (outcome_at roles n a v.finding) else z) h
-    by_test false e h = if_false (now a v) (Some (outcome_at roles n a v.finding)) (moved a vs) (other_off (nat_eq v.end.role role) a (off_of v) x e) ∙ h
+    by_test false e h = cond-false (now a v) (Some (outcome_at roles n a v.finding)) (moved a vs) (other_off (nat_eq v.end.role role) a (off_of v) x e) ∙ h
 
   moved_same : (sorted vs : List Visit) → IsByFalling sorted vs → (a : ℤ) → moved a sorted ≡ moved a vs
   moved_same sorted vs s a = moved_with a sorted ∙ ap (moved a) (s.same (x -ℤ a)) ∙ sym (moved_with a vs)

@@ -2,20 +2,13 @@
 use Rattle.std.proofs.Common.{◌≡◌, ℕ, ◌==◌, ℤ, Bool, true, false, ◌||◌, List, [], ◌∷◌, refl, ap, ◌∙◌}
 use Rattle.std.specs.List.{list_any}
 use Rattle.std.proofs.lemmas.Bool.{false≢true}
+use Rattle.std.proofs.Math.Bool.{or-false, or_assoc}
 use Rattle.pb_core_language.specs.declared.protocol.CoreRole.{CoreRole}
 use Rattle.pb_core_language.specs.Tree.{Mark, StmtTree, message, foreach, loop, again, choice, run, barrier, broadcast, reduce, allreduce}
 use Rattle.pb_core_language.specs.Flat.{Block, stop, takes_part, takes_part_among}
 use Rattle.pb_core_language.specs.FlatOf.{for_each, rank_of, flat_stmt, flat_block, flat_branches}
 use Rattle.pb_core_flat.specs.Laws.{TakesOneByOne, TakesInBlock, TakesFirst}
 use Rattle.pb_core_flat.proofs.Adding.{Adds, is_single, stmt_adds, block_adds, first_adds}
-
-pub or_assoc : (a b c : Bool) → (a || b) || c ≡ a || (b || c)
-or_assoc true b c = refl
-or_assoc false b c = refl
-
-pub or_false : (a : Bool) → a || false ≡ a
-or_false true = refl
-or_false false = refl
 
 pub or_first : (a c : Bool) → a || c ≡ (a || false) || c
 or_first true c = refl
@@ -50,7 +43,7 @@ takes_in_block roles n i r held opens b rest h =
 
 pub takes_first : TakesFirst
 takes_first rows varies ids roles n i r held opens m s b h =
-    first_adds (takes_part held r) ◌||◌ (λ x. refl) or_assoc roles n (single_takes held r roles n) or_false rows varies ids opens i m s b h
+    first_adds (takes_part held r) ◌||◌ (λ x. refl) or_assoc roles n (single_takes held r roles n) or-false rows varies ids opens i m s b h
 
 -- for each number in turn: for some of them
 pub takes_for_some : (held : List Bool) (r : ℕ) (f : ℤ → Block → Block) → ((x : ℤ) (g : Block) → takes_part held r (f x g) ≡ takes_part held r (f x stop) || takes_part held r g) →

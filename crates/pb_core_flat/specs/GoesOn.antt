@@ -1,20 +1,8 @@
 -- Statements behind which others are done.
 use Rattle.std.specs.Prelude.{ℕ, suc, ◌==◌, Bool, true, false, not, ◌||◌, ◌&&◌, List, ◌∷◌}
-use Rattle.pb_core_language.specs.Tree.{StmtTree, message, foreach, loop, again, choice, run, barrier, broadcast, reduce, allreduce, BlockTree, nothing, more, BranchTrees, no_branch, branch}
+use Rattle.pb_core_language.specs.Tree.{is_again, StmtTree, message, foreach, loop, again, choice, run, barrier, broadcast, reduce, allreduce, BlockTree, nothing, more, BranchTrees, no_branch, branch}
 use Rattle.pb_core_language.specs.FlatOf.{between}
 use Rattle.pb_core_language.specs.Sound.{is_item}
-
-abbrev pub is_again : StmtTree → Bool
-is_again (message l f t) = false
-is_again (foreach h m items) = false
-is_again (loop id m body) = false
-is_again (again id) = true
-is_again (choice k at bs) = false
-is_again (run k at) = false
-is_again barrier = false
-is_again (broadcast l root) = false
-is_again (reduce l op root) = false
-is_again (allreduce l op) = false
 
 -- it is no continue, nor a foreach with one among its items
 abbrev mutual

@@ -7,15 +7,17 @@ use Rattle.pb_affine.specs.declared.lin.Lin.{Lin}
 use Rattle.pb_core_language.specs.declared.protocol.CoreRole.{CoreRole}
 use Rattle.pb_core_language.specs.declared.tree.CoreEnd.{CoreEnd}
 use Rattle.pb_core_language.specs.Ranks.{Seat, seats, total, number_in, seat_at}
-use Rattle.pb_core_language.specs.Tree.{Bounds, Mark, StmtTree, foreach, BlockTree, more}
+use Rattle.pb_core_language.specs.Tree.{Mark, StmtTree, foreach, BlockTree, more, is_again}
+use Rattle.pb_core_language.specs.declared.tree.Bounds.{Bounds}
 use Rattle.pb_core_language.specs.Flat.{Origin, Block, stop, choice, Branches, branch, takes_part}
 use Rattle.pb_core_language.specs.FlatOf.{rank_of, flat_stmt, flat_block}
 use Rattle.pb_core_language.specs.Run.{Env}
-use Rattle.pb_core_language.specs.Rules.{Breach, is_seat, some_below, over_below, misfits, deserted, holds_again}
+use Rattle.pb_core_language.specs.Lists.{some_below, over_below, is_among, none_shared}
+use Rattle.pb_core_language.specs.Rules.{Breach, is_seat, misfits, deserted, holds_again}
 use Rattle.pb_core_language.specs.Sound.{Rows, is_over_n, is_stmt, is_block}
-use Rattle.pb_core_language.specs.Outcomes.{Outcome, nothing_first, receives, other_first, again_first, or_then, firsts, firsts_among, only_receives, comes_from_one, labels_of, is_among, none_shared}
+use Rattle.pb_core_language.specs.Outcomes.{Outcome, nothing_first, receives, other_first, again_first, or_then, firsts, firsts_among, only_receives, comes_from_one, labels_of}
 use Rattle.pb_core_flat.specs.Seated.{rank, is_rank, is_at}
-use Rattle.pb_core_flat.specs.GoesOn.{is_again, goes_on, go_on, are_items, have_again}
+use Rattle.pb_core_flat.specs.GoesOn.{goes_on, go_on, are_items, have_again}
 use Rattle.pb_core_flat.specs.Meets.{meet}
 use Rattle.pb_core_flat.specs.OutcomeSets.{is_nothing, is_outcome, found}
 use Rattle.pb_core_flat.specs.Stops.{Visit, visits, off_of, moving, IsByFalling, by_falling, put_behind, Stop, first_of, stops, few_stops}

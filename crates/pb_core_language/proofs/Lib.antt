@@ -1,6 +1,7 @@
-mod Bools
 mod Numbers
 mod LeastSets
 mod RunLaws
 mod Rows
 mod FileRows
+pub mod Plains
+pub mod Counts

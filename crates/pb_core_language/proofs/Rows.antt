@@ -15,7 +15,8 @@ use Rattle.pb_world.specs.Log.{log_of}
 use Rattle.pb_core_language.specs.declared.protocol.CoreRole.{CoreRole}
 use Rattle.pb_core_language.specs.declared.tree.CoreEnd.{CoreEnd}
 use Rattle.pb_core_language.specs.Ranks.{Seat, size, total}
-use Rattle.pb_core_language.specs.Tree.{Mark, Bounds, message, foreach, loop, again, choice, run, reduce, allreduce, BlockTree, nothing, more, no_branch, branch}
+use Rattle.pb_core_language.specs.Tree.{Mark, message, foreach, loop, again, choice, run, reduce, allreduce, BlockTree, nothing, more, no_branch, branch}
+use Rattle.pb_core_language.specs.declared.tree.Bounds.{Bounds}
 use Rattle.pb_core_language.specs.Plain.{Protocol}
 use Rattle.pb_core_language.specs.Flat.{takes_part}
 use Rattle.pb_core_language.specs.Run.{seq, is_over}

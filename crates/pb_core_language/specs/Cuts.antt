@@ -6,7 +6,8 @@ use Rattle.pb_affine.specs.declared.lin.Lin.{Lin}
 use Rattle.pb_affine.specs.Values.{shifted}
 use Rattle.pb_core_language.specs.declared.protocol.CoreRole.{CoreRole}
 use Rattle.pb_core_language.specs.declared.tree.CoreEnd.{CoreEnd}
-use Rattle.pb_core_language.specs.Tree.{Bounds, StmtTree, message, foreach, loop, again, choice, run, barrier, broadcast, reduce, allreduce, BlockTree, nothing, more, BranchTrees, no_branch, branch}
+use Rattle.pb_core_language.specs.Tree.{StmtTree, message, foreach, loop, again, choice, run, barrier, broadcast, reduce, allreduce, BlockTree, nothing, more, BranchTrees, no_branch, branch}
+use Rattle.pb_core_language.specs.declared.tree.Bounds.{Bounds}
 use Rattle.pb_core_language.specs.Plain.{Protocol}
 
 -- low and high + 1
@@ -28,24 +29,24 @@ end_cuts over e = lin_cuts over e.at.base e.at.off
 
 abbrev mutual
   pub stmt_cuts : Option Bounds → StmtTree → List Lin
-  stmt_cuts over (message l f t) = end_cuts over f ++ end_cuts over t
-  stmt_cuts over (foreach h m items) = edges h.low h.high ++ block_cuts (Some h) items
-  stmt_cuts over (loop id m body) = block_cuts over body
+  stmt_cuts over (message label from to) = end_cuts over from ++ end_cuts over to
+  stmt_cuts over (foreach bounds mark items) = edges bounds.low bounds.high ++ block_cuts (Some bounds) items
+  stmt_cuts over (loop id mark body) = block_cuts over body
   stmt_cuts over (again id) = []
-  stmt_cuts over (choice k at bs) = end_cuts over at ++ branches_cuts over bs
-  stmt_cuts over (run k at) = end_cuts over at
+  stmt_cuts over (choice kernel at branches) = end_cuts over at ++ branches_cuts over branches
+  stmt_cuts over (run kernel at) = end_cuts over at
   stmt_cuts over barrier = []
-  stmt_cuts over (broadcast l root) = end_cuts over root
-  stmt_cuts over (reduce l op root) = end_cuts over root
-  stmt_cuts over (allreduce l op) = []
+  stmt_cuts over (broadcast label root) = end_cuts over root
+  stmt_cuts over (reduce label op root) = end_cuts over root
+  stmt_cuts over (allreduce label op) = []
 
   pub block_cuts : Option Bounds → BlockTree → List Lin
   block_cuts over nothing = []
-  block_cuts over (more m s rest) = stmt_cuts over s ++ block_cuts over rest
+  block_cuts over (more mark first rest) = stmt_cuts over first ++ block_cuts over rest
 
   pub branches_cuts : Option Bounds → BranchTrees → List Lin
   branches_cuts over no_branch = []
-  branches_cuts over (branch m b bs) = block_cuts over b ++ branches_cuts over bs
+  branches_cuts over (branch mark first rest) = block_cuts over first ++ branches_cuts over rest
 
 abbrev pub role_cuts : List CoreRole → List Lin
 role_cuts [] = []

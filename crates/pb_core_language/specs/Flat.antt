@@ -1,7 +1,17 @@
 -- A flat protocol: N is put in, each foreach is its items, each end is a rank's number, and a continue names a loop
--- around it by how many stand between. Who takes part in it, and what of it can end.
+-- around it by how many stand between. Who takes part in it, and what of it can end. In docs/LANGUAGE.md: 'The flat
+-- protocol', 'Who takes part' and 'What can end'.
+--
+-- With `role W[0..N-1]` the body
+--     rec X { A() from W[0] to W[1]; choice K at W[1] { continue X; } or { } }
+-- is, at every N from 2 on, and with `_` for where a statement or a branch comes from,
+--     looped _ (message _ 0 1 0 (choice _ 1 0 (branch _ (again 0) (branch _ stop no_branch)) stop)) stop
+-- Ranks 0 and 1 take part in it, and no other. It can end, since its second branch can.
+--
+-- r is a rank, and n the number of a branch.
 use Rattle.std.specs.Prelude.{ℕ, zero, suc, ◌==◌, cond, Bool, true, false, ◌||◌, ◌&&◌, List, [], ◌∷◌, nat_lt}
 use Rattle.pb_world.specs.Actions.{Collective}
+use Rattle.pb_core_language.specs.Lists.{nth}
 use Rattle.pb_core_language.specs.Ranks.{Seat}
 use Rattle.pb_core_language.specs.Tree.{Mark}
 
@@ -25,66 +35,61 @@ mutual
     together : (origin : Origin) (joint : Collective) (rest : Block) → Block
     choice : (origin : Origin) (at kernel : ℕ) (branches : Branches) (rest : Block) → Block
     looped : (origin : Origin) (body rest : Block) → Block
-    again : (n : ℕ) → Block
+    again : (between : ℕ) → Block
 
   pub data Branches : Type 0 where
     no_branch : Branches
     branch : (mark : Mark) (first : Block) (rest : Branches) → Branches
-
-abbrev pub nth : List Bool → ℕ → Bool
-nth [] n = false
-nth (b ∷ bs) zero = b
-nth (b ∷ bs) (suc n) = nth bs n
 
 -- A rank takes part in a block. `held` says of each loop around, the innermost first, whether the rank takes part in
 -- its body for a reason other than its continue.
 abbrev mutual
   pub takes_part : List Bool → ℕ → Block → Bool
   takes_part held r stop = false
-  takes_part held r (message a p q l g) = (p == r) || ((q == r) || takes_part held r g)
-  takes_part held r (compute a p k g) = (p == r) || takes_part held r g
-  takes_part held r (together a j g) = true
-  takes_part held r (choice a p k bs g) = ((p == r) || takes_part_among held r bs) || takes_part held r g
-  takes_part held r (looped a b g) = takes_part (false ∷ held) r b || takes_part held r g
-  takes_part held r (again n) = nth held n
+  takes_part held r (message origin from to label rest) = (from == r) || ((to == r) || takes_part held r rest)
+  takes_part held r (compute origin at kernel rest) = (at == r) || takes_part held r rest
+  takes_part held r (together origin joint rest) = true
+  takes_part held r (choice origin at kernel branches rest) = ((at == r) || takes_part_among held r branches) || takes_part held r rest
+  takes_part held r (looped origin body rest) = takes_part (false ∷ held) r body || takes_part held r rest
+  takes_part held r (again between) = nth held between
 
   pub takes_part_among : List Bool → ℕ → Branches → Bool
   takes_part_among held r no_branch = false
-  takes_part_among held r (branch m b bs) = takes_part held r b || takes_part_among held r bs
+  takes_part_among held r (branch mark first rest) = takes_part held r first || takes_part_among held r rest
 
 -- it takes part in a choice with this chooser
 abbrev pub in_choice : List Bool → ℕ → ℕ → Branches → Bool
-in_choice held r p bs = (p == r) || takes_part_among held r bs
+in_choice held r at branches = (at == r) || takes_part_among held r branches
 
 abbrev pub count : Branches → ℕ
 count no_branch = 0
-count (branch m b bs) = suc (count bs)
+count (branch mark first rest) = suc (count rest)
 
 abbrev pub branch_at : ℕ → Branches → Block
-branch_at x no_branch = stop
-branch_at zero (branch m b bs) = b
-branch_at (suc x) (branch m b bs) = branch_at x bs
+branch_at n no_branch = stop
+branch_at zero (branch mark first rest) = first
+branch_at (suc n) (branch mark first rest) = branch_at n rest
 
 -- A block can end if all its statements can: a choice if some branch can, a loop if its body can, a continue never.
 abbrev mutual
   pub can_end : Block → Bool
   can_end stop = true
-  can_end (message a p q l g) = can_end g
-  can_end (compute a p k g) = can_end g
-  can_end (together a j g) = can_end g
-  can_end (choice a p k bs g) = some_can_end bs && can_end g
-  can_end (looped a b g) = can_end b && can_end g
-  can_end (again n) = false
+  can_end (message origin from to label rest) = can_end rest
+  can_end (compute origin at kernel rest) = can_end rest
+  can_end (together origin joint rest) = can_end rest
+  can_end (choice origin at kernel branches rest) = some_can_end branches && can_end rest
+  can_end (looped origin body rest) = can_end body && can_end rest
+  can_end (again between) = false
 
   pub some_can_end : Branches → Bool
   some_can_end no_branch = false
-  some_can_end (branch m b bs) = can_end b || some_can_end bs
+  some_can_end (branch mark first rest) = can_end first || some_can_end rest
 
 -- the first branch that can end, or as many as there are
 abbrev pub ending : Branches → ℕ
 ending no_branch = 0
-ending (branch m b bs) = cond (can_end b) 0 (suc (ending bs))
+ending (branch mark first rest) = cond (can_end first) 0 (suc (ending rest))
 
 -- the first branch that can end, or branch 0 where none can
 abbrev pub first_ending : Branches → ℕ
-first_ending bs = cond (nat_lt (ending bs) (count bs)) (ending bs) 0
+first_ending branches = cond (nat_lt (ending branches) (count branches)) (ending branches) 0

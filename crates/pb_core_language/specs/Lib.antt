@@ -1,3 +1,4 @@
+pub mod Lists
 pub mod Ranks
 pub mod Tree
 pub mod Plain

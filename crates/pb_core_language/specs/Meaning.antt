@@ -22,7 +22,8 @@ use Rattle.pb_syntax.specs.Tree as F
 use Rattle.pb_syntax.specs.Tree.{PlainStatement, compute, PlainStatements, PlainBranches, PlainFile}
 use Rattle.pb_core_language.specs.declared.protocol.CoreRole.{CoreRole}
 use Rattle.pb_core_language.specs.declared.tree.CoreEnd.{CoreEnd}
-use Rattle.pb_core_language.specs.Tree.{Mark, Bounds, StmtTree, message, foreach, loop, again, choice, run, barrier, broadcast, reduce, allreduce, BlockTree, nothing, more, BranchTrees, no_branch, branch}
+use Rattle.pb_core_language.specs.Tree.{Mark, StmtTree, message, foreach, loop, again, choice, run, barrier, broadcast, reduce, allreduce, BlockTree, nothing, more, BranchTrees, no_branch, branch}
+use Rattle.pb_core_language.specs.declared.tree.Bounds.{Bounds}
 use Rattle.pb_core_language.specs.Plain.{Protocol}
 use Rattle.pb_core_language.specs.Names.{Name, same}
 use Rattle.pb_core_language.specs.FileRules.{Labelled, labels_in, role_names, place_of}

@@ -16,50 +16,50 @@ module _ (roles : List CoreRole) (n : ℤ) (r : ℕ) where
   -- Statements inside a foreach aren't looked at.
   abbrev mutual
     pub takes_part_below : ℕ → List ℕ → List Bool → StmtTree → Bool
-    takes_part_below k opens held (loop id m body) = takes_part_within k (id ∷ opens) (is_in_body opens held id body ∷ held) body
-    takes_part_below k opens held (choice kernel at bs) = takes_part_across k opens held bs
-    takes_part_below k opens held (message l f t) = false
-    takes_part_below k opens held (foreach h m items) = false
+    takes_part_below k opens held (loop id mark body) = takes_part_within k (id ∷ opens) (is_in_body opens held id body ∷ held) body
+    takes_part_below k opens held (choice kernel at branches) = takes_part_across k opens held branches
+    takes_part_below k opens held (message label from to) = false
+    takes_part_below k opens held (foreach bounds mark items) = false
     takes_part_below k opens held (again id) = false
     takes_part_below k opens held (run kernel at) = false
     takes_part_below k opens held barrier = false
-    takes_part_below k opens held (broadcast l root) = false
-    takes_part_below k opens held (reduce l op root) = false
-    takes_part_below k opens held (allreduce l op) = false
+    takes_part_below k opens held (broadcast label root) = false
+    takes_part_below k opens held (reduce label op root) = false
+    takes_part_below k opens held (allreduce label op) = false
 
     pub takes_part_within : ℕ → List ℕ → List Bool → BlockTree → Bool
     takes_part_within k opens held nothing = false
-    takes_part_within k opens held (more m s rest) =
-        (nat_eq k m.number && takes_part held r (flat_stmt roles n opens (pos 0) m s stop)) || (takes_part_below k opens held s || takes_part_within k opens held rest)
+    takes_part_within k opens held (more mark first rest) =
+        (nat_eq k mark.number && takes_part held r (flat_stmt roles n opens (pos 0) mark first stop)) || (takes_part_below k opens held first || takes_part_within k opens held rest)
 
     pub takes_part_across : ℕ → List ℕ → List Bool → BranchTrees → Bool
     takes_part_across k opens held no_branch = false
-    takes_part_across k opens held (branch m b bs) = takes_part_within k opens held b || takes_part_across k opens held bs
+    takes_part_across k opens held (branch mark first rest) = takes_part_within k opens held first || takes_part_across k opens held rest
 
   -- what the rank finds first in the block with number k
   abbrev mutual
     pub firsts_below : ℕ → List ℕ → List Bool → StmtTree → List Outcome
-    firsts_below k opens held (loop id m body) =
-        (if nat_eq k m.number then firsts (is_in_body opens held id body ∷ held) r (flat_block roles n (id ∷ opens) (pos 0) body stop) else [])
+    firsts_below k opens held (loop id mark body) =
+        (if nat_eq k mark.number then firsts (is_in_body opens held id body ∷ held) r (flat_block roles n (id ∷ opens) (pos 0) body stop) else [])
         ++ firsts_within k (id ∷ opens) (is_in_body opens held id body ∷ held) body
-    firsts_below k opens held (choice kernel at bs) = firsts_across k opens held bs
-    firsts_below k opens held (message l f t) = []
-    firsts_below k opens held (foreach h m items) = []
+    firsts_below k opens held (choice kernel at branches) = firsts_across k opens held branches
+    firsts_below k opens held (message label from to) = []
+    firsts_below k opens held (foreach bounds mark items) = []
     firsts_below k opens held (again id) = []
     firsts_below k opens held (run kernel at) = []
     firsts_below k opens held barrier = []
-    firsts_below k opens held (broadcast l root) = []
-    firsts_below k opens held (reduce l op root) = []
-    firsts_below k opens held (allreduce l op) = []
+    firsts_below k opens held (broadcast label root) = []
+    firsts_below k opens held (reduce label op root) = []
+    firsts_below k opens held (allreduce label op) = []
 
     pub firsts_within : ℕ → List ℕ → List Bool → BlockTree → List Outcome
     firsts_within k opens held nothing = []
-    firsts_within k opens held (more m s rest) = firsts_below k opens held s ++ firsts_within k opens held rest
+    firsts_within k opens held (more mark first rest) = firsts_below k opens held first ++ firsts_within k opens held rest
 
     pub firsts_across : ℕ → List ℕ → List Bool → BranchTrees → List Outcome
     firsts_across k opens held no_branch = []
-    firsts_across k opens held (branch m b bs) =
-        (if nat_eq k m.number then firsts held r (flat_block roles n opens (pos 0) b stop) else []) ++ (firsts_within k opens held b ++ firsts_across k opens held bs)
+    firsts_across k opens held (branch mark first rest) =
+        (if nat_eq k mark.number then firsts held r (flat_block roles n opens (pos 0) first stop) else []) ++ (firsts_within k opens held first ++ firsts_across k opens held rest)
 
 -- rank r takes part in statement k at N = n, and it finds this first in block k
 abbrev pub takes_part_in : Protocol → ℤ → ℕ → ℕ → Bool

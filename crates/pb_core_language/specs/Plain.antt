@@ -22,30 +22,30 @@ pub record MarkedStmt : Type 0 where
 
 abbrev pub block_of : List MarkedStmt → BlockTree
 block_of [] = nothing
-block_of (s ∷ ss) = more s.mark s.stmt (block_of ss)
+block_of (first ∷ rest) = more first.mark first.stmt (block_of rest)
 
 abbrev pub branches_of : List MarkedBlock → BranchTrees
 branches_of [] = no_branch
-branches_of (b ∷ bs) = branch b.mark b.block (branches_of bs)
+branches_of (first ∷ rest) = branch first.mark first.block (branches_of rest)
 
 -- one layer of a value, with the plain trees of what it holds
 abbrev pub kind_layer : CoreKind-F StmtTree MarkedBlock MarkedStmt → StmtTree
-kind_layer (Layer.Message l f t) = message l f t
-kind_layer (Layer.Foreach a b items) = foreach (record { low = a; high = b }) items.mark items.block
+kind_layer (Layer.Message label from to) = message label from to
+kind_layer (Layer.Foreach low high items) = foreach (record { low = low; high = high }) items.mark items.block
 kind_layer (Layer.Loop id body) = loop id body.mark body.block
 kind_layer (Layer.Again id) = again id
-kind_layer (Layer.Choice k at bs) = choice k at (branches_of bs.items)
-kind_layer (Layer.Run k at) = run k at
+kind_layer (Layer.Choice kernel at branches) = choice kernel at (branches_of branches.items)
+kind_layer (Layer.Run kernel at) = run kernel at
 kind_layer Layer.Barrier = barrier
-kind_layer (Layer.Broadcast l root) = broadcast l root
-kind_layer (Layer.Reduce l op root) = reduce l op root
-kind_layer (Layer.Allreduce l op) = allreduce l op
+kind_layer (Layer.Broadcast label root) = broadcast label root
+kind_layer (Layer.Reduce label op root) = reduce label op root
+kind_layer (Layer.Allreduce label op) = allreduce label op
 
 abbrev pub block_layer : CoreBlock-F StmtTree MarkedBlock MarkedStmt → MarkedBlock
-block_layer b = record { mark = record { number = b.number; place = b.place }; block = block_of b.list.items }
+block_layer layer = record { mark = record { number = layer.number; place = layer.place }; block = block_of layer.list.items }
 
 abbrev pub stmt_layer : CoreStmt-F StmtTree MarkedBlock MarkedStmt → MarkedStmt
-stmt_layer s = record { mark = record { number = s.number; place = s.place }; stmt = s.what }
+stmt_layer layer = record { mark = record { number = layer.number; place = layer.place }; stmt = layer.what }
 
 abbrev pub plain_block : CoreBlock → MarkedBlock
 plain_block = fold-CoreBlock StmtTree MarkedBlock MarkedStmt kind_layer block_layer stmt_layer

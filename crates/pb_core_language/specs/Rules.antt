@@ -1,5 +1,14 @@
 -- The rules 6 to 12 at one N: the places at which each is broken, in the order of the file, and for 10 to 12 rank by rank.
-use Rattle.std.specs.Prelude.{ℕ, zero, suc, ℤ, pos, ◌==◌, Bool, true, false, ◌||◌, ◌&&◌, not, if◌then◌else◌, Option, Some, None, List, [], ◌∷◌, ◌++◌, map, filter}
+-- In docs/LANGUAGE.md: 'The twelve rules'.
+--
+-- With `role W[0..N-1]` the body
+--     choice K at W[0] { A() from W[0] to W[i:1..N-1]; } or { }
+-- breaks at N = 3 the rule 10 alone, in the second branch, by the ranks 1 and 2, which find no receive there:
+--     breaches protocol (pos 3) ≡ ranked 10 W[1] mark ∷ ranked 10 W[2] mark ∷ []
+-- where W[1] and W[2] stand for the two seats, and `mark` is the second branch's.
+--
+-- n is N, T the number of ranks, and r a rank.
+use Rattle.std.specs.Prelude.{ℕ, suc, ℤ, pos, ◌==◌, Bool, false, ◌||◌, ◌&&◌, not, if◌then◌else◌, Option, Some, None, List, [], ◌∷◌, ◌++◌, map, filter}
 use Rattle.pb_affine.specs.Values.{value, range}
 use Rattle.pb_core_language.specs.declared.protocol.CoreRole.{CoreRole}
 use Rattle.pb_core_language.specs.Ranks.{Seat, seat_eq, seats, total, seat_at}
@@ -8,97 +17,85 @@ use Rattle.pb_core_language.specs.Plain.{Protocol}
 use Rattle.pb_core_language.specs.Flat.{Asked, Origin, Block, stop, message, compute, together, choice, looped, again, Branches, no_branch, branch, takes_part, takes_part_among}
 use Rattle.pb_core_language.specs.FlatOf.{flat}
 use Rattle.pb_core_language.specs.Run.{Env, at_rank}
-use Rattle.pb_core_language.specs.Outcomes.{Outcome, firsts, only_receives, comes_from_one, labels_of, none_shared}
-
--- for some number below T, and what there is for each number below T, ascending
-abbrev pub some_below : ℕ → (ℕ → Bool) → Bool
-some_below zero f = false
-some_below (suc n) f = f n || some_below n f
-
-abbrev pub over_below : {A : Type 0} → ℕ → (ℕ → List A) → List A
-over_below zero f = []
-over_below (suc n) f = over_below n f ++ f n
+use Rattle.pb_core_language.specs.Lists.{some_below, over_below, is_empty, none_shared}
+use Rattle.pb_core_language.specs.Outcomes.{Outcome, firsts, only_receives, comes_from_one, labels_of}
 
 -- ---- rule 6: each role has at least one index
 
-abbrev pub is_empty : {A : Type 0} → List A → Bool
-is_empty [] = true
-is_empty (x ∷ xs) = false
-
--- the roles from number k on that have none
+-- the roles from this number on that have none
 abbrev pub empty_roles : ℕ → List CoreRole → ℤ → List Mark
-empty_roles k [] n = []
-empty_roles k (r ∷ rs) n =
-    (if is_empty (range (value r.low n (pos 0)) (value r.high n (pos 0))) then record { number = k; place = r.place } ∷ [] else []) ++ empty_roles (suc k) rs n
+empty_roles number [] n = []
+empty_roles number (role ∷ roles) n =
+    (if is_empty (range (value role.low n (pos 0)) (value role.high n (pos 0))) then record { number = number; place = role.place } ∷ [] else []) ++ empty_roles (suc number) roles n
 
 -- ---- rule 7: each end has an index in its role's range. Rule 8: sender and receiver of each message differ
 
 abbrev pub is_seat : Seat → List Seat → Bool
-is_seat a [] = false
-is_seat a (b ∷ bs) = seat_eq a b || is_seat a bs
+is_seat seat [] = false
+is_seat seat (other ∷ others) = seat_eq seat other || is_seat seat others
 
 -- something of each statement of a block, in order
 module _ {A : Type 0} (of_origin : Origin → List A) where
   abbrev mutual
     pub each_origin : Block → List A
     each_origin stop = []
-    each_origin (message a p q l g) = of_origin a ++ each_origin g
-    each_origin (compute a p k g) = of_origin a ++ each_origin g
-    each_origin (together a j g) = of_origin a ++ each_origin g
-    each_origin (choice a p k bs g) = of_origin a ++ (each_origin_among bs ++ each_origin g)
-    each_origin (looped a b g) = of_origin a ++ (each_origin b ++ each_origin g)
-    each_origin (again n) = []
+    each_origin (message origin from to label rest) = of_origin origin ++ each_origin rest
+    each_origin (compute origin at kernel rest) = of_origin origin ++ each_origin rest
+    each_origin (together origin joint rest) = of_origin origin ++ each_origin rest
+    each_origin (choice origin at kernel branches rest) = of_origin origin ++ (each_origin_among branches ++ each_origin rest)
+    each_origin (looped origin body rest) = of_origin origin ++ (each_origin body ++ each_origin rest)
+    each_origin (again between) = []
 
     pub each_origin_among : Branches → List A
     each_origin_among no_branch = []
-    each_origin_among (branch m b bs) = each_origin b ++ each_origin_among bs
+    each_origin_among (branch mark first rest) = each_origin first ++ each_origin_among rest
 
 -- the ends that ask for a seat that isn't there
 abbrev pub strays : List Seat → Origin → List Asked
-strays ranks a = filter (λ e. not (is_seat e.seat ranks)) a.ends
+strays ranks origin = filter (λ asked. not (is_seat asked.seat ranks)) origin.ends
 
 -- the seat that is sender and receiver, at the message's own mark
 abbrev pub alike : Mark → List Asked → List Asked
-alike m [] = []
-alike m (f ∷ []) = []
-alike m (f ∷ t ∷ more) = if seat_eq f.seat t.seat then record { mark = m; seat = f.seat } ∷ [] else []
+alike mark [] = []
+alike mark (from ∷ []) = []
+alike mark (from ∷ to ∷ others) = if seat_eq from.seat to.seat then record { mark = mark; seat = from.seat } ∷ [] else []
 
 abbrev pub loners : Origin → List Asked
-loners a = alike a.mark a.ends
+loners origin = alike origin.mark origin.ends
 
 -- ---- rule 9: a loop whose body holds its continue has a rank that takes part
 
--- the block holds a continue of the n-th loop around it
+-- the block holds a continue of the loop around it with so many loops between
 abbrev mutual
   pub holds_again : ℕ → Block → Bool
-  holds_again n stop = false
-  holds_again n (message a p q l g) = holds_again n g
-  holds_again n (compute a p k g) = holds_again n g
-  holds_again n (together a j g) = holds_again n g
-  holds_again n (choice a p k bs g) = holds_again_among n bs || holds_again n g
-  holds_again n (looped a b g) = holds_again (suc n) b || holds_again n g
-  holds_again n (again m) = m == n
+  holds_again outward stop = false
+  holds_again outward (message origin from to label rest) = holds_again outward rest
+  holds_again outward (compute origin at kernel rest) = holds_again outward rest
+  holds_again outward (together origin joint rest) = holds_again outward rest
+  holds_again outward (choice origin at kernel branches rest) = holds_again_among outward branches || holds_again outward rest
+  holds_again outward (looped origin body rest) = holds_again (suc outward) body || holds_again outward rest
+  holds_again outward (again between) = between == outward
 
   pub holds_again_among : ℕ → Branches → Bool
-  holds_again_among n no_branch = false
-  holds_again_among n (branch m b bs) = holds_again n b || holds_again_among n bs
+  holds_again_among outward no_branch = false
+  holds_again_among outward (branch mark first rest) = holds_again outward first || holds_again_among outward rest
 
 -- the loops that come round with nobody in them. `env` says of each loop around who takes part in it
 abbrev mutual
   pub deserted : ℕ → Env → Block → List Mark
   deserted T env stop = []
-  deserted T env (message a p q l g) = deserted T env g
-  deserted T env (compute a p k g) = deserted T env g
-  deserted T env (together a j g) = deserted T env g
-  deserted T env (choice a p k bs g) = deserted_among T env bs ++ deserted T env g
-  deserted T env (looped a b g) =
-      (if holds_again 0 b && not (some_below T (λ r. takes_part (false ∷ at_rank r env) r b)) then a.mark ∷ [] else [])
-      ++ (deserted T ((λ r. takes_part (false ∷ at_rank r env) r b) ∷ env) b ++ deserted T env g)
-  deserted T env (again n) = []
+  deserted T env (message origin from to label rest) = deserted T env rest
+  deserted T env (compute origin at kernel rest) = deserted T env rest
+  deserted T env (together origin joint rest) = deserted T env rest
+  deserted T env (choice origin at kernel branches rest) = deserted_among T env branches ++ deserted T env rest
+  deserted T env (looped origin body rest) =
+      (if holds_again 0 body && not (some_below T (λ r. takes_part (false ∷ at_rank r env) r body)) then origin.mark ∷ [] else [])
+      ++ (deserted T ((λ r. takes_part (false ∷ at_rank r env) r body) ∷ env) body ++ deserted T env rest)
+  deserted T env (again between) = []
 
   pub deserted_among : ℕ → Env → Branches → List Mark
   deserted_among T env no_branch = []
-  deserted_among T env (branch m b bs) = deserted T env b ++ deserted_among T env bs
+  deserted_among T env (branch mark first rest) = deserted T env first ++ deserted_among T env rest
 
 -- ---- rules 10 to 12: what a rank that is told of a choice finds first in its branches
 
@@ -108,18 +105,19 @@ module _ (fits : (before here : List Outcome) → Bool) where
   abbrev mutual
     pub misfits : List Bool → ℕ → Block → List Mark
     misfits held r stop = []
-    misfits held r (message a p q l g) = misfits held r g
-    misfits held r (compute a p k g) = misfits held r g
-    misfits held r (together a j g) = misfits held r g
-    misfits held r (choice a p k bs g) = misfits_among held r (not (p == r) && takes_part_among held r bs) [] bs ++ misfits held r g
-    misfits held r (looped a b g) = misfits (takes_part (false ∷ held) r b ∷ held) r b ++ misfits held r g
-    misfits held r (again n) = []
+    misfits held r (message origin from to label rest) = misfits held r rest
+    misfits held r (compute origin at kernel rest) = misfits held r rest
+    misfits held r (together origin joint rest) = misfits held r rest
+    misfits held r (choice origin at kernel branches rest) =
+        misfits_among held r (not (at == r) && takes_part_among held r branches) [] branches ++ misfits held r rest
+    misfits held r (looped origin body rest) = misfits (takes_part (false ∷ held) r body ∷ held) r body ++ misfits held r rest
+    misfits held r (again between) = []
 
     pub misfits_among : List Bool → ℕ → Bool → List Outcome → Branches → List Mark
     misfits_among held r is_told before no_branch = []
-    misfits_among held r is_told before (branch m b bs) =
-        (if is_told && not (fits before (firsts held r b)) then m ∷ [] else [])
-        ++ (misfits held r b ++ misfits_among held r is_told (before ++ firsts held r b) bs)
+    misfits_among held r is_told before (branch mark first rest) =
+        (if is_told && not (fits before (firsts held r first)) then mark ∷ [] else [])
+        ++ (misfits held r first ++ misfits_among held r is_told (before ++ firsts held r first) rest)
 
 -- rule 10: it finds only receives
 abbrev pub receives_only : List Outcome → List Outcome → Bool
@@ -142,30 +140,30 @@ pub record Breach : Type 0 where
   pub at : Option Seat
 
 abbrev pub nobody : ℕ → Mark → Breach
-nobody k m = record { rule = k; mark = m; at = None }
+nobody rule mark = record { rule = rule; mark = mark; at = None }
 
 abbrev pub somebody : ℕ → Asked → Breach
-somebody k a = record { rule = k; mark = a.mark; at = Some a.seat }
+somebody rule asked = record { rule = rule; mark = asked.mark; at = Some asked.seat }
 
 abbrev pub ranked : ℕ → Seat → Mark → Breach
-ranked k seat m = record { rule = k; mark = m; at = Some seat }
+ranked rule seat mark = record { rule = rule; mark = mark; at = Some seat }
 
-module _ (p : Protocol) (n : ℤ) where
+module _ (protocol : Protocol) (n : ℤ) where
   abbrev pub flat_at : Block
-  flat_at = flat p.roles n p.body.block
+  flat_at = flat protocol.roles n protocol.body.block
 
   abbrev pub total_at : ℕ
-  total_at = total p.roles n
+  total_at = total protocol.roles n
 
   abbrev pub ranks_at : List Seat
-  ranks_at = seats p.roles n
+  ranks_at = seats protocol.roles n
 
   -- for each rank, ascending
   abbrev pub misfitting : ℕ → (List Outcome → List Outcome → Bool) → List Breach
-  misfitting k fits = over_below total_at (λ r. map (ranked k (seat_at r ranks_at)) (misfits fits [] r flat_at))
+  misfitting rule fits = over_below total_at (λ r. map (ranked rule (seat_at r ranks_at)) (misfits fits [] r flat_at))
 
   abbrev pub broken_6 : List Breach
-  broken_6 = map (nobody 6) (empty_roles 0 p.roles n)
+  broken_6 = map (nobody 6) (empty_roles 0 protocol.roles n)
 
   abbrev pub broken_7 : List Breach
   broken_7 = map (somebody 7) (each_origin (strays ranks_at) flat_at)

@@ -8,7 +8,8 @@ use Rattle.pb_affine.specs.declared.lin.Lin.{Lin}
 use Rattle.pb_affine.specs.declared.range.NRange.{NRange}
 use Rattle.pb_core_language.specs.declared.protocol.CoreRole.{CoreRole}
 use Rattle.pb_core_language.specs.declared.tree.CoreEnd.{CoreEnd}
-use Rattle.pb_core_language.specs.Tree.{Bounds, StmtTree, message, foreach, loop, again, choice, run, barrier, broadcast, reduce, allreduce, BlockTree, nothing, more, BranchTrees, no_branch, branch}
+use Rattle.pb_core_language.specs.Tree.{StmtTree, message, foreach, loop, again, choice, run, barrier, broadcast, reduce, allreduce, BlockTree, nothing, more, BranchTrees, no_branch, branch}
+use Rattle.pb_core_language.specs.declared.tree.Bounds.{Bounds}
 use Rattle.pb_core_language.specs.Plain.{Protocol}
 
 -- ---- lins
@@ -41,42 +42,42 @@ is_end rows varies e = nat_lt e.role rows.roles && ((varies || is_over_n e.at.ba
 
 -- a foreach has messages and computes alone
 abbrev pub is_item : StmtTree → Bool
-is_item (message l f t) = true
-is_item (foreach h m items) = false
-is_item (loop id m body) = false
+is_item (message label from to) = true
+is_item (foreach bounds mark items) = false
+is_item (loop id mark body) = false
 is_item (again id) = false
-is_item (choice k at bs) = false
-is_item (run k at) = true
+is_item (choice kernel at branches) = false
+is_item (run kernel at) = true
 is_item barrier = false
-is_item (broadcast l root) = false
-is_item (reduce l op root) = false
-is_item (allreduce l op) = false
+is_item (broadcast label root) = false
+is_item (reduce label op root) = false
+is_item (allreduce label op) = false
 
 abbrev pub has_branch : BranchTrees → Bool
 has_branch no_branch = false
-has_branch (branch m b bs) = true
+has_branch (branch mark first rest) = true
 
 -- A statement, in a foreach or not, within the loops with these ids, of which there are fewer than 64.
 abbrev mutual
   pub is_stmt : Rows → Bool → List ℕ → StmtTree → Bool
-  is_stmt rows varies opens (message l f t) = nat_lt l rows.labels && (is_end rows varies f && is_end rows varies t)
-  is_stmt rows varies opens (foreach h m items) = is_bound h.low && (is_bound h.high && is_block rows true opens items)
-  is_stmt rows varies opens (loop id m body) = nat_lt (length opens) 64 && is_block rows false (id ∷ opens) body
+  is_stmt rows varies opens (message label from to) = nat_lt label rows.labels && (is_end rows varies from && is_end rows varies to)
+  is_stmt rows varies opens (foreach bounds mark items) = is_bound bounds.low && (is_bound bounds.high && is_block rows true opens items)
+  is_stmt rows varies opens (loop id mark body) = nat_lt (length opens) 64 && is_block rows false (id ∷ opens) body
   is_stmt rows varies opens (again id) = list_any (nat_eq id) opens
-  is_stmt rows varies opens (choice k at bs) = nat_lt k rows.kernels && (is_end rows false at && (has_branch bs && are_branches rows opens bs))
-  is_stmt rows varies opens (run k at) = nat_lt k rows.kernels && is_end rows varies at
+  is_stmt rows varies opens (choice kernel at branches) = nat_lt kernel rows.kernels && (is_end rows false at && (has_branch branches && are_branches rows opens branches))
+  is_stmt rows varies opens (run kernel at) = nat_lt kernel rows.kernels && is_end rows varies at
   is_stmt rows varies opens barrier = true
-  is_stmt rows varies opens (broadcast l root) = nat_lt l rows.labels && is_end rows false root
-  is_stmt rows varies opens (reduce l op root) = nat_lt l rows.labels && is_end rows false root
-  is_stmt rows varies opens (allreduce l op) = nat_lt l rows.labels
+  is_stmt rows varies opens (broadcast label root) = nat_lt label rows.labels && is_end rows false root
+  is_stmt rows varies opens (reduce label op root) = nat_lt label rows.labels && is_end rows false root
+  is_stmt rows varies opens (allreduce label op) = nat_lt label rows.labels
 
   pub is_block : Rows → Bool → List ℕ → BlockTree → Bool
   is_block rows varies opens nothing = true
-  is_block rows varies opens (more m s rest) = (not varies || is_item s) && (is_stmt rows varies opens s && is_block rows varies opens rest)
+  is_block rows varies opens (more mark first rest) = (not varies || is_item first) && (is_stmt rows varies opens first && is_block rows varies opens rest)
 
   pub are_branches : Rows → List ℕ → BranchTrees → Bool
   are_branches rows opens no_branch = true
-  are_branches rows opens (branch m b bs) = is_block rows false opens b && are_branches rows opens bs
+  are_branches rows opens (branch mark first rest) = is_block rows false opens first && are_branches rows opens rest
 
 -- ---- protocols
 

@@ -1,19 +1,14 @@
 -- The plain tree of a core: statements in blocks, each with its number and its place in the file.
-use Rattle.std.specs.Prelude.{ℕ}
-use Rattle.pb_affine.specs.declared.lin.Lin.{Lin}
+use Rattle.std.specs.Prelude.{ℕ, Bool, true, false}
 use Rattle.pb_syntax.specs.declared.tree.Op.{Op}
 use Rattle.pb_text.specs.declared.place.Place.{Place}
 use Rattle.pb_core_language.specs.declared.tree.CoreEnd.{CoreEnd}
+use Rattle.pb_core_language.specs.declared.tree.Bounds.{Bounds}
 
 -- the number and the place of a statement or a block
 pub record Mark : Type 0 where
   pub number : ℕ
   pub place : Place
-
--- from which to which value a foreach runs
-pub record Bounds : Type 0 where
-  pub low : Lin
-  pub high : Lin
 
 mutual
   pub data StmtTree : Type 0 where
@@ -37,3 +32,16 @@ mutual
   pub data BranchTrees : Type 0 where
     no_branch : BranchTrees
     branch : (mark : Mark) (first : BlockTree) (rest : BranchTrees) → BranchTrees
+
+-- it is a continue
+abbrev pub is_again : StmtTree → Bool
+is_again (message l f t) = false
+is_again (foreach h m items) = false
+is_again (loop id m body) = false
+is_again (again id) = true
+is_again (choice k at bs) = false
+is_again (run k at) = false
+is_again barrier = false
+is_again (broadcast l root) = false
+is_again (reduce l op root) = false
+is_again (allreduce l op) = false

@@ -12,4 +12,4 @@ pub use laws::{ranks_are_numbered, receives_match, runs_extend, takers_are_least
 pub use pb_affine::{Base, Lin, NRange};
 pub use pb_syntax::{CoreKernel, CoreLabel, KernelKind, Name, Op, Payload, Place};
 pub use protocol::{Core, CoreRole};
-pub use tree::{CoreBlock, CoreEnd, CoreKind, CoreStmt};
+pub use tree::{Bounds, CoreBlock, CoreEnd, CoreKind, CoreStmt};

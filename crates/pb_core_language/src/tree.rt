@@ -1,3 +1,7 @@
+ghost use Rattle.std.specs.Prelude.{◌≡◌};
+ghost use Rattle.pb_core_language.specs.Plain.{plain_stmt};
+ghost use Rattle.pb_core_language.specs.Tree.{is_again};
+
 use pb_affine::Lin;
 use pb_syntax::Op;
 use pb_text::Place;
@@ -10,6 +14,13 @@ pub struct CoreEnd {
     pub at: Lin,
     /// Where the role's name stands.
     pub place: Place,
+}
+
+/// From which to which value the variable of a foreach runs.
+#[derive(Clone, Copy, Debug, PartialEq, Eq)]
+pub struct Bounds {
+    pub low: Lin,
+    pub high: Lin,
 }
 
 /// Statements that are done one after the other. Blocks are numbered from 0, in the order of the file.
@@ -78,4 +89,24 @@ pub enum CoreKind {
         label: u32,
         op: Op,
     },
+}
+
+impl CoreStmt {
+    /// Whether it is a continue.
+    pub fn is_again(&self) -> bool
+        ensures { result ≡ is_again (plain_stmt self.now).stmt }
+    {
+        match &self.what {
+            CoreKind::Again { .. } => true,
+            CoreKind::Message { .. }
+            | CoreKind::Foreach { .. }
+            | CoreKind::Loop { .. }
+            | CoreKind::Choice { .. }
+            | CoreKind::Run { .. }
+            | CoreKind::Barrier
+            | CoreKind::Broadcast { .. }
+            | CoreKind::Reduce { .. }
+            | CoreKind::Allreduce { .. } => false,
+        }
+    }
 }

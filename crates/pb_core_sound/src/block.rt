@@ -39,7 +39,7 @@ fn are_branches(branches: &[CoreBlock], rows: &Rows, opens: &Opens) -> bool
 
 /// Whether the statement is.
 #[cycle(block)]
-#[tactic(auto, using(crate::proofs::Choices::plain_choice))]
+#[tactic(auto, using(pb_core_language::proofs::Plains::plain_choice))]
 fn is_stmt(stmt: &CoreStmt, rows: &Rows, varies: bool, opens: &Opens) -> bool
     ensures { result ≡ is_stmt (rows_of rows.now) varies (ids_of opens.now) (plain_stmt stmt.now).stmt }
 {

@@ -15,7 +15,7 @@ use Rattle.pb_local.specs.Tree.{Program, Code, plain, plain_all, parts_of}
 use Rattle.pb_ctree.specs.Lines.{Item, close, else_open, if_open, for_open, loop_open}
 use Rattle.pb_cprint_lines.specs.Printed.{bytes}
 use Rattle.pb_cprint.specs.Written.{written, written_all, written_other, written_parts, part_written, choice_written, is_last}
-use Rattle.pb_cprint.proofs.Plains.{when_plain, for_plain, loop_plain, choice_plain}
+use Rattle.pb_local.proofs.Plains.{when_plain, for_plain, loop_plain, choice_plain}
 use Rattle.pb_cprint_lines.proofs.Steps.{onto}
 
 -- three appendings, of which the last may fail

@@ -1,6 +1,7 @@
 -- Bodies, and the lists that they stand in.
 use Rattle.std.proofs.Common.{◌≡◌, ℕ, zero, suc, ◌+◌, List, [], ◌∷◌, ◌++◌, drop, get_or, refl, sym, ap, ◌∙◌, append-nil, arith, Bool, true, false, add-one, nat_eq, eqb-true, rules}
 use Rattle.std.specs.Prelude.{IsTrue, not, ◌&&◌, if◌then◌else◌}
+use Rattle.std.proofs.lemmas.Bool.{and_parts}
 use Rattle.pb_ctree.specs.Bodies.{is_body, is_rest, is_marker, lines_of, before_lines}
 use Rattle.pb_ctree.specs.Frame.{first_body, other_bodies}
 use Rattle.pb_cprint.specs.Framed.{lines_text, body_written}
@@ -39,15 +40,11 @@ lines_some (d ∷ ds) rest = by_test (nat_eq d 10) where
   by_test true = tt
   by_test false = before_some d (lines_of ds)
 
-and_right : (a b : Bool) → (a && b) ≡ true → b ≡ true
-and_right true b e = e
-and_right false b e = absurd cc
-
 -- the lines of a body are its bytes
 whole : (begins : Bool) (bytes : List ℕ) → is_rest begins bytes ≡ true → lines_text (lines_of bytes) ≡ bytes
 whole begins [] rest = refl
 whole begins (c ∷ cs) rest =
-    let tail : is_rest (nat_eq c 10) cs ≡ true = and_right (not (begins && is_marker (c ∷ cs))) (is_rest (nat_eq c 10) cs) rest in
+    let tail : is_rest (nat_eq c 10) cs ≡ true = (and_parts (not (begins && is_marker (c ∷ cs))) (is_rest (nat_eq c 10) cs) rest).1 in
     by_test (nat_eq c 10) refl tail (whole (nat_eq c 10) cs tail) where
       by_test : (b : Bool) → nat_eq c 10 ≡ b → is_rest b cs ≡ true → lines_text (lines_of cs) ≡ cs → lines_text (if b then [] ∷ lines_of cs else before_lines c (lines_of cs)) ≡ c ∷ cs
       by_test true e tail same = ap (λ x. 10 ∷ x) same ∙ ap (λ x. x ∷ cs) (sym (eqb-true c 10 e))

@@ -2,7 +2,6 @@ pub mod Blocks
 pub mod Bodied
 pub mod Frames
 pub mod Lengths
-pub mod Plains
 pub mod Samples
 pub mod Texts
 pub mod Trees

@@ -2,11 +2,13 @@
 use Rattle.std.proofs.Common.{◌≡◌, ◌≢◌, ℕ, zero, suc, ◌<◌, ◌≤◌, List, [], ◌∷◌, length, refl, arith, inl}
 use Rattle.std.specs.Prelude.{All}
 use Rattle.std.proofs.lemmas.Int.{ints}
+use Rattle.pb_text.specs.Spellings as spellings
 use Rattle.pb_local.specs.declared.tables.Role.{Role}
 use Rattle.pb_local.specs.WellMade.{IsRole, IsWellMade}
 use Rattle.pb_cprint.specs.Sample.{sample}
 
 role_made : All (IsRole sample.range) sample.roles
+unfolding spellings.keys
 role_made zero d less = record {
   name = refl;
   low = record { low = omega (arith, ints); high = omega (arith, ints) };
@@ -18,6 +20,7 @@ role_made zero d less = record {
 role_made (suc k) d less = absurd (omega (arith, less))
 
 pub sample_made : IsWellMade sample
+unfolding spellings.keys
 sample_made = record {
   protocol = refl;
   range = record { some = omega arith; most = omega arith; high = tt };

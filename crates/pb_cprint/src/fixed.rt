@@ -5,6 +5,7 @@ ghost use Rattle.pb_cprint.specs.Framed.{title, buffers_written, prelude_marker,
 
 use pb_ctree::NoMemory;
 
+/// Appends the first line of a text, which has the number of the format.
 pub fn push_title(out: &mut Vec<u8>) -> Result<(), NoMemory>
     ensures { OnOk result (out.new.items ≡ out.old.items ++ title) }
 {
@@ -12,6 +13,7 @@ pub fn push_title(out: &mut Vec<u8>) -> Result<(), NoMemory>
     Ok(())
 }
 
+/// Appends the lines that include the headers and declare the buffers, each of 1,024 words.
 pub fn push_buffers(out: &mut Vec<u8>) -> Result<(), NoMemory>
     ensures { OnOk result (out.new.items ≡ out.old.items ++ buffers_written) }
 {
@@ -21,6 +23,7 @@ pub fn push_buffers(out: &mut Vec<u8>) -> Result<(), NoMemory>
     Ok(())
 }
 
+/// Appends the line that opens the prelude.
 pub fn push_prelude_marker(out: &mut Vec<u8>) -> Result<(), NoMemory>
     ensures { OnOk result (out.new.items ≡ out.old.items ++ prelude_marker) }
 {
@@ -28,6 +31,7 @@ pub fn push_prelude_marker(out: &mut Vec<u8>) -> Result<(), NoMemory>
     Ok(())
 }
 
+/// Appends the line that ends the prelude or a body.
 pub fn push_end_marker(out: &mut Vec<u8>) -> Result<(), NoMemory>
     ensures { OnOk result (out.new.items ≡ out.old.items ++ end_marker) }
 {
@@ -35,6 +39,7 @@ pub fn push_end_marker(out: &mut Vec<u8>) -> Result<(), NoMemory>
     Ok(())
 }
 
+/// Appends the line that opens a function.
 pub fn push_brace(out: &mut Vec<u8>) -> Result<(), NoMemory>
     ensures { OnOk result (out.new.items ≡ out.old.items ++ brace) }
 {
@@ -42,6 +47,7 @@ pub fn push_brace(out: &mut Vec<u8>) -> Result<(), NoMemory>
     Ok(())
 }
 
+/// Appends the line that closes a function.
 pub fn push_end_brace(out: &mut Vec<u8>) -> Result<(), NoMemory>
     ensures { OnOk result (out.new.items ≡ out.old.items ++ end_brace) }
 {
@@ -49,6 +55,7 @@ pub fn push_end_brace(out: &mut Vec<u8>) -> Result<(), NoMemory>
     Ok(())
 }
 
+/// Appends the first lines of `main`, up to the rank's own number.
 pub fn push_start(out: &mut Vec<u8>) -> Result<(), NoMemory>
     ensures { OnOk result (out.new.items ≡ out.old.items ++ start_written) }
 {
@@ -58,6 +65,7 @@ pub fn push_start(out: &mut Vec<u8>) -> Result<(), NoMemory>
     Ok(())
 }
 
+/// Appends the lines that set R, I, a and i to 0.
 pub fn push_zeros(out: &mut Vec<u8>) -> Result<(), NoMemory>
     ensures { OnOk result (out.new.items ≡ out.old.items ++ zeros_written) }
 {
@@ -65,6 +73,7 @@ pub fn push_zeros(out: &mut Vec<u8>) -> Result<(), NoMemory>
     Ok(())
 }
 
+/// Appends the line that ends the program with 2 where the number of ranks is wrong, and its closing brace.
 pub fn push_abort_size(out: &mut Vec<u8>) -> Result<(), NoMemory>
     ensures { OnOk result (out.new.items ≡ out.old.items ++ abort_size) }
 {
@@ -72,6 +81,7 @@ pub fn push_abort_size(out: &mut Vec<u8>) -> Result<(), NoMemory>
     Ok(())
 }
 
+/// Appends the closing brace behind a role and an index.
 pub fn push_seat_end(out: &mut Vec<u8>) -> Result<(), NoMemory>
     ensures { OnOk result (out.new.items ≡ out.old.items ++ seat_end) }
 {
@@ -79,6 +89,7 @@ pub fn push_seat_end(out: &mut Vec<u8>) -> Result<(), NoMemory>
     Ok(())
 }
 
+/// Appends the last lines of `main`.
 pub fn push_finish(out: &mut Vec<u8>) -> Result<(), NoMemory>
     ensures { OnOk result (out.new.items ≡ out.old.items ++ end_written) }
 {

@@ -1,18 +1,20 @@
 //! The text around the statements.
 
-ghost use Rattle.std.specs.Prelude.{◌≡◌, ◌++◌, OnOk, decimal};
+ghost use Rattle.std.specs.Prelude.{◌≡◌, ◌++◌, OnOk};
 ghost use Rattle.std.specs.Fmt.{signed_decimal};
 ghost use Rattle.pb_ctree.specs.Frame.{high_text, payload_text, element_text, kernel_letter, kernel_type, above_text};
 ghost use Rattle.pb_ctree.specs.Small.{sum_text};
 ghost use Rattle.pb_ctree.specs.Trees.{sum_of};
 ghost use Rattle.pb_cprint.specs.Framed.{protocol_line, range_line, role_line, label_line, place_head, place_line, make_line, take_line, kernel_line, make_marker, take_marker, kernel_marker, n_single, n_divided, test_size, rank_line, role_is, index_is};
 
-use pb_cprint_lines::{push_count, push_decimal, push_lin, push_signed};
+use pb_cprint_lines::push_lin;
 use pb_ctree::{
     CoreKernel, CoreLabel, Formula, KernelKind, Local, NRange, Name, NoMemory, Payload, Role,
 };
 use pb_local::{push_indent, push_pieces};
+use pb_text::{push_decimal, push_number};
 
+/// Appends the bytes of a name.
 pub fn push_name(out: &mut Vec<u8>, name: &Name) -> Result<(), NoMemory>
     ensures { OnOk result (out.new.items ≡ out.old.items ++ name.now) }
 {
@@ -25,7 +27,7 @@ fn push_high(out: &mut Vec<u8>, high: Option<u32>) -> Result<(), NoMemory>
 {
     match high {
         None => push_pieces(out, &[b"max"]),
-        Some(n) => push_decimal(out, n),
+        Some(n) => push_decimal(out, u64::from(n)),
     }
 }
 
@@ -36,13 +38,13 @@ fn push_payload(out: &mut Vec<u8>, payload: Payload) -> Result<(), NoMemory>
         Payload::Unit => push_pieces(out, &[b"()"]),
         Payload::Int32(count) => {
             push_pieces(out, &[b"int32["])?;
-            push_decimal(out, count)?;
+            push_decimal(out, u64::from(count))?;
             out.push(b']')?;
             Ok(())
         }
         Payload::Uint32(count) => {
             push_pieces(out, &[b"uint32["])?;
-            push_decimal(out, count)?;
+            push_decimal(out, u64::from(count))?;
             out.push(b']')?;
             Ok(())
         }
@@ -53,21 +55,21 @@ fn push_payload(out: &mut Vec<u8>, payload: Payload) -> Result<(), NoMemory>
 fn push_sum(out: &mut Vec<u8>, sum: Formula) -> Result<(), NoMemory>
     ensures { OnOk result (out.new.items ≡ out.old.items ++ sum_text (sum_of sum)) }
 {
-    push_signed(out, sum.a)?;
+    push_number(out, sum.a)?;
     push_pieces(out, &[b" * N + "])?;
-    push_signed(out, sum.b)
+    push_number(out, sum.b)
 }
 
 fn push_a(out: &mut Vec<u8>, sum: Formula) -> Result<(), NoMemory>
     ensures { OnOk result (out.new.items ≡ out.old.items ++ signed_decimal sum.a) }
 {
-    push_signed(out, sum.a)
+    push_number(out, sum.a)
 }
 
 fn push_b(out: &mut Vec<u8>, sum: Formula) -> Result<(), NoMemory>
     ensures { OnOk result (out.new.items ≡ out.old.items ++ signed_decimal sum.b) }
 {
-    push_signed(out, sum.b)
+    push_number(out, sum.b)
 }
 
 fn push_element(out: &mut Vec<u8>, payload: Payload) -> Result<(), NoMemory>
@@ -104,7 +106,7 @@ fn push_above(out: &mut Vec<u8>, high: Option<u32>) -> Result<(), NoMemory>
 {
     if let Some(n) = high {
         push_pieces(out, &[b" || N > "])?;
-        push_decimal(out, n)?;
+        push_decimal(out, u64::from(n))?;
     }
     Ok(())
 }
@@ -125,7 +127,7 @@ pub fn push_range(out: &mut Vec<u8>, range: NRange) -> Result<(), NoMemory>
     ensures { OnOk result (out.new.items ≡ out.old.items ++ range_line range) }
 {
     push_pieces(out, &[b"/* N "])?;
-    push_decimal(out, range.low)?;
+    push_decimal(out, u64::from(range.low))?;
     push_pieces(out, &[b" to "])?;
     push_high(out, range.high)?;
     push_pieces(out, &[b" */"])?;
@@ -264,7 +266,7 @@ pub fn push_n_single(out: &mut Vec<u8>, range: NRange) -> Result<(), NoMemory>
 {
     push_indent(out, 1)?;
     push_pieces(out, &[b"N = "])?;
-    push_decimal(out, range.low)?;
+    push_decimal(out, u64::from(range.low))?;
     push_pieces(out, &[b";"])?;
     out.push(b'\n')?;
     Ok(())
@@ -290,7 +292,7 @@ pub fn push_test_size(out: &mut Vec<u8>, range: NRange, size: Formula) -> Result
 {
     push_indent(out, 1)?;
     push_pieces(out, &[b"if (N < "])?;
-    push_decimal(out, range.low)?;
+    push_decimal(out, u64::from(range.low))?;
     push_above(out, range.high)?;
     push_pieces(out, &[b" || "])?;
     push_sum(out, size)?;
@@ -317,7 +319,7 @@ pub fn push_role_is(out: &mut Vec<u8>, role: usize) -> Result<(), NoMemory>
 {
     push_indent(out, 2)?;
     push_pieces(out, &[b"R = "])?;
-    push_count(out, role)?;
+    push_decimal(out, role as u64)?;
     push_pieces(out, &[b";"])?;
     out.push(b'\n')?;
     Ok(())

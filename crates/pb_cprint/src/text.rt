@@ -35,6 +35,7 @@ fn push_labels(out: &mut Vec<u8>, labels: &[CoreLabel]) -> Result<(), NoMemory>
     Ok(())
 }
 
+/// Appends the lines before the prelude: the title, the tables of the program, and the buffers.
 #[tactic(auto, unfolding(crate::specs::Framed::head_written))]
 pub fn push_head(local: &Local, out: &mut Vec<u8>) -> Result<(), NoMemory>
     ensures { OnOk result (out.new.items ≡ out.old.items ++ head_written (program_of local.now)) }
@@ -65,6 +66,7 @@ fn push_body_at(out: &mut Vec<u8>, bodies: &[Body], at: usize) -> Result<(), NoM
     }
 }
 
+/// Appends the prelude between its two markers.
 #[tactic(auto, unfolding(crate::specs::Framed::prelude_written))]
 pub fn push_prelude(out: &mut Vec<u8>, prelude: &Body) -> Result<(), NoMemory>
     ensures { OnOk result (out.new.items ≡ out.old.items ++ prelude_written prelude.now) }
@@ -84,6 +86,7 @@ fn push_number(out: &mut Vec<u8>, role: &Role, place: Formula) -> Result<(), NoM
     push_end_brace(out)
 }
 
+/// Appends a function for each role, which numbers its ranks. There are as many places as roles.
 pub fn push_numbers(out: &mut Vec<u8>, roles: &[Role], places: &[Formula]) -> Result<(), NoMemory>
     requires { length places.now ≡ length roles.now }
     ensures { OnOk result (out.new.items ≡ out.old.items ++ numbers_written roles.now (map sum_of places.now)) }
@@ -189,6 +192,7 @@ pub fn push_words(
     Ok(at)
 }
 
+/// Appends the functions of at most 4,000 kernels, whose bodies stand from `start` on, which is at most 8,000.
 #[tactic(auto, using(crate::proofs::Bodied::first_at, crate::proofs::Bodied::others_at))]
 pub fn push_kernels(
     out: &mut Vec<u8>,
@@ -219,6 +223,7 @@ fn push_n(out: &mut Vec<u8>, range: NRange, size: Formula) -> Result<(), NoMemor
     }
 }
 
+/// Appends the lines that set N, and end the program where it isn't in the range or doesn't fit the number of ranks.
 #[tactic(auto, unfolding(crate::specs::Framed::size_written))]
 pub fn push_size(out: &mut Vec<u8>, range: NRange, size: Formula) -> Result<(), NoMemory>
     ensures { OnOk result (out.new.items ≡ out.old.items ++ size_written range (sum_of size)) }
@@ -239,6 +244,7 @@ fn push_seat(out: &mut Vec<u8>, role: usize, base: Formula, place: Formula) -> R
     push_seat_end(out)
 }
 
+/// Appends the lines that find the role and the index of a rank. There are as many places as bases, one for each role.
 pub fn push_seats(out: &mut Vec<u8>, bases: &[Formula], places: &[Formula]) -> Result<(), NoMemory>
     requires { length places.now ≡ length bases.now }
     ensures { OnOk result (out.new.items ≡ out.old.items ++ seats_written 0 (map sum_of bases.now) (map sum_of places.now)) }

@@ -1,6 +1,6 @@
 //! The lines of statements. Each takes its depth, which is the number of open braces.
 
-ghost use Rattle.std.specs.Prelude.{◌≡◌, ◌++◌, OnOk, decimal};
+ghost use Rattle.std.specs.Prelude.{◌≡◌, ◌++◌, OnOk};
 ghost use Rattle.pb_local.specs.Pieces.{line};
 ghost use Rattle.pb_local.specs.Tables.{kernel_at};
 ghost use Rattle.pb_local.specs.Tree.{program_of};
@@ -9,21 +9,13 @@ ghost use Rattle.pb_ctree.specs.Small.{outgoing, incoming};
 ghost use Rattle.pb_cprint_lines.specs.Printed.{bytes};
 
 use crate::small::{
-    push_cond, push_decimal, push_lin, push_offset, push_peer, push_received, push_received_call,
-    push_reduced, push_root, push_sent, push_sent_call, push_test,
+    push_cond, push_lin, push_offset, push_peer, push_received, push_received_call, push_reduced,
+    push_root, push_sent, push_sent_call, push_test,
 };
 use itoa::Buffer;
 use pb_ctree::{Guard, Lin, Local, NoMemory, Op, Peer};
 use pb_local::{push_indent, push_pieces};
-
-/// Appends a count in decimal digits.
-pub fn push_count(out: &mut Vec<u8>, n: usize) -> Result<(), NoMemory>
-    ensures { OnOk result (out.new.items ≡ out.old.items ++ decimal n) }
-{
-    let mut buffer = Buffer::new();
-    out.extend_from_slice(buffer.format(n).as_bytes())?;
-    Ok(())
-}
+use pb_text::push_decimal;
 
 fn push_kernel_name(local: &Local, out: &mut Vec<u8>, kernel: u32) -> Result<(), NoMemory>
     ensures { OnOk result (out.new.items ≡ out.old.items ++ (kernel_at (program_of local.now) kernel).name) }
@@ -108,7 +100,7 @@ pub fn push_loop(local: &Local, out: &mut Vec<u8>, depth: usize, id: u32) -> Res
 {
     push_indent(out, depth)?;
     out.push(b'L')?;
-    push_decimal(out, id)?;
+    push_decimal(out, u64::from(id))?;
     push_pieces(out, &[b": {\n"])
 }
 
@@ -118,7 +110,7 @@ pub fn push_goto(local: &Local, out: &mut Vec<u8>, depth: usize, id: u32) -> Res
 {
     push_indent(out, depth)?;
     push_pieces(out, &[b"goto L"])?;
-    push_decimal(out, id)?;
+    push_decimal(out, u64::from(id))?;
     push_pieces(out, &[b";\n"])
 }
 
@@ -224,7 +216,7 @@ pub fn push_mpi_send(
     push_pieces(out, &[b", "])?;
     push_peer(local, out, to)?;
     push_pieces(out, &[b", "])?;
-    push_decimal(out, label)?;
+    push_decimal(out, u64::from(label))?;
     push_pieces(out, &[b", MPI_COMM_WORLD);"])?;
     out.push(b'\n')?;
     Ok(())
@@ -246,7 +238,7 @@ pub fn push_mpi_recv(
     push_pieces(out, &[b", "])?;
     push_peer(local, out, from)?;
     push_pieces(out, &[b", "])?;
-    push_decimal(out, label)?;
+    push_decimal(out, u64::from(label))?;
     push_pieces(out, &[b", MPI_COMM_WORLD, MPI_STATUS_IGNORE);"])?;
     out.push(b'\n')?;
     Ok(())
@@ -403,7 +395,7 @@ pub fn push_picks(
 {
     push_indent(out, depth)?;
     push_pieces(out, &[b"a = "])?;
-    push_decimal(out, branch)?;
+    push_decimal(out, u64::from(branch))?;
     push_pieces(out, &[b";\n"])
 }
 
@@ -435,7 +427,7 @@ pub fn push_else_pick(
 {
     push_indent(out, depth)?;
     push_pieces(out, &[b"} else if (a == "])?;
-    push_count(out, branch)?;
+    push_decimal(out, branch as u64)?;
     push_pieces(out, &[b") {"])?;
     out.push(b'\n')?;
     Ok(())

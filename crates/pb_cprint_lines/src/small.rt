@@ -1,33 +1,14 @@
 //! Numbers, lins, guards and ranks as they are spelled in C.
 
-ghost use Rattle.std.specs.Prelude.{◌≡◌, ◌++◌, OnOk, Some, None, decimal};
-ghost use Rattle.std.specs.Fmt.{signed_decimal};
+ghost use Rattle.std.specs.Prelude.{◌≡◌, ◌++◌, OnOk, Some, None};
 ghost use Rattle.pb_ctree.specs.Small.{offset_text, lin_text, index_text, from_text, to_text, guard_text, others_text, cond_text, peer_text, root_text, buffer_text, outgoing, incoming, type_text, count_of, op_text, words_text, call_text, reduced_text};
 ghost use Rattle.pb_ctree.specs.Lines.{test_text};
 ghost use Rattle.pb_local.specs.Tree.{program_of};
 ghost use Rattle.pb_cprint_lines.specs.Printed.{several_text};
 
-use itoa::Buffer;
 use pb_ctree::{Base, Guard, Lin, Local, NoMemory, Op, Payload, Peer};
 use pb_local::{is_same_lin, push_pieces};
-
-/// Appends a number in decimal digits.
-pub fn push_decimal(out: &mut Vec<u8>, n: u32) -> Result<(), NoMemory>
-    ensures { OnOk result (out.new.items ≡ out.old.items ++ decimal n) }
-{
-    let mut buffer = Buffer::new();
-    out.extend_from_slice(buffer.format(n).as_bytes())?;
-    Ok(())
-}
-
-/// Appends a number with its sign, where it has one.
-pub fn push_signed(out: &mut Vec<u8>, n: i64) -> Result<(), NoMemory>
-    ensures { OnOk result (out.new.items ≡ out.old.items ++ signed_decimal n) }
-{
-    let mut buffer = Buffer::new();
-    out.extend_from_slice(buffer.format(n).as_bytes())?;
-    Ok(())
-}
+use pb_text::{push_decimal, push_number};
 
 /// Appends ` + 1` or ` - 1`, and nothing for 0.
 pub fn push_offset(out: &mut Vec<u8>, off: i32) -> Result<(), NoMemory>
@@ -35,10 +16,10 @@ pub fn push_offset(out: &mut Vec<u8>, off: i32) -> Result<(), NoMemory>
 {
     if off < 0 {
         out.extend_from_slice(b" - ")?;
-        push_decimal(out, off.unsigned_abs())?;
+        push_decimal(out, u64::from(off.unsigned_abs()))?;
     } else if 0 < off {
         out.extend_from_slice(b" + ")?;
-        push_decimal(out, off.unsigned_abs())?;
+        push_decimal(out, u64::from(off.unsigned_abs()))?;
     }
     Ok(())
 }
@@ -48,7 +29,7 @@ pub fn push_lin(out: &mut Vec<u8>, lin: Lin) -> Result<(), NoMemory>
     ensures { OnOk result (out.new.items ≡ out.old.items ++ lin_text lin) }
 {
     match lin.base {
-        Base::Fixed => push_signed(out, i64::from(lin.off)),
+        Base::Fixed => push_number(out, i64::from(lin.off)),
         Base::Param => {
             out.push(b'N')?;
             push_offset(out, lin.off)
@@ -95,7 +76,7 @@ fn push_from(out: &mut Vec<u8>, from: Option<u32>) -> Result<(), NoMemory>
 {
     if let Some(n) = from {
         push_pieces(out, &[b" && N >= "])?;
-        push_decimal(out, n)?;
+        push_decimal(out, u64::from(n))?;
     }
     Ok(())
 }
@@ -105,7 +86,7 @@ fn push_to(out: &mut Vec<u8>, to: Option<u32>) -> Result<(), NoMemory>
 {
     if let Some(n) = to {
         push_pieces(out, &[b" && N <= "])?;
-        push_decimal(out, n)?;
+        push_decimal(out, u64::from(n))?;
     }
     Ok(())
 }
@@ -114,7 +95,7 @@ fn push_guard(out: &mut Vec<u8>, guard: Guard) -> Result<(), NoMemory>
     ensures { OnOk result (out.new.items ≡ out.old.items ++ guard_text guard) }
 {
     push_pieces(out, &[b"R == "])?;
-    push_decimal(out, guard.role)?;
+    push_decimal(out, u64::from(guard.role))?;
     push_index(out, guard.low, guard.high)?;
     push_from(out, guard.from)?;
     push_to(out, guard.to)
@@ -155,7 +136,7 @@ fn push_several(out: &mut Vec<u8>, first: Guard, others: &[Guard]) -> Result<(),
 pub fn push_test(out: &mut Vec<u8>, label: u32, guards: &[Guard]) -> Result<(), NoMemory>
     ensures { OnOk result (out.new.items ≡ out.old.items ++ test_text label guards.now) }
 {
-    push_decimal(out, label)?;
+    push_decimal(out, u64::from(label))?;
     push_pieces(out, &[b" && ("])?;
     push_cond(out, guards)?;
     push_pieces(out, &[b")) {"])
@@ -176,7 +157,7 @@ pub fn push_root(out: &mut Vec<u8>, root: Peer) -> Result<(), NoMemory>
     ensures { OnOk result (out.new.items ≡ out.old.items ++ root_text root) }
 {
     push_pieces(out, &[b"R == "])?;
-    push_decimal(out, root.role)?;
+    push_decimal(out, u64::from(root.role))?;
     push_pieces(out, &[b" && I == "])?;
     push_lin(out, root.at)
 }
@@ -237,7 +218,7 @@ pub fn push_sent(local: &Local, out: &mut Vec<u8>, label: u32) -> Result<(), NoM
 {
     let payload = local.payload(label);
     push_pieces(out, &[sent_from(payload), b", "])?;
-    push_decimal(out, count(payload))?;
+    push_decimal(out, u64::from(count(payload)))?;
     push_pieces(out, &[b", ", type_name(payload)])
 }
 
@@ -247,7 +228,7 @@ pub fn push_received(local: &Local, out: &mut Vec<u8>, label: u32) -> Result<(),
 {
     let payload = local.payload(label);
     push_pieces(out, &[received_into(payload), b", "])?;
-    push_decimal(out, count(payload))?;
+    push_decimal(out, u64::from(count(payload)))?;
     push_pieces(out, &[b", ", type_name(payload)])
 }
 

@@ -1,6 +1,7 @@
 -- Whether a line is ahead before the statements.
-use Rattle.std.proofs.Common.{◌≡◌, ℕ, Bool, true, false, List, [], ◌∷◌, ◌++◌, map, Some, None, refl}
+use Rattle.std.proofs.Common.{◌≡◌, ℕ, Bool, true, false, List, [], ◌∷◌, ◌++◌, map, Some, refl}
 use Rattle.std.specs.Prelude.{not}
+use Rattle.std.proofs.lemmas.Option.{none-some}
 use Rattle.pb_syntax.specs.declared.core_label.CoreLabel.{CoreLabel}
 use Rattle.pb_syntax.specs.declared.core_label.CoreKernel.{CoreKernel}
 use Rattle.pb_local.specs.declared.tables.Role.{Role}
@@ -77,9 +78,6 @@ whole_done_at r (text ∷ texts) phase q e = absurd cc
 pub whole_done : (s : State) (q : Rest) → is_done s ≡ true → whole s q ≡ in_functions s.read [] s.read.prelude []
 whole_done s q e = whole_done_at s.read s.awaited s.phase q e
 
-none_some : {X : Type 0} (x : X) → None ≡ Some x → ⊥
-none_some x e = absurd cc
-
 not_done_at : (r : Read) (awaited : List (List ℕ)) (phase : Phase) (text : List ℕ) (t : State) → step_at r awaited phase text ≡ Some t → done_at awaited phase ≡ false
 not_done_at r [] at_protocol text t e = refl
 not_done_at r [] at_range text t e = refl
@@ -87,7 +85,7 @@ not_done_at r [] at_roles text t e = refl
 not_done_at r [] at_labels text t e = refl
 not_done_at r [] (in_body owner) text t e = refl
 not_done_at r [] at_kernels text t e = refl
-not_done_at r [] at_statements text t e = absurd (none_some t e)
+not_done_at r [] at_statements text t e = absurd (none-some t e)
 not_done_at r (a ∷ more) phase text t e = refl
 
 -- nothing goes on where the statements come next

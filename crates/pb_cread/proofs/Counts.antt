@@ -1,5 +1,6 @@
 -- How many braces are open, and how many statements have begun, behind lines that were read.
 use Rattle.std.proofs.Common.{◌≡◌, ℕ, zero, suc, ◌+◌, ◌-◌, ◌≤◌, ◌<◌, Bool, List, [], ◌∷◌, length, take, Some, refl, sym, ap, subst, ◌∙◌, arith, ◌⊎◌, inl, inr}
+use Rattle.std.proofs.lemmas.Option.{same_Some}
 use Rattle.pb_local.specs.Tree.{Codes, Program}
 use Rattle.pb_local.specs.WellMade.{outermost}
 use Rattle.pb_ctree.specs.Lines.{Line}
@@ -10,9 +11,6 @@ use Rattle.pb_cread_statements.proofs.Laws.{reads_fronts, counts_braces}
 use Rattle.pb_cread.specs.Limits.{opened, closed, open_behind, begun_behind, IsWithin}
 use Rattle.pb_cread.specs.Reached.{with_body}
 use Rattle.pb_cread.proofs.Tables.{spelled_same, marks_same}
-
-some_same : {X : Type 0} (x y : X) → Some x ≡ Some y → x ≡ y
-some_same x y e = cc
 
 opened_same : (items : List Place) (ls : List Line) → Begins items ls → opened_in items ≡ opened (take (length items) ls)
 opened_same [] ls b = refl
@@ -37,7 +35,7 @@ counts p c items s e b =
     let o = opened_same items (main_lines p c) b in
     let k = closed_same items (main_lines p c) b in
     let r = reads_fronts p c items b in
-    let one : r.0 ≡ s = some_same r.0 s (sym r.1 ∙ e) in
+    let one : r.0 ≡ s = same_Some r.0 s (sym r.1 ∙ e) in
     let balance : open_braces s + closed (take n (main_lines p c)) ≡ 1 + opened (take n (main_lines p c)) = ap (λ x. open_braces s + x) (sym k) ∙ counts_braces p items s e ∙ ap (λ x. 1 + x) o in
     record {
       braces = ap (λ ls. (1 + opened (take n ls)) - closed (take n ls)) (spelled_same p c 1 outermost c) ∙ difference (opened (take n (main_lines p c))) (closed (take n (main_lines p c))) (open_braces s) balance;

@@ -1,6 +1,7 @@
 -- Whether a line of statements goes on.
 use Rattle.std.proofs.Common.{◌≡◌, ℕ, Bool, true, false, cond, List, Some, None, Result, Ok, Err, sym, ap, subst, ◌∙◌}
 use Rattle.std.specs.Prelude.{IfOk}
+use Rattle.std.proofs.lemmas.Option.{none-some}
 use Rattle.pb_local.specs.Tree.{Program}
 use Rattle.pb_ctree.specs.Lines.{Item}
 use Rattle.pb_cread_lines.specs.Fits.{FitsNumber, Fits}
@@ -16,9 +17,6 @@ same_line_of p s u line depth a b e only head d i number fit is goes =
     let o = only head d i number fit is in
     (o.0, sym (only_one p s u d i b o.1 goes) ∙ sym e)
 
-none_some : (t : State) → None ≡ Some t → ⊥
-none_some t e = cc
-
 pub judged : (p : Program) (s t : State) (went : Bool) (depth : ℕ) (a b : Item) (line : List ℕ) → a ≡ relabelled p s.wanted b → goes_on p s depth a ≡ cond went (Some t) None → IsLine p line depth b → IsOnlyLine p line depth b → HasHead p → Judged went p s line t
 judged p s t true depth a b line e goes is only head =
     let A : Item → Type 0 = λ i. IsLine p line depth i in
@@ -31,7 +29,7 @@ judged p s t true depth a b line e goes is only head =
     }
 judged p s t false depth a b line e goes is only head = λ d i u number fit own on.
     let o = same_line_of p s u line depth a b e only head d i number fit own on in
-    none_some u (sym goes ∙ ap (λ (x : ℕ). goes_on p s x a) (sym o.0) ∙ ap (goes_on p s d) (sym o.1) ∙ on)
+    none-some u (sym goes ∙ ap (λ (x : ℕ). goes_on p s x a) (sym o.0) ∙ ap (goes_on p s d) (sym o.1) ∙ on)
 
 pub none_judged : (p : Program) (s t : State) (line : List ℕ) → IsNoLine p line → HasHead p → Judged false p s line t
 none_judged p s t line none head = λ d i u number fit own on. none head d i number fit own

@@ -1,7 +1,9 @@
 -- Where texts end, and end too early.
-use Rattle.std.proofs.Common.{◌≡◌, ℕ, suc, ◌+◌, ◌≤◌, ◌<◌, Bool, true, false, List, [], ◌∷◌, ◌++◌, map, length, Some, refl, sym, ap, subst, ◌∙◌, arith, append_assoc, append-nil, length-append}
+use Rattle.std.proofs.Common.{◌≡◌, ℕ, suc, ◌+◌, ◌≤◌, ◌<◌, true, false, List, [], ◌∷◌, ◌++◌, map, length, Some, refl, sym, ap, subst, ◌∙◌, arith, append_assoc, append-nil, length-append}
 use Rattle.std.specs.Prelude.{All, codes}
 use Rattle.std.proofs.lemmas.List.Elements.{All-push, All-cons}
+use Rattle.std.proofs.lemmas.Bool.{both_ways}
+use Rattle.std.proofs.lemmas.Option.{same_Some}
 use Rattle.pb_text.specs.declared.place.Place.{Place}
 use Rattle.pb_text.specs.Places.{one_more}
 use Rattle.pb_local.specs.Pieces as P
@@ -143,14 +145,11 @@ keeps p lines s done t finished =
     let many = are_many t.items (main_lines p c) are in
     let w = within_all (with_body p c) (length t.items) (t.within c (are_begins t.items (main_lines p c) are)) (at_most (ap length (spelled_same p c 1 outermost c) ∙ sym many)) (at_most (ap length (marks_same p c c) ∙ (marks_statements p c).0 ∙ sym many)) in
     let x = reads_statements p c t.items are in
-    let one : x.0 ≡ s = some_same x.0 s (sym x.1 ∙ t.reads) in
+    let one : x.0 ≡ s = same_Some x.0 s (sym x.1 ∙ t.reads) in
     let size : size_all c ≡ s.begun = sym x.5 ∙ ap (λ (u : M.State). u.begun) one in
     record { deep = w.deep; many = (let e = t.many in omega (arith, e, size)) } where
       at_most : {a b : ℕ} → a ≡ b → a ≤ b
       at_most e = omega (arith, e)
-
-      some_same : (a b : M.State) → Some a ≡ Some b → a ≡ b
-      some_same a b e = cc
 
 good_end : (frame lines last left : List (List ℕ)) (r : Read) (s : M.State) (done : List Code) → Framed frame r → Stated (headed r) lines s → M.finished s ≡ Some done → last ++ left ≡ last_texts → IsGood (frame ++ (lines ++ finalize ∷ last))
 good_end frame lines last left r s done f t finished parts =
@@ -283,9 +282,6 @@ refuses text rest n r done last left place i no_next no_rest a b =
 on_head : (text rest : List ℕ) (n : ℕ) (r : Read) (p : Program) (done : List Code) (last left : List (List ℕ)) → InEnd text rest n r p done last left → InEnd text rest n r (headed r) done last left
 on_head text rest n r p done last left i = let A : Program → Type 0 = λ q. InEnd text rest n r q done last left in subst A (sym i.is) i
 
-apart_now : (x : Bool) → x ≡ true → x ≡ false → ⊥
-apart_now x f g = cc
-
 -- another line than the one that is left
 pub end_stops : (text rest : List ℕ) (n : ℕ) (r : Read) (p : Program) (done : List Code) (last left : List (List ℕ)) (e l m : List ℕ) (place : Place) → InEnd text rest n r p done last (e ∷ left) → IsFirst rest l m → same_line e l ≡ false → place.line ≡ n → place.col ≡ 1 → Comes text place IsUnexpected
 end_stops text rest n r p done last left e l m place i first other a b =
@@ -295,7 +291,7 @@ end_stops text rest n r p done last left e l m place i first other a b =
       no : (line : List ℕ) → line ≡ l → (behind : List (List ℕ)) → e ∷ left ≡ line ∷ behind → ⊥
       no line f behind same =
           let g : e ≡ l = (let h : e ≡ line = cc in h ∙ f) in
-          apart_now (same_line e l) (ap (λ (x : List ℕ). same_line x l) g ∙ same_refl l) other
+          both_ways (same_line e l) other (ap (λ (x : List ℕ). same_line x l) g ∙ same_refl l)
 
       cons : e ∷ left ≡ [] → ⊥
       cons f = cc

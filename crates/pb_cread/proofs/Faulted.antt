@@ -1,7 +1,8 @@
 -- Which line is at fault where reading stops.
-use Rattle.std.proofs.Common.{◌≡◌, ℕ, suc, Bool, true, false, List, [], ◌∷◌, ◌++◌, map, length, Option, Some, None, refl, sym, ap, subst, ◌∙◌, arith, append_assoc, append-nil}
+use Rattle.std.proofs.Common.{◌≡◌, ℕ, suc, true, false, List, [], ◌∷◌, ◌++◌, map, length, Option, Some, None, refl, sym, ap, subst, ◌∙◌, arith, append_assoc, append-nil}
 use Rattle.std.specs.Prelude.{All}
 use Rattle.std.proofs.lemmas.List.Elements.{All-push}
+use Rattle.std.proofs.lemmas.Option.{same_Some}
 use Rattle.pb_text.specs.declared.place.Place.{Place}
 use Rattle.pb_text.specs.Places.{one_more}
 use Rattle.pb_local.specs.Tree.{Codes, Program}
@@ -36,11 +37,8 @@ frame_goes text rest n s t l m f first goes = record {
   name = f.name;
   reads = read_on f.lines l (start_with f.name) s t f.reads goes;
 } where
-  some_is : (s u : State) → Some s ≡ Some u → s ≡ u
-  some_is s u e = cc
-
   read_on : (lines : List (List ℕ)) (l : List ℕ) (r s t : State) → K.read lines r ≡ Some s → step s l ≡ Some t → K.read (lines ++ l ∷ []) r ≡ Some t
-  read_on [] l r s t e goes = ap (λ (u : State). K.then_read (step u l) (K.read [])) (some_is r s e) ∙ ap (λ o. K.then_read o (K.read [])) goes
+  read_on [] l r s t e goes = ap (λ (u : State). K.then_read (step u l) (K.read [])) (same_Some r s e) ∙ ap (λ o. K.then_read o (K.read [])) goes
   read_on (x ∷ xs) l r s t e goes = on (step r x) e (λ n f. read_on xs l n s t f goes) where
     on : (o : Option State) → K.then_read o (K.read xs) ≡ Some s → ((n : State) → K.read xs n ≡ Some s → K.read (xs ++ l ∷ []) n ≡ Some t) → K.then_read o (K.read (xs ++ l ∷ [])) ≡ Some t
     on None e others = absurd cc
@@ -112,9 +110,6 @@ onward text rest n r s i l one front =
     let B : List (List ℕ) → Type 0 = λ xs. Starts h xs (main_lines h c ++ end_lines) in
     let before = inner_lines h i.lines (main_lines h c) rows i.stated.inner (starts_front h (map bare i.lines) (bare l ∷ []) (main_lines h c ++ end_lines) (subst B (bares_push i.lines l) o.behind)) in
     record { body = c; behind = o.behind; before = before }
-
-not_both : (x : Bool) → x ≡ true → x ≡ false → ⊥
-not_both x a b = cc
 
 pub main_stops : (text rest : List ℕ) (n : ℕ) (r : Read) (p : Program) (s : M.State) (l m : List ℕ) (place : Place) → InMain text rest n r p s → IsFirst rest l m → same_line finalize l ≡ false → NoneGoes p s (bare l) → place.line ≡ n → place.col ≡ 1 → Comes text place IsUnexpected
 main_stops text rest n r p s l m place i first inner none a b =

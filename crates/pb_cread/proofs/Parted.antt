@@ -1,11 +1,11 @@
 -- Where in a text the lines before its statements end.
 use Rattle.std.proofs.Common.{◌≡◌, ℕ, suc, ◌<◌, true, false, List, [], ◌∷◌, ◌++◌, length, Option, Some, None, refl, sym, ap, subst, ◌∙◌, arith}
+use Rattle.std.proofs.lemmas.Option.{same_Some, none-some}
 use Rattle.pb_cread_frame.specs.Ahead.{Shown, Rest, ahead, Whole, whole}
 use Rattle.pb_cread_frame.specs.Laws.{then_read, read, Begins}
 use Rattle.pb_cread_frame.specs.Reading.{State, step, is_done}
 use Rattle.pb_cread_frame.specs.Steps.{GoesAlong}
 use Rattle.pb_cread_frame.proofs.Follow.{follows_all}
-use Rattle.pb_cread_frame.proofs.Turns.{some_same, not_none}
 use Rattle.pb_cread.proofs.Ahead.{HasLine, some_ahead, none_ahead, not_done}
 
 -- the lines are those ahead, and others stand behind them
@@ -28,13 +28,13 @@ ended t s q more tail e done b =
     record { rest = q; same = ap (λ (u : State). whole u q) e; many = ap length none; behind = subst P none b }
 
 pub parted : (lines more : List (List ℕ)) (t s : State) (q : Rest) (tail : List Shown) → read lines t ≡ Some s → is_done s ≡ true → Begins (lines ++ more) (ahead t q ++ tail) → Parted (whole t q) s (ahead t q) lines more tail
-parted [] more t s q tail e done b = ended t s q more tail (some_same t s e) done b
+parted [] more t s q tail e done b = ended t s q more tail (same_Some t s e) done b
 parted (l ∷ ls) more t s q tail e done b = on (step t l) refl e (λ n r g c. parted ls more n s r tail g done c) where
   next : (n : State) → step t l ≡ Some n → read ls n ≡ Some s → Later s ls more tail → (xs : List Shown) → HasLine xs → GoesAlong (step t) (whole t q) xs → Begins (l ∷ (ls ++ more)) (xs ++ tail) → Parted (whole t q) s xs (l ∷ ls) more tail
   next n f g others [] h along b = absurd h
   next n f g others (x ∷ xs) h along b =
       let w = along b.1 in
-      let same : w.next ≡ n = some_same w.next n (sym w.goes ∙ sym (ap (step t) b.0) ∙ f) in
+      let same : w.next ≡ n = same_Some w.next n (sym w.goes ∙ sym (ap (step t) b.0) ∙ f) in
       let Q : State → Type 0 = λ u. read ls u ≡ Some s in
       let R : List Shown → Type 0 = λ ys. Begins (ls ++ more) (ys ++ tail) in
       let r = others w.next w.arrives.rest (subst Q (sym same) g) (subst R (sym w.arrives.lines) b.2) in
@@ -42,12 +42,12 @@ parted (l ∷ ls) more t s q tail e done b = on (step t l) refl e (λ n r g c. p
       record { rest = r.rest; same = sym w.arrives.same ∙ r.same; many = ap (λ n. suc n) k; behind = r.behind }
 
   on : (o : Option State) → step t l ≡ o → then_read o (read ls) ≡ Some s → Later s ls more tail → Parted (whole t q) s (ahead t q) (l ∷ ls) more tail
-  on None f g others = absurd (not_none s g)
+  on None f g others = absurd (none-some s g)
   on (Some n) f g others = next n f g others (ahead t q) (some_ahead t q (not_done t l n f)) (follows_all t q) b
 
 -- where the statements don't come next, lines are left
 pub left_over : (lines : List (List ℕ)) (t s : State) (q : Rest) (tail : List Shown) → read lines t ≡ Some s → is_done s ≡ false → Begins lines (ahead t q ++ tail) → length lines < length (ahead t q)
-left_over [] t s q tail e some_left b = last (ahead t q) (some_ahead t q (ap is_done (some_same t s e) ∙ some_left)) where
+left_over [] t s q tail e some_left b = last (ahead t q) (some_ahead t q (ap is_done (same_Some t s e) ∙ some_left)) where
   last : (xs : List Shown) → HasLine xs → 0 < length xs
   last [] h = absurd h
   last (x ∷ xs) h = omega arith
@@ -56,7 +56,7 @@ left_over (l ∷ ls) t s q tail e some_left b = on (step t l) refl e (λ n r g c
   next n f g others [] h along b = absurd h
   next n f g others (x ∷ xs) h along b =
       let w = along b.1 in
-      let same : w.next ≡ n = some_same w.next n (sym w.goes ∙ sym (ap (step t) b.0) ∙ f) in
+      let same : w.next ≡ n = same_Some w.next n (sym w.goes ∙ sym (ap (step t) b.0) ∙ f) in
       let Q : State → Type 0 = λ u. read ls u ≡ Some s in
       let R : List Shown → Type 0 = λ ys. Begins ls (ys ++ tail) in
       let r = others w.next w.arrives.rest (subst Q (sym same) g) (subst R (sym w.arrives.lines) b.2) in
@@ -64,5 +64,5 @@ left_over (l ∷ ls) t s q tail e some_left b = on (step t l) refl e (λ n r g c
       omega (arith, r, k)
 
   on : (o : Option State) → step t l ≡ o → then_read o (read ls) ≡ Some s → Left s ls tail → length (l ∷ ls) < length (ahead t q)
-  on None f g others = absurd (not_none s g)
+  on None f g others = absurd (none-some s g)
   on (Some n) f g others = next n f g others (ahead t q) (some_ahead t q (not_done t l n f)) (follows_all t q) b

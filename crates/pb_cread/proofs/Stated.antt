@@ -3,6 +3,7 @@ use Rattle.std.proofs.Common.{◌≡◌, ℕ, zero, suc, ◌+◌, ◌≤◌, Boo
 use Rattle.std.specs.Prelude.{All, codes, ◌&&◌}
 use Rattle.std.specs.List.{starts_with}
 use Rattle.std.proofs.lemmas.List.Elements.{All-push}
+use Rattle.std.proofs.lemmas.Option.{same_Some}
 use Rattle.pb_local.specs.Pieces as P
 use Rattle.pb_local.specs.Tree.{Codes, Program}
 use Rattle.pb_ctree.specs.Frame.{end_lines}
@@ -111,15 +112,12 @@ next_of p (x ∷ xs) b (i ∷ is) (l ∷ ls) e st bs =
     let r = next_of p xs b is ls (omega (arith, e)) st.2 bs.3 in
     record { line = r.line; is = r.is; begins = (bs.0, bs.1, bs.2, r.begins) }
 
-some_same : {X : Type 0} (x y : X) → Some x ≡ Some y → x ≡ y
-some_same x y e = cc
-
 first_read : (p : Program) (o : Option State) (is : List Place) (t : State) → then_read o (read p is) ≡ Some t → (n : State) × (o ≡ Some n) × (read p is n ≡ Some t)
 first_read p None is t e = absurd cc
 first_read p (Some n) is t e = (n, refl, e)
 
 pub read_append : (p : Program) (a b : List Place) (s t : State) → read p a s ≡ Some t → read p (a ++ b) s ≡ read p b t
-read_append p [] b s t e = ap (read p b) (some_same s t e)
+read_append p [] b s t e = ap (read p b) (same_Some s t e)
 read_append p (i ∷ a) b s t e =
     let r = first_read p (goes_on p s i.depth i.item) a t e in
     ap (λ o. then_read o (read p (a ++ b))) r.1 ∙ read_append p a b r.0 t r.2

@@ -1,6 +1,7 @@
 -- Where the statements don't come next, some line is ahead.
 use Rattle.std.proofs.Common.{◌≡◌, ℕ, Bool, false, List, [], ◌∷◌, ◌++◌, map, Option, Some, None, refl, sym, ap, subst, ◌∙◌}
 use Rattle.std.specs.Prelude.{not}
+use Rattle.std.proofs.lemmas.Option.{same_Some, none-some}
 use Rattle.pb_syntax.specs.declared.core_label.CoreLabel.{CoreLabel}
 use Rattle.pb_syntax.specs.declared.core_label.CoreKernel.{CoreKernel}
 use Rattle.pb_local.specs.declared.tables.Role.{Role}
@@ -13,7 +14,6 @@ use Rattle.pb_cread_frame.specs.Reading.{Phase, at_protocol, at_range, at_roles,
 use Rattle.pb_cread_rows.specs.Spelled.{names_of_roles, names_of_labels, names_of_kernels, tables}
 use Rattle.pb_cread_frame.specs.Steps.{GoesAlong}
 use Rattle.pb_cread_frame.proofs.Follow.{follows_all}
-use Rattle.pb_cread_frame.proofs.Turns.{some_same, not_none}
 
 abbrev HasLine : List Shown → Type 0
 HasLine [] = ⊥
@@ -60,7 +60,7 @@ not_done r [] at_roles text t e = refl
 not_done r [] at_labels text t e = refl
 not_done r [] (in_body owner) text t e = refl
 not_done r [] at_kernels text t e = refl
-not_done r [] at_statements text t e = absurd (not_none t e)
+not_done r [] at_statements text t e = absurd (none-some t e)
 not_done r (a ∷ more) phase text t e = refl
 
 abbrev Behind : List (List ℕ) → State → Rest → List Shown → Type 0
@@ -68,24 +68,24 @@ Behind lines t q tail = Begins lines (ahead t q ++ tail)
 
 -- lines that are read, and one that may not stand there, begin no text
 pub refused_in : (lines : List (List ℕ)) (text : List ℕ) (t s : State) (q : Rest) (tail : List Shown) → read lines t ≡ Some s → step s text ≡ None → is_done s ≡ false → Behind (lines ++ text ∷ []) t q tail → ⊥
-refused_in [] text t s q tail e none some_left b = last (ahead s q) (some_at s.awaited s.phase (known s.read) q some_left) (follows_all s q) (subst P (some_same t s e) b) where
+refused_in [] text t s q tail e none some_left b = last (ahead s q) (some_at s.awaited s.phase (known s.read) q some_left) (follows_all s q) (subst P (same_Some t s e) b) where
   P : State → Type 0
   P = λ u. Behind (text ∷ []) u q tail
 
   last : (xs : List Shown) → HasLine xs → GoesAlong (step s) (whole s q) xs → Begins (text ∷ []) (xs ++ tail) → ⊥
   last [] h g b = h
-  last (x ∷ xs) h g b = let f = g b.1 in not_none f.next (sym none ∙ ap (step s) b.0 ∙ f.goes)
+  last (x ∷ xs) h g b = let f = g b.1 in none-some f.next (sym none ∙ ap (step s) b.0 ∙ f.goes)
 refused_in (l ∷ ls) text t s q tail e none some_left b = on (step t l) refl e (λ n r g c. refused_in ls text n s r tail g none some_left c) where
   next : (n : State) → step t l ≡ Some n → read ls n ≡ Some s → ((n : State) (r : Rest) → read ls n ≡ Some s → Behind (ls ++ text ∷ []) n r tail → ⊥)
       → (xs : List Shown) → HasLine xs → GoesAlong (step t) (whole t q) xs → Begins (l ∷ (ls ++ text ∷ [])) (xs ++ tail) → ⊥
   next n f g others [] h along b = h
   next n f g others (x ∷ xs) h along b =
       let w = along b.1 in
-      let same : w.next ≡ n = some_same w.next n (sym w.goes ∙ sym (ap (step t) b.0) ∙ f) in
+      let same : w.next ≡ n = same_Some w.next n (sym w.goes ∙ sym (ap (step t) b.0) ∙ f) in
       let Q : State → Type 0 = λ u. read ls u ≡ Some s in
       let R : List Shown → Type 0 = λ ys. Begins (ls ++ text ∷ []) (ys ++ tail) in
       others w.next w.arrives.rest (subst Q (sym same) g) (subst R (sym w.arrives.lines) b.2)
 
   on : (o : Option State) → step t l ≡ o → then_read o (read ls) ≡ Some s → ((n : State) (r : Rest) → read ls n ≡ Some s → Behind (ls ++ text ∷ []) n r tail → ⊥) → ⊥
-  on None f g others = not_none s g
+  on None f g others = none-some s g
   on (Some n) f g others = next n f g others (ahead t q) (some_at t.awaited t.phase (known t.read) q (not_done t.read t.awaited t.phase l n f)) (follows_all t q) b

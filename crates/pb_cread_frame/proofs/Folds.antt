@@ -1,6 +1,7 @@
 -- Lines one after the other.
 use Rattle.std.proofs.Common.{◌≡◌, ℕ, suc, ◌+◌, List, [], ◌∷◌, ◌++◌, map, Option, Some, None, refl, sym, ap, subst, ◌∙◌, arith, Bool, true, false}
 use Rattle.std.specs.Prelude.{if◌then◌else◌, not, codes}
+use Rattle.std.proofs.lemmas.Option.{same_Some, none-some}
 use Rattle.pb_local.specs.Names.{is_name}
 use Rattle.pb_local.specs.Pieces as P
 use Rattle.pb_ctree.specs.Rules.{is_range, has_size, is_kernel_row}
@@ -24,7 +25,6 @@ use Rattle.pb_cread_frame.proofs.Follow.{follows_all}
 use Rattle.pb_cread_frame.proofs.Sound.{is_sound}
 use Rattle.pb_cread_frame.proofs.Framed.{text_is, frame_ahead}
 use Rattle.pb_cread_frame.proofs.Shapes.{map_both, same_first}
-use Rattle.pb_cread_frame.proofs.Turns.{some_same, not_none}
 
 reads_along : (lines : List (List ℕ)) (s : State) (w : Whole) (xs : List Shown) → Arrives s w xs → Begins lines xs → IsRead lines s w xs
 reads_along [] s w xs a b = record { next = s; reads = refl; arrives = a }
@@ -44,10 +44,10 @@ reads_fronts lines s q b = reads_along lines s (whole s q) (ahead s q) (record {
 pub fronts_read : AreFrontsThatAreRead
 fronts_read [] s t q all e =
     let P : State → Type 0 = λ u. IsFrontOf [] s u q in
-    subst P (some_same s t e) (record { rest = q; ahead_is = refl; same = refl })
+    subst P (same_Some s t e) (record { rest = q; ahead_is = refl; same = refl })
 fronts_read (l ∷ ls) s t q all e = on (step s l) refl e (λ n f. fronts_read ls n t q (λ k d less. all (suc k) d (omega (arith, less))) f) where
   on : (o : Option State) → step s l ≡ o → then_read o (read ls) ≡ Some t → ((n : State) → read ls n ≡ Some t → IsFrontOf ls n t q) → IsFrontOf (l ∷ ls) s t q
-  on None f e others = absurd (not_none t e)
+  on None f e others = absurd (none-some t e)
   on (Some n) f e others =
       let one : is_line l ≡ true = all 0 l (omega arith) in
       let r = others n e in
@@ -55,17 +55,17 @@ fronts_read (l ∷ ls) s t q all e = on (step s l) refl e (λ n f. fronts_read l
       record { rest = c.rest; ahead_is = c.first ∙ ap (λ w. sure l ∷ w) r.ahead_is; same = c.same ∙ r.same }
 
 read_more : (lines : List (List ℕ)) (line : List ℕ) (s t : State) → read lines s ≡ Some t → read (lines ++ line ∷ []) s ≡ then_read (step t line) (read [])
-read_more [] line s t e = ap (λ (u : State). then_read (step u line) (read [])) (some_same s t e)
+read_more [] line s t e = ap (λ (u : State). then_read (step u line) (read [])) (same_Some s t e)
 read_more (l ∷ ls) line s t e = on (step s l) e (λ n f. read_more ls line n t f) where
   on : (o : Option State) → then_read o (read ls) ≡ Some t → ((n : State) → read ls n ≡ Some t → read (ls ++ line ∷ []) n ≡ then_read (step t line) (read []))
       → then_read o (read (ls ++ line ∷ [])) ≡ then_read (step t line) (read [])
-  on None e others = absurd (not_none t e)
+  on None e others = absurd (none-some t e)
   on (Some n) e others = others n e
 
 pub refuses : RefusesNoFront
 refuses lines line s t q e none b =
     let r = reads_fronts (lines ++ line ∷ []) s q b in
-    not_none r.next (sym (read_more lines line s t e ∙ ap (λ o. then_read o (read [])) none) ∙ r.reads)
+    none-some r.next (sym (read_more lines line s t e ∙ ap (λ o. then_read o (read [])) none) ∙ r.reads)
 
 -- ---- texts
 

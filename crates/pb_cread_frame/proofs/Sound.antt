@@ -1,6 +1,7 @@
 -- Each step is a line of some program's text, which keeps its rule.
 use Rattle.std.proofs.Common.{◌≡◌, ℕ, Bool, true, false, cond, List, [], ◌∷◌, ◌++◌, map, Option, Some, None, refl, sym, ap, subst, ◌∙◌, append_assoc, append-nil}
 use Rattle.std.specs.Prelude.{not, if◌then◌else◌, codes, drop}
+use Rattle.std.proofs.lemmas.Option.{same_Some, none-some}
 use Rattle.pb_affine.specs.declared.range.NRange.{NRange}
 use Rattle.pb_syntax.specs.declared.core_label.CoreLabel.{CoreLabel}
 use Rattle.pb_syntax.specs.declared.core_label.CoreKernel.{CoreKernel}
@@ -19,27 +20,27 @@ use Rattle.pb_cread_rows.specs.Spelled.{names_of_roles, names_of_labels, names_o
 use Rattle.pb_cread_frame.specs.Rows.{is_line, bare}
 use Rattle.pb_cread_frame.specs.Steps.{Comes, IsSound}
 use Rattle.pb_cread_frame.proofs.Shapes.{map_push, map_both, push_more, line_is, line_lines, marker_line, goes_on_nothing}
-use Rattle.pb_cread_frame.proofs.Turns.{same_is, some_same, not_none, cond_true, cond_some, spelled_is, shown_sure, words_shown}
+use Rattle.pb_cread_frame.proofs.Turns.{same_is, cond_true, cond_some, spelled_is, shown_sure, words_shown}
 use Rattle.pb_cread_frame.proofs.Follow.{pushed, kernel_shown}
 
 abbrev From : Read → Phase → List ℕ → State → Rest → Type 0
 From r phase text t q = Comes (ahead_at phase (known r)) (whole_at r phase) text t q
 
 protocol_from : (r : Read) (text : List ℕ) (t : State) (q : Rest) (o : Option (List ℕ)) → if_spelled protocol_text is_name text (protocol_guess text) ≡ o → protocol_step r o ≡ Some t → From r at_protocol text t q
-protocol_from r text t q None e f = absurd (not_none t f)
+protocol_from r text t q None e f = absurd (none-some t f)
 protocol_from r text t q (Some name) e f =
     let is = spelled_is protocol_text is_name text (protocol_guess text) name e in
-    subst (λ t. From r at_protocol text t q) (some_same (state (record r { protocol = name }) [] at_range) t f) (record {
+    subst (λ t. From r at_protocol text t q) (same_Some (state (record r { protocol = name }) [] at_range) t f) (record {
       rest = record q { protocol = name };
       first = shown_sure (protocol_text name) text (is_name name) (range_ahead (known r) q) is.spells is.kept;
       same = refl;
     })
 
 range_from : (r : Read) (text : List ℕ) (t : State) (q : Rest) (o : Option NRange) → if_spelled range_line is_range text (range_guess text) ≡ o → range_step r o ≡ Some t → From r at_range text t q
-range_from r text t q None e f = absurd (not_none t f)
+range_from r text t q None e f = absurd (none-some t f)
 range_from r text t q (Some range) e f =
     let is = spelled_is range_line is_range text (range_guess text) range e in
-    subst (λ t. From r at_range text t q) (some_same (state (record r { range = range }) [] at_roles) t f) (record {
+    subst (λ t. From r at_range text t q) (same_Some (state (record r { range = range }) [] at_roles) t f) (record {
       rest = record q { range = range };
       first = shown_sure (range_line range) text (is_range range) (roles_ahead (record (known r) { range = range }) q) is.spells is.kept;
       same = refl;
@@ -54,7 +55,7 @@ buffers_from : (r : Read) (text : List ℕ) (t : State) (q : Rest) → buffers_s
 buffers_from r text t q f =
     let next = state r (drop 1 buffer_texts ++ prelude_text ∷ []) (in_body of_prelude) in
     let is : include_text ≡ text = same_is include_text text (cond_true (same_line include_text text) (Some next) t f) in
-    let go = some_same next t (cond_some (same_line include_text text) (Some next) t f) in
+    let go = same_Some next t (cond_some (same_line include_text text) (Some next) t f) in
     subst (λ t. At r text t q) go (record {
       rest = record q { labels = []; prelude = q.text };
       first = ap (λ all. labels_from (known r) (names_of_labels r.labels) all [] (record q { labels = []; prelude = q.text })) (append-nil r.labels) ∙ ap (λ x. sure x ∷ ahead next q) is;
@@ -66,7 +67,7 @@ label_from : (r : Read) (text : List ℕ) (t : State) (q : Rest) (o : Option Cor
 label_from r text t q None e f = buffers_from r text t q f
 label_from r text t q (Some l) e f =
     let is = spelled_is label_line (is_label_row (names_of_labels r.labels)) text (label_guess text) l e in
-    subst (λ t. At r text t q) (some_same (state (record r { labels = r.labels ++ l ∷ [] }) [] at_labels) t f) (record {
+    subst (λ t. At r text t q) (same_Some (state (record r { labels = r.labels ++ l ∷ [] }) [] at_labels) t f) (record {
       rest = record q { labels = l ∷ q.labels };
       first = shown_sure (label_line l) text (is_label_row (names_of_labels r.labels) l) (labels_from (known r) (names_of_labels r.labels ++ l.name ∷ []) (r.labels ++ (l ∷ q.labels)) q.labels q) is.spells is.kept
           ∙ ap (λ names. sure text ∷ labels_from (known r) names (r.labels ++ (l ∷ q.labels)) q.labels q) (sym (map_push (λ (x : CoreLabel). x.name) r.labels l))
@@ -93,7 +94,7 @@ role_from r text t q None e f =
     }
 role_from r text t q (Some role) e f =
     let is = spelled_is role_line (is_role r.range (names_of_roles r.roles)) text (role_guess text) role e in
-    subst (λ t. From r at_roles text t q) (some_same (state (record r { roles = r.roles ++ role ∷ [] }) [] at_roles) t f) (record {
+    subst (λ t. From r at_roles text t q) (same_Some (state (record r { roles = r.roles ++ role ∷ [] }) [] at_roles) t f) (record {
       rest = record q { roles = role ∷ q.roles };
       first = shown_sure (role_line role) text (is_role r.range (names_of_roles r.roles) role) (roles_from (known r) (names_of_roles r.roles ++ role.name ∷ []) (r.roles ++ (role ∷ q.roles)) q.roles q) is.spells is.kept
           ∙ ap (λ names. sure text ∷ roles_from (known r) names (r.roles ++ (role ∷ q.roles)) q.roles q) (sym (map_push (λ (x : Role). x.name) r.roles role))
@@ -164,7 +165,7 @@ ended_before r of_kernel q = record {
 body_end : (r : Read) (owner : Owner) (text : List ℕ) (t : State) (q : Rest) → cond (same_line end_text text) (Some (ended r owner)) None ≡ Some t → From r (in_body owner) text t q
 body_end r owner text t q f =
     let is : end_text ≡ text = same_is end_text text (cond_true (same_line end_text text) (Some (ended r owner)) t f) in
-    let go : ended r owner ≡ t = some_same (ended r owner) t (cond_some (same_line end_text text) (Some (ended r owner)) t f) in
+    let go : ended r owner ≡ t = same_Some (ended r owner) t (cond_some (same_line end_text text) (Some (ended r owner)) t f) in
     let b = ended_before r owner q in
     subst (λ t. From r (in_body owner) text t q) go (record {
       rest = record q { text = []; kernels = b.kernels; bodies = b.bodies };
@@ -175,7 +176,7 @@ body_end r owner text t q f =
 body_row : (r : Read) (owner : Owner) (text : List ℕ) (t : State) (q : Rest) → is_line text ≡ true → is_marker text ≡ false
     → ◌≡◌ {A = Option State} (Some (state (record r { text = r.text ++ text }) [] (in_body owner))) (Some t) → From r (in_body owner) text t q
 body_row r owner text t q one plain f =
-    let go : state (record r { text = r.text ++ text }) [] (in_body owner) ≡ t = some_same (state (record r { text = r.text ++ text }) [] (in_body owner)) t f in
+    let go : state (record r { text = r.text ++ text }) [] (in_body owner) ≡ t = same_Some (state (record r { text = r.text ++ text }) [] (in_body owner)) t f in
     let lines : lines_of (text ++ q.text) ≡ bare text ∷ lines_of q.text = line_lines text q.text one in
     let is : bare text ++ 10 ∷ [] ≡ text = line_is text one in
     let kept : not (is_marker (bare text)) ≡ true = ap not (sym (marker_line (bare text)) ∙ ap is_marker is ∙ plain) in
@@ -201,7 +202,7 @@ main_from : (r : Read) (text : List ℕ) (t : State) (q : Rest) → main_step r 
 main_from r text t q f =
     let end = state r (drop 1 (main_texts r.range r.roles)) at_statements in
     let is : main_text ≡ text = same_is main_text text (cond_true (same_line main_text text) (Some end) t f) in
-    let go : end ≡ t = some_same end t (cond_some (same_line main_text text) (Some end) t f) in
+    let go : end ≡ t = same_Some end t (cond_some (same_line main_text text) (Some end) t f) in
     subst (λ t. From r at_kernels text t q) go (record {
       rest = record q { kernels = [] };
       first = ap (λ x. sure x ∷ map sure (drop 1 (main_texts r.range r.roles))) is ∙ ap (λ x. sure text ∷ x) (sym (append-nil (map sure (drop 1 (main_texts r.range r.roles)))));
@@ -216,7 +217,7 @@ kernel_from r text t q (Some k) e f =
     let next = state (record r { kernels = r.kernels ++ k ∷ [] }) (drop 1 (kernel_opening k)) (in_body of_kernel) in
     let behind : List (List ℕ) → List Shown = λ names. sure (P.line 0 (codes "{")) ∷ sure (P.line 0 (P.joined (codes "/*@ kernel " ∷ (kernel_letter k.kind ++ k.name) ∷ codes " */" ∷ [])))
     ∷ body_from q.text (sure brace_text ∷ kernels_from (known r) names q.kernels q.bodies) in
-    subst (λ t. From r at_kernels text t q) (some_same next t f) (record {
+    subst (λ t. From r at_kernels text t q) (same_Some next t f) (record {
       rest = record q { kernels = k ∷ q.kernels; bodies = q.text ∷ q.bodies };
       first = kernel_shown (known r) (names_of_kernels r.kernels) k q.kernels (q.text ∷ q.bodies)
           ∙ shown_sure (kernel_line k) text (is_kernel_row (names_of_kernels r.kernels) k) (behind (names_of_kernels r.kernels ++ k.name ∷ [])) is.spells is.kept
@@ -234,14 +235,14 @@ free_from r at_roles text t q one f = role_from r text t q _ refl f
 free_from r at_labels text t q one f = labels_from_step r text t q f
 free_from r (in_body owner) text t q one f = body_from_step r owner text t q one f
 free_from r at_kernels text t q one f = kernel_from r text t q _ refl f
-free_from r at_statements text t q one f = absurd (not_none t f)
+free_from r at_statements text t q one f = absurd (none-some t f)
 
 from_at : (r : Read) (awaited : List (List ℕ)) (phase : Phase) (text : List ℕ) (t : State) (q : Rest) → is_line text ≡ true → step_at r awaited phase text ≡ Some t
     → Comes (λ q. map sure awaited ++ ahead_at phase (known r) q) (whole_at r phase) text t q
 from_at r [] phase text t q one f = free_from r phase text t q one f
 from_at r (a ∷ others) phase text t q one f =
     let is : a ≡ text = same_is a text (cond_true (same_line a text) (Some (state r others phase)) t f) in
-    let go : state r others phase ≡ t = some_same (state r others phase) t (cond_some (same_line a text) (Some (state r others phase)) t f) in
+    let go : state r others phase ≡ t = same_Some (state r others phase) t (cond_some (same_line a text) (Some (state r others phase)) t f) in
     subst (λ t. Comes (λ q. map sure (a ∷ others) ++ ahead_at phase (known r) q) (whole_at r phase) text t q) go (record {
       rest = q;
       first = ap (λ x. sure x ∷ (map sure others ++ ahead_at phase (known r) q)) is;

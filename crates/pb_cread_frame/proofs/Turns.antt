@@ -10,6 +10,7 @@ use Rattle.pb_cread_frame.specs.Reading.{brace_text, make_opening, take_opening}
 use Rattle.pb_cread_rows.proofs.Again.{and_left, and_right}
 use Rattle.pb_cread_frame.proofs.Shapes.{map_both, function_shown}
 use Rattle.std.proofs.Common.{map, append_assoc}
+use Rattle.std.proofs.lemmas.Option.{same_Some, none-some}
 
 pub same_refl : (text : List ℕ) → pointwise nat_eq text text ≡ true
 same_refl [] = refl
@@ -24,19 +25,13 @@ same_is (c ∷ cs) (d ∷ ds) e =
     let r : cs ≡ ds = same_is cs ds (and_right (nat_eq c d) (pointwise nat_eq cs ds) e) in
     cc
 
-pub some_same : {X : Type 0} (x y : X) → Some x ≡ Some y → x ≡ y
-some_same x y e = cc
-
-pub not_none : {X : Type 0} (x : X) → ◌≡◌ {A = Option X} None (Some x) → ⊥
-not_none x e = cc
-
 pub cond_true : {X : Type 0} (b : Bool) (o : Option X) (x : X) → cond b o None ≡ Some x → b ≡ true
 cond_true true o x e = refl
-cond_true false o x e = absurd (not_none x e)
+cond_true false o x e = absurd (none-some x e)
 
 pub cond_some : {X : Type 0} (b : Bool) (o : Option X) (x : X) → cond b o None ≡ Some x → o ≡ Some x
 cond_some true o x e = e
-cond_some false o x e = absurd (not_none x e)
+cond_some false o x e = absurd (none-some x e)
 
 pub cond_goes : {X : Type 0} (b : Bool) (o : Option X) (x : X) → b ≡ true → o ≡ Some x → cond b o None ≡ Some x
 cond_goes true o x e f = f
@@ -53,10 +48,10 @@ pub record IsSpelled {X : Type 0} (text : X → List ℕ) (rule : X → Bool) (l
   pub kept : rule x ≡ true
 
 pub spelled_is : {X : Type 0} (text : X → List ℕ) (rule : X → Bool) (line : List ℕ) (o : Option X) (x : X) → if_spelled text rule line o ≡ Some x → IsSpelled text rule line x
-spelled_is text rule line None x e = absurd (not_none x e)
+spelled_is text rule line None x e = absurd (none-some x e)
 spelled_is text rule line (Some y) x e =
     let both : (pointwise nat_eq (text y) line && rule y) ≡ true = cond_true (pointwise nat_eq (text y) line && rule y) (Some y) x e in
-    let is : y ≡ x = some_same y x (cond_some (pointwise nat_eq (text y) line && rule y) (Some y) x e) in
+    let is : y ≡ x = same_Some y x (cond_some (pointwise nat_eq (text y) line && rule y) (Some y) x e) in
     subst (IsSpelled text rule line) is (record { spells = same_is (text y) line (and_left (pointwise nat_eq (text y) line) (rule y) both); kept = and_right (pointwise nat_eq (text y) line) (rule y) both })
 
 pub shown_sure : (a line : List ℕ) (b : Bool) (behind : List Shown) → a ≡ line → b ≡ true → shown a b ∷ behind ≡ sure line ∷ behind

@@ -130,6 +130,7 @@ fn make_mark(alloc: Global, label: &CoreLabel) -> Result<Vec<u8>, NoMemory>
     Ok(line)
 }
 
+/// Appends the lines before the body that makes a label's words.
 #[tactic(auto, using(crate::proofs::Texts::make_opened))]
 pub fn push_make_opening(
     alloc: Global,
@@ -159,6 +160,7 @@ fn take_mark(alloc: Global, label: &CoreLabel) -> Result<Vec<u8>, NoMemory>
     Ok(line)
 }
 
+/// Appends the lines before the body that takes a label's words.
 #[tactic(auto, using(crate::proofs::Texts::take_opened))]
 pub fn push_take_opening(
     alloc: Global,

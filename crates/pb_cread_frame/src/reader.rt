@@ -13,10 +13,8 @@ use crate::lines::{
     push_all, push_fixed, push_kernel_opening, push_main, push_make_opening, push_numbers,
     push_take_opening,
 };
-use pb_cread_rows::{
-    has_size, number_roles, read_kernel, read_label, read_protocol, read_range, read_role,
-};
-use pb_ctree::{Body, CoreLabel, Local, NRange, Name, NoMemory, Role, has_words};
+use pb_cread_rows::{has_size, read_kernel, read_label, read_protocol, read_range, read_role};
+use pb_ctree::{Body, CoreLabel, Local, NRange, Name, NoMemory, Role, has_words, number_roles};
 use pb_text::Names;
 use std::alloc::Global;
 use std::mem;
@@ -58,6 +56,7 @@ pub struct FrameReader {
     pub(crate) phase: Phase,
 }
 
+/// Whether both have the same bytes.
 pub fn is_same(text: &[u8], line: &[u8]) -> bool
     ensures { result ≡ same_line text.now line.now }
 {

@@ -14,7 +14,8 @@ use Rattle.pb_ctree.specs.Small.{lin_text, index_text, from_text, to_text, guard
 use Rattle.pb_cread_lines.specs.Fits.{FitsNumberIf, FitsLinIf, FitsGuard}
 use Rattle.pb_cread_lines.specs.Parts.{strip, lin_of, lin_behind, number_behind, bounds_at, index_at, guard_at}
 use Rattle.pb_cread_lines.specs.Guess.{closed_at, others_at, several_at, cond_at}
-use Rattle.pb_cread_lines.proofs.Numbers.{begins_digit, Ends, number_again, lin_again}
+use Rattle.pb_text_read.proofs.Digits.{begins_digit}
+use Rattle.pb_cread_lines.proofs.Numbers.{Ends, number_again, lin_again}
 
 -- pieces before a text
 abbrev pub onto : List (List ℕ) → List ℕ → List ℕ

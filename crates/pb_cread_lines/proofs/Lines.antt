@@ -24,7 +24,8 @@ use Rattle.pb_cread_lines.specs.Guess.{guess_at, mpi_at, closing_at, else_if_at,
 use Rattle.pb_cread_lines.specs.Head.{HasHead, AreTables}
 use Rattle.pb_cread_lines.specs.Reading.{IsAlike}
 use Rattle.pb_cread_lines.specs.Items.{item_of}
-use Rattle.pb_cread_lines.specs.Parts.{◌>>=◌, strip}
+use Rattle.pb_text_read.specs.Fronts.{◌>>=◌}
+use Rattle.pb_cread_lines.specs.Parts.{strip}
 use Rattle.pb_cread_lines.proofs.Guards.{cond_again, same_lin}
 use Rattle.pb_cread_lines.proofs.Numbers.{Ends, decimal_first, number_again, offset_again, narrow_again, lin_again}
 use Rattle.pb_cread_lines.proofs.Rows.{payload_text, label_again, kernel_again, peer_again, label_words_again, Holds, holds, held_again, reduced_again}

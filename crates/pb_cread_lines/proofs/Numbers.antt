@@ -1,21 +1,15 @@
 -- Numbers and lins that are spelled are read again.
-use Rattle.std.proofs.Common.{◌≡◌, ℕ, suc, ◌+◌, ◌-◌, ◌*◌, ◌^◌, ◌<◌, ◌≤◌, lt-ltb, le-leb, Bool, true, false, cond, List, [], ◌∷◌, ◌++◌, length, Some, None, refl, sym, ap, ◌∙◌, arith, eqb-true, rules, add-one}
-use Rattle.std.specs.Prelude.{ℤ, pos, negsuc, neg_ℤ, nat_eq, nat_lt, codes, decimal, ◌&&◌, if◌then◌else◌}
+use Rattle.std.proofs.Common.{◌≡◌, ℕ, suc, ◌+◌, ◌-◌, ◌^◌, ◌<◌, le-leb, Bool, true, false, cond, List, [], ◌∷◌, ◌++◌, Some, None, refl, sym, ap, arith, eqb-true, add-one}
+use Rattle.std.specs.Prelude.{ℤ, pos, negsuc, neg_ℤ, nat_eq, codes, decimal}
 use Rattle.std.specs.Char.{is_ascii_digit}
-use Rattle.std.specs.Str.{all_ascii_digits}
 use Rattle.std.specs.Fmt.{signed_decimal}
-use Rattle.std.proofs.lemmas.Str.Parse.{IsNumeralModel, numerals_by_fold}
-use Rattle.std.proofs.lemmas.Fmt.{digits_decimal, digits_value-decimal, decimal_nonempty}
 use Rattle.pb_affine.specs.declared.lin.Base.{Base}
 use Rattle.pb_affine.specs.declared.lin.Base.TheVariants.{Fixed, Param, Var}
 use Rattle.pb_affine.specs.declared.lin.Lin.{Lin}
 use Rattle.pb_ctree.specs.Small.{offset_text, lin_text}
 use Rattle.pb_cread_lines.specs.Fits.{FitsOffset}
-use Rattle.pb_cread_lines.specs.Parts.{strip, digits_at, number_at, offset_at, signed_at, narrow, based_at, lin_of, lin_at}
-
-abbrev pub begins_digit : List ℕ → Bool
-begins_digit [] = false
-begins_digit (c ∷ cs) = is_ascii_digit c
+use Rattle.pb_text_read.proofs.Digits.{begins_digit, number_again as below_again, decimal_first as front_differs}
+use Rattle.pb_cread_lines.specs.Parts.{strip, number_at, offset_at, signed_at, narrow, based_at, lin_of, lin_at}
 
 -- what may stand behind a lin
 pub record Ends (rest : List ℕ) : Type 0 where
@@ -23,62 +17,12 @@ pub record Ends (rest : List ℕ) : Type 0 where
   pub plus : strip (codes " + ") rest ≡ None
   pub minus : strip (codes " - ") rest ≡ None
 
-abbrev read_on : ℕ → List ℕ → ℕ
-read_on n [] = n
-read_on n (c ∷ cs) = read_on (10 * n + (c - 48)) cs
-
-own : IsNumeralModel (λ ds. all_ascii_digits ds ≡ true) (read_on 0)
-own = numerals_by_fold _ (search rules) read_on (search rules)
-
-and_left : (a b : Bool) → (a && b) ≡ true → a ≡ true
-and_left true b e = refl
-and_left false b e = absurd cc
-
-and_right : (a b : Bool) → (a && b) ≡ true → b ≡ true
-and_right true b e = e
-and_right false b e = absurd cc
-
-stops : (n : ℕ) (rest : List ℕ) → begins_digit rest ≡ false → digits_at n rest ≡ Some (n, rest)
-stops n [] e = refl
-stops n (c ∷ cs) e = rw e refl
-
-grows : (ds : List ℕ) (n : ℕ) → n ≤ read_on n ds
-grows [] n = omega arith
-grows (c ∷ cs) n = omega (arith, grows cs (10 * n + (c - 48)))
-
-along : (ds rest : List ℕ) (n : ℕ) → all_ascii_digits ds ≡ true → begins_digit rest ≡ false → read_on n ds < 2 ^ 32 → digits_at n (ds ++ rest) ≡ Some (read_on n ds, rest)
-along [] rest n all ends small = stops n rest ends
-along (c ∷ cs) rest n all ends small =
-    let d : is_ascii_digit c ≡ true = and_left _ _ all in
-    let fits : nat_lt (10 * n + (c - 48)) (2 ^ 32) ≡ true = lt-ltb _ _ (omega (arith, small, grows cs (10 * n + (c - 48)))) in
-    rw (d, fits) (along cs rest (10 * n + (c - 48)) (and_right _ _ all) ends small)
-
-digits_again : (ds rest : List ℕ) → all_ascii_digits ds ≡ true → 0 < length ds → begins_digit rest ≡ false → read_on 0 ds < 2 ^ 32 → number_at (ds ++ rest) ≡ Some (read_on 0 ds, rest)
-digits_again [] rest all some ends small = absurd (omega (arith, some))
-digits_again (c ∷ cs) rest all some ends small =
-    let d : is_ascii_digit c ≡ true = and_left _ _ all in
-    let k : c - 48 ≡ 10 * 0 + (c - 48) = omega arith in
-    rw d (ap (λ n. digits_at n (cs ++ rest)) k ∙ along cs rest (10 * 0 + (c - 48)) (and_right _ _ all) ends small)
-
 pub number_again : (n : ℕ) (rest : List ℕ) → n < 2 ^ 32 → begins_digit rest ≡ false → number_at (decimal n ++ rest) ≡ Some (n, rest)
-number_again n rest small ends =
-    let wide : n < 2 ^ 64 = omega (arith, small) in
-    let value : read_on 0 (decimal n) ≡ n = digits_value-decimal own n wide in
-    digits_again (decimal n) rest (digits_decimal own n wide) (decimal_nonempty n wide) ends (omega (arith, value, small)) ∙ ap (λ k. Some (k, rest)) value
-
--- digits begin with no other byte
-digits_first : (p : ℕ) (ds rest : List ℕ) → is_ascii_digit p ≡ false → all_ascii_digits ds ≡ true → 0 < length ds → strip (p ∷ []) (ds ++ rest) ≡ None
-unfolding strip
-digits_first p [] rest other all some = absurd (omega (arith, some))
-digits_first p (c ∷ cs) rest other all some = differ (nat_eq c p) refl where
-  differ : (b : Bool) → nat_eq c p ≡ b → (if b && true then Some (cs ++ rest) else None) ≡ None
-  differ false e = refl
-  differ true e = absurd (apart (eqb-true c p e)) where
-    apart : c ≡ p → ⊥
-    apart same = let d : is_ascii_digit c ≡ true = and_left _ _ all in let f : is_ascii_digit c ≡ false = ap is_ascii_digit same ∙ other in absurd cc
+number_again n rest small ends = below_again (2 ^ 32) n rest (omega (arith, small)) small ends
 
 pub decimal_first : (p n : ℕ) (rest : List ℕ) → is_ascii_digit p ≡ false → n < 2 ^ 64 → strip (p ∷ []) (decimal n ++ rest) ≡ None
-decimal_first p n rest other small = digits_first p (decimal n) rest other (digits_decimal own n small) (decimal_nonempty n small)
+unfolding strip
+decimal_first p n rest other small = front_differs p [] n rest other small
 
 pub narrow_again : (off : ℤ) → FitsOffset off → narrow off ≡ Some off
 unfolding narrow
@@ -114,7 +58,7 @@ unfolding signed_at
 signed_again (pos n) rest fits ends = rw (decimal_first 45 n rest refl (omega (arith, fits)), number_again n rest (omega (arith, fits)) ends) refl
 signed_again (negsuc n) rest fits ends = rw (strip_dash (decimal (suc n) ++ rest), number_again (suc n) rest (omega (arith, fits)) ends) refl
 
-signed_first : (p : ℕ) (off : ℤ) (rest : List ℕ) → is_ascii_digit p ≡ false → nat_eq 45 p ≡ false → FitsOffset off → strip (p ∷ []) (signed_decimal off ++ rest) ≡ None
+signed_first : (p : ℕ) (off : ℤ) (rest : List ℕ) → is_ascii_digit p ≡ false → nat_eq p 45 ≡ false → FitsOffset off → strip (p ∷ []) (signed_decimal off ++ rest) ≡ None
 unfolding strip
 signed_first p (pos n) rest other dash fits = decimal_first p n rest other (omega (arith, fits))
 signed_first p (negsuc n) rest other dash fits = rw dash refl

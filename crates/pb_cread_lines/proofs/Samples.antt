@@ -2,12 +2,14 @@
 use Rattle.std.proofs.Common.{◌≡◌, zero, suc, refl, arith, inl, subst, sym}
 use Rattle.std.specs.Prelude.{All}
 use Rattle.std.proofs.lemmas.Int.{ints}
+use Rattle.pb_text.specs.Spellings as spellings
 use Rattle.pb_local.specs.Tree.{Program}
 use Rattle.pb_local.specs.WellMade.{IsRole}
 use Rattle.pb_cread_lines.specs.Head.{HasHead}
 use Rattle.pb_cread_lines.specs.Sample.{sample}
 
 role_made : All (IsRole sample.range) sample.roles
+unfolding spellings.keys
 role_made zero d less = record {
   name = refl;
   low = record { low = omega (arith, ints); high = omega (arith, ints) };

@@ -15,7 +15,8 @@ use Rattle.pb_cread_lines.specs.declared.item.Side.{Side}
 use Rattle.pb_cread_lines.specs.declared.item.Side.TheVariants.{Outgoing, Incoming}
 use Rattle.pb_cread_lines.specs.declared.tables.Tables.{Tables}
 use Rattle.pb_cread_lines.specs.Head.{holding}
-use Rattle.pb_cread_lines.specs.Parts.{◌>>=◌, strip, after, number_at, offset_at, narrow, lin_at, guard_at}
+use Rattle.pb_text_read.specs.Fronts.{◌>>=◌, after}
+use Rattle.pb_cread_lines.specs.Parts.{strip, number_at, offset_at, narrow, lin_at, guard_at}
 
 -- ---- conditions, with the parenthesis behind them
 

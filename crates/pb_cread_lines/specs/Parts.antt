@@ -1,8 +1,7 @@
 -- How the parts of a line are read. What is read is spelled once more and compared with the line, so these take more than
 -- what is spelled.
-use Rattle.std.specs.Prelude.{◌≡◌, ℕ, ℤ, pos, negsuc, ◌+◌, ◌-◌, ◌*◌, ◌^◌, neg_ℤ, int_le, nat_lt, nat_eq, if◌then◌else◌, ◌&&◌, List, [], ◌∷◌, length, take, drop, Option, Some, None, codes, Result, Ok, Err}
-use Rattle.std.specs.Char.{is_ascii_digit}
-use Rattle.std.specs.Cmp.Lexicographic.{pointwise}
+use Rattle.std.specs.Prelude.{◌≡◌, ℕ, ℤ, pos, negsuc, ◌-◌, ◌^◌, neg_ℤ, int_le, if◌then◌else◌, ◌&&◌, List, Option, Some, None, codes, Result, Ok, Err}
+use Rattle.pb_text_read.specs.Fronts.{◌>>=◌, strip as front, after, number_below}
 use Rattle.pb_affine.specs.declared.lin.Base.{Base}
 use Rattle.pb_affine.specs.declared.lin.Base.TheVariants.{Fixed, Param, Var}
 use Rattle.pb_affine.specs.declared.lin.Lin.{Lin}
@@ -10,30 +9,13 @@ use Rattle.pb_affine.specs.declared.guard.Guard.{Guard}
 use Rattle.pb_cread_lines.specs.declared.cursor.Stop.{Stop}
 use Rattle.pb_cread_lines.specs.declared.cursor.Stop.TheVariants.{Unread, NoMemory}
 
-infixl 10 ◌>>=◌
-abbrev pub ◌>>=◌ : {A B : Type 0} → Option A → (A → Option B) → Option B
-(Some x) >>= f = f x
-None >>= f = None
-
 -- the bytes behind a text
 unfoldable pub strip : List ℕ → List ℕ → Option (List ℕ)
-strip text bytes = if pointwise nat_eq (take (length text) bytes) text then Some (drop (length text) bytes) else None
+strip text bytes = front text bytes
 
--- what is read behind a text, or else
-abbrev pub after : {A : Type 0} → Option (List ℕ) → (List ℕ → Option A) → Option A → Option A
-after (Some rest) found other = found rest
-after None found other = other
-
--- more digits, up to a number that fits 32 bits
-abbrev pub digits_at : ℕ → List ℕ → Option (ℕ × List ℕ)
-digits_at n [] = Some (n, [])
-digits_at n (c ∷ cs) =
-    if is_ascii_digit c then (if nat_lt (10 * n + (c - 48)) (2 ^ 32) then digits_at (10 * n + (c - 48)) cs else None) else Some (n, c ∷ cs)
-
--- a number, and the bytes behind it
+-- a number that fits 32 bits, and the bytes behind it
 abbrev pub number_at : List ℕ → Option (ℕ × List ℕ)
-number_at [] = None
-number_at (c ∷ cs) = if is_ascii_digit c then digits_at (c - 48) cs else None
+number_at bytes = number_below (2 ^ 32) bytes
 
 -- ---- lins
 

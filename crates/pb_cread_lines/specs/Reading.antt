@@ -11,7 +11,7 @@ use Rattle.pb_cread_lines.specs.declared.tables.Tables.{Tables}
 use Rattle.pb_cread_lines.specs.Fits.{FitsNumber, Fits}
 use Rattle.pb_cread_lines.specs.Guess.{guess_at}
 use Rattle.pb_cread_lines.specs.Head.{HasHead}
-use Rattle.pb_cread_lines.specs.Parts.{◌>>=◌}
+use Rattle.pb_text_read.specs.Fronts.{◌>>=◌}
 
 -- the bytes are the line with this depth, without its line feed
 abbrev pub IsLine : Program → List ℕ → ℕ → L.Item → Type 0

@@ -1,9 +1,13 @@
 //! Reads numbers and lins.
 
-ghost use Rattle.std.specs.Prelude.{◌≡◌, ◌≤◌, ◌+◌, ◌^◌, ◌-ℤ◌, ◌<ℤ◌, ◌≤ℤ◌, pos, Some, None, length, drop, IfSome, MatchOption, false, if◌then◌else◌};
-ghost use Rattle.pb_cread_lines.specs.Parts.{strip, digits_at, number_at, offset_at, signed_at, narrow, based_at, lin_at, lin_behind, number_behind, bounds_at, index_at, guard_at, GivesTo, Gives};
+ghost use Rattle.std.specs.Prelude.{◌≡◌, ◌+◌, ◌-ℤ◌, ◌<ℤ◌, ◌≤ℤ◌, pos, Some, None, false, if◌then◌else◌};
+ghost use Rattle.pb_cread_lines.specs.Parts.{strip, number_at, offset_at, signed_at, narrow, based_at, lin_at, lin_behind, number_behind, bounds_at, index_at, guard_at, GivesTo, Gives};
 
 use pb_ctree::{Base, Guard, Lin, NoMemory};
+use pb_text_read::{number, strip};
+
+/// Numbers fit 32 bits.
+const LIMIT: u128 = 4_294_967_296;
 
 /// Why a part can't be read.
 #[derive(Clone, Copy, Debug, PartialEq, Eq)]
@@ -22,25 +26,6 @@ impl From<NoMemory> for Stop {
     fn from(_: NoMemory) -> Self {
         Stop::NoMemory
     }
-}
-
-/// The number that these digits go on, and how many digits those are.
-fn digits(start: u32, bytes: &[u8]) -> Option<(u32, usize)>
-    ensures within { IfSome result (λ x. x.1 ≤ length bytes.now) }
-    ensures found { MatchOption result (digits_at start bytes.now ≡ None) (λ x. digits_at start bytes.now ≡ Some (x.0, drop x.1 bytes.now)) }
-{
-    let mut n = u64::from(start);
-    for at in 0..bytes.len() {
-        let c = bytes[at];
-        if !c.is_ascii_digit() {
-            return Some((n as u32, at));
-        }
-        n = n * 10 + u64::from(c - b'0');
-        if n >= 4_294_967_296 {
-            return None;
-        }
-    }
-    Some((n as u32, bytes.len()))
 }
 
 #[tactic(auto, unfolding(crate::specs::Parts::narrow))]
@@ -69,7 +54,7 @@ impl<'a> Cursor<'a> {
         ensures found { strip text.now self.old.rest.now ≡ (if result then Some self.new.rest.now else None) }
         ensures kept { result ≡ false → self.new.rest.now ≡ self.old.rest.now }
     {
-        match self.rest.strip_prefix(text) {
+        match strip(text, self.rest) {
             Some(rest) => {
                 self.rest = rest;
                 true
@@ -81,20 +66,12 @@ impl<'a> Cursor<'a> {
     pub(crate) fn number(&mut self) -> Result<u32, Stop>
         ensures { GivesTo result self.new.rest.now (number_at self.old.rest.now) }
     {
-        match self.rest {
-            [] => Err(Stop::Unread),
-            [first, others @ ..] => {
-                if !first.is_ascii_digit() {
-                    return Err(Stop::Unread);
-                }
-                match digits(u32::from(*first - b'0'), others) {
-                    Some((n, count)) => {
-                        self.rest = &others[count..];
-                        Ok(n)
-                    }
-                    None => Err(Stop::Unread),
-                }
+        match number(LIMIT, self.rest) {
+            Some((n, rest)) => {
+                self.rest = rest;
+                Ok(n as u32)
             }
+            None => Err(Stop::Unread),
         }
     }
 

@@ -1,19 +1,17 @@
 -- The parts of a line that are spelled are read again.
-use Rattle.std.proofs.Common.{◌≡◌, ℕ, suc, ◌+◌, ◌-◌, ◌*◌, ◌^◌, ◌<◌, ◌≤◌, lt-ltb, le-leb, leb-true, Bool, true, false, cond, List, [], ◌∷◌, ◌++◌, length, Option, Some, None, refl, sym, ap, ◌∙◌, arith, eq-eqb, eqb-true, rules, drop, take}
-use Rattle.std.specs.Prelude.{ℤ, pos, negsuc, int_le, nat_eq, nat_lt, nat_le, codes, decimal, ◌&&◌, not}
-use Rattle.std.specs.Char.{is_ascii_digit}
+use Rattle.std.proofs.Common.{◌≡◌, ℕ, suc, ◌+◌, ◌-◌, ◌^◌, ◌<◌, ◌≤◌, le-leb, leb-true, Bool, true, false, cond, List, [], ◌∷◌, ◌++◌, length, Option, Some, None, refl, sym, ap, ◌∙◌, arith, eqb-true, rules, drop, take}
+use Rattle.std.specs.Prelude.{ℤ, pos, negsuc, int_le, nat_eq, nat_le, codes, decimal, ◌&&◌, not}
 use Rattle.std.specs.List.{prefix_len, list_all}
-use Rattle.std.specs.Str.{all_ascii_digits}
 use Rattle.std.specs.Fmt.{signed_decimal}
-use Rattle.std.proofs.lemmas.Str.Parse.{IsNumeralModel, numerals_by_fold}
-use Rattle.std.proofs.lemmas.Fmt.{digits_decimal, digits_value-decimal, decimal_nonempty}
 use Rattle.pb_affine.specs.declared.lin.Base.{Base}
 use Rattle.pb_affine.specs.declared.lin.Base.TheVariants.{Fixed, Param, Var}
 use Rattle.pb_affine.specs.declared.lin.Lin.{Lin}
 use Rattle.pb_local.specs.Names.{is_letter, is_word, is_name}
 use Rattle.pb_ctree.specs.Small.{offset_text, lin_text}
 use Rattle.pb_ctree.specs.Rules.{is_offset, is_var}
-use Rattle.pb_cread_rows.specs.Parts.{strip, digits_at, number_at, small_at, minus, signed_at, offset_at, lin_of, lin_at, goes_on_name, word_of, behind_word, name_at}
+use Rattle.pb_text_read.specs.Fronts.{strip}
+use Rattle.pb_text_read.proofs.Digits.{begins_digit, decimal_first, number_again as below_again}
+use Rattle.pb_cread_rows.specs.Parts.{number_at, small_at, minus, signed_at, offset_at, lin_of, lin_at, goes_on_name, word_of, behind_word, name_at}
 
 pub and_left : (a b : Bool) → (a && b) ≡ true → a ≡ true
 and_left true b e = refl
@@ -27,48 +25,8 @@ pub not_false : (a : Bool) → not a ≡ true → a ≡ false
 not_false true e = absurd cc
 not_false false e = refl
 
-pub strip_again : (text rest : List ℕ) → strip text (text ++ rest) ≡ Some rest
-strip_again [] rest = refl
-strip_again (p ∷ ps) rest = rw (eq-eqb p p refl) (strip_again ps rest)
-
-abbrev read_on : ℕ → List ℕ → ℕ
-read_on n [] = n
-read_on n (c ∷ cs) = read_on (10 * n + (c - 48)) cs
-
-own : IsNumeralModel (λ ds. all_ascii_digits ds ≡ true) (read_on 0)
-own = numerals_by_fold _ (search rules) read_on (search rules)
-
-abbrev pub begins_digit : List ℕ → Bool
-begins_digit [] = false
-begins_digit (c ∷ cs) = is_ascii_digit c
-
-stops : (n : ℕ) (rest : List ℕ) → begins_digit rest ≡ false → digits_at n rest ≡ Some (n, rest)
-stops n [] e = refl
-stops n (c ∷ cs) e = rw e refl
-
-grows : (ds : List ℕ) (n : ℕ) → n ≤ read_on n ds
-grows [] n = omega arith
-grows (c ∷ cs) n = omega (arith, grows cs (10 * n + (c - 48)))
-
-along : (ds rest : List ℕ) (n : ℕ) → all_ascii_digits ds ≡ true → begins_digit rest ≡ false → read_on n ds < 2 ^ 32 → digits_at n (ds ++ rest) ≡ Some (read_on n ds, rest)
-along [] rest n all ends small = stops n rest ends
-along (c ∷ cs) rest n all ends small =
-    let d : is_ascii_digit c ≡ true = and_left _ _ all in
-    let fits : nat_lt (10 * n + (c - 48)) (2 ^ 32) ≡ true = lt-ltb _ _ (omega (arith, small, grows cs (10 * n + (c - 48)))) in
-    rw (d, fits) (along cs rest (10 * n + (c - 48)) (and_right _ _ all) ends small)
-
-digits_again : (ds rest : List ℕ) → all_ascii_digits ds ≡ true → 0 < length ds → begins_digit rest ≡ false → read_on 0 ds < 2 ^ 32 → number_at (ds ++ rest) ≡ Some (read_on 0 ds, rest)
-digits_again [] rest all some ends small = absurd (omega (arith, some))
-digits_again (c ∷ cs) rest all some ends small =
-    let d : is_ascii_digit c ≡ true = and_left _ _ all in
-    let k : c - 48 ≡ 10 * 0 + (c - 48) = omega arith in
-    rw d (ap (λ n. digits_at n (cs ++ rest)) k ∙ along cs rest (10 * 0 + (c - 48)) (and_right _ _ all) ends small)
-
 pub number_again : (n : ℕ) (rest : List ℕ) → n < 2 ^ 32 → begins_digit rest ≡ false → number_at (decimal n ++ rest) ≡ Some (n, rest)
-number_again n rest small ends =
-    let wide : n < 2 ^ 64 = omega (arith, small) in
-    let value : read_on 0 (decimal n) ≡ n = digits_value-decimal own n wide in
-    digits_again (decimal n) rest (digits_decimal own n wide) (decimal_nonempty n wide) ends (omega (arith, value, small)) ∙ ap (λ k. Some (k, rest)) value
+number_again n rest small ends = below_again (2 ^ 32) n rest (omega (arith, small)) small ends
 
 small_again : (n : ℕ) (rest : List ℕ) → n ≤ 1000000 → begins_digit rest ≡ false → small_at (decimal n ++ rest) ≡ Some (n, rest)
 small_again n rest small ends =
@@ -92,19 +50,6 @@ pub record Ends (rest : List ℕ) : Type 0 where
   pub number : begins_digit rest ≡ false
   pub plus : strip (codes " + ") rest ≡ None
   pub minus : strip (codes " - ") rest ≡ None
-
--- digits begin with no other byte
-digits_first : (p : ℕ) (ps ds rest : List ℕ) → is_ascii_digit p ≡ false → all_ascii_digits ds ≡ true → 0 < length ds → strip (p ∷ ps) (ds ++ rest) ≡ None
-digits_first p ps [] rest other all some = absurd (omega (arith, some))
-digits_first p ps (c ∷ cs) rest other all some = differ (nat_eq p c) refl where
-  differ : (b : Bool) → nat_eq p c ≡ b → cond b (strip ps (cs ++ rest)) None ≡ None
-  differ false e = refl
-  differ true e = let same : p ≡ c = eqb-true p c e in absurd (apart same) where
-    apart : p ≡ c → ⊥
-    apart same = let d : is_ascii_digit c ≡ true = and_left _ _ all in let f : is_ascii_digit c ≡ false = ap is_ascii_digit (sym same) ∙ other in absurd cc
-
-pub decimal_first : (p : ℕ) (ps : List ℕ) (n : ℕ) (rest : List ℕ) → is_ascii_digit p ≡ false → n < 2 ^ 64 → strip (p ∷ ps) (decimal n ++ rest) ≡ None
-decimal_first p ps n rest other small = digits_first p ps (decimal n) rest other (digits_decimal own n small) (decimal_nonempty n small)
 
 no_param : (off : ℤ) (rest : List ℕ) → size_of off ≤ 1000000 → strip (codes "N") (signed_decimal off ++ rest) ≡ None
 no_param (pos n) rest small = decimal_first 78 [] n rest refl (omega (arith, small))

@@ -16,7 +16,8 @@ use Rattle.pb_ctree.specs.Rules.{is_number, is_upper_end, is_range, is_offset, i
 use Rattle.pb_ctree.specs.Small.{lin_text}
 use Rattle.pb_cread_rows.specs.Guesses.{protocol_guess, high_at, range_of, range_guess, role_of, role_guess, payload_at, label_of, label_guess, kernel_of, kernel_guess}
 use Rattle.pb_cread_rows.specs.Spelled.{protocol_text, range_line, role_line, label_line, kernel_line}
-use Rattle.pb_cread_rows.proofs.Again.{and_left, and_right, not_false, begins_digit, decimal_first, number_again, lin_again, name_again}
+use Rattle.pb_text_read.proofs.Digits.{begins_digit, decimal_first}
+use Rattle.pb_cread_rows.proofs.Again.{and_left, and_right, not_false, number_again, lin_again, name_again}
 
 group3 : (a b c t : List ℕ) → (a ++ (b ++ (c ++ []))) ++ t ≡ a ++ (b ++ (c ++ t))
 group3 a b c t = simp append_assoc

@@ -10,7 +10,8 @@ use Rattle.pb_syntax.specs.declared.core_label.CoreKernel.{CoreKernel}
 use Rattle.pb_syntax.specs.declared.core_label.KernelKind.{KernelKind}
 use Rattle.pb_syntax.specs.declared.core_label.KernelKind.TheVariants.{Compute as Computes, Choice as Chooses}
 use Rattle.pb_local.specs.declared.tables.Role.{Role}
-use Rattle.pb_cread_rows.specs.Parts.{◌>>=◌, after, strip, number_at, lin_at, name_at}
+use Rattle.pb_text_read.specs.Fronts.{◌>>=◌, after, strip}
+use Rattle.pb_cread_rows.specs.Parts.{number_at, lin_at, name_at}
 
 abbrev pub protocol_guess : List ℕ → Option (List ℕ)
 protocol_guess line = strip (codes "/* protocol ") line >>= λ b. name_at b >>= λ n. Some n.0

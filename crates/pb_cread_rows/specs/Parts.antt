@@ -1,32 +1,15 @@
 -- How the parts of a line are read.
-use Rattle.std.specs.Prelude.{◌≡◌, ℕ, ℤ, pos, ◌+◌, ◌-◌, ◌*◌, ◌^◌, neg_ℤ, nat_eq, nat_lt, nat_le, Bool, ◌||◌, cond, List, [], ◌∷◌, Option, Some, None, codes, take, drop}
-use Rattle.std.specs.Char.{is_ascii_digit}
+use Rattle.std.specs.Prelude.{◌≡◌, ℕ, ℤ, pos, ◌^◌, neg_ℤ, nat_le, Bool, ◌||◌, cond, List, Option, Some, None, codes, take, drop}
 use Rattle.std.specs.List.{prefix_len}
+use Rattle.pb_text_read.specs.Fronts.{◌>>=◌, strip, after, number_below}
 use Rattle.pb_affine.specs.declared.lin.Base.{Base}
 use Rattle.pb_affine.specs.declared.lin.Base.TheVariants.{Fixed, Param}
 use Rattle.pb_affine.specs.declared.lin.Lin.{Lin}
 use Rattle.pb_local.specs.Names.{is_letter, is_digit, is_name}
 
-infixl 10 ◌>>=◌
-abbrev pub ◌>>=◌ : {A B : Type 0} → Option A → (A → Option B) → Option B
-(Some x) >>= f = f x
-None >>= f = None
-
--- the bytes behind a text
-abbrev pub strip : List ℕ → List ℕ → Option (List ℕ)
-strip [] bytes = Some bytes
-strip (p ∷ ps) [] = None
-strip (p ∷ ps) (b ∷ bytes) = cond (nat_eq p b) (strip ps bytes) None
-
--- more digits, up to a number that fits 32 bits
-abbrev pub digits_at : ℕ → List ℕ → Option (ℕ × List ℕ)
-digits_at n [] = Some (n, [])
-digits_at n (c ∷ cs) = cond (is_ascii_digit c) (cond (nat_lt (10 * n + (c - 48)) (2 ^ 32)) (digits_at (10 * n + (c - 48)) cs) None) (Some (n, c ∷ cs))
-
--- a number, and the bytes behind it
+-- a number that fits 32 bits, and the bytes behind it
 abbrev pub number_at : List ℕ → Option (ℕ × List ℕ)
-number_at [] = None
-number_at (c ∷ cs) = cond (is_ascii_digit c) (digits_at (c - 48) cs) None
+number_at bytes = number_below (2 ^ 32) bytes
 
 -- a number that an offset may be
 abbrev pub small_at : List ℕ → Option (ℕ × List ℕ)
@@ -40,11 +23,6 @@ plus_at bytes = small_at bytes >>= λ n. Some (pos n.0, n.1)
 
 abbrev pub minus_at : List ℕ → Option (ℤ × List ℕ)
 minus_at bytes = small_at bytes >>= λ n. Some (minus n.0, n.1)
-
--- what is read behind a text, or else
-abbrev pub after : {A : Type 0} → Option (List ℕ) → (List ℕ → Option A) → Option A → Option A
-after (Some rest) found other = found rest
-after None found other = other
 
 abbrev pub signed_at : List ℕ → Option (ℤ × List ℕ)
 signed_at bytes = after (strip (codes "-") bytes) minus_at (plus_at bytes)

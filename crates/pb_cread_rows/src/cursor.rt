@@ -1,30 +1,16 @@
 //! Reads the parts of a line.
 
-ghost use Rattle.std.specs.Prelude.{◌≡◌, ◌<◌, ◌≤◌, ◌^◌, Some, None, cond, length, drop, IfSome, MatchOption, false};
+ghost use Rattle.std.specs.Prelude.{◌≡◌, ◌≤◌, Some, None, cond, length, IfSome, false};
 ghost use Rattle.std.specs.List.{prefix_len};
-ghost use Rattle.pb_cread_rows.specs.Parts.{strip, digits_at, number_at, small_at, plus_at, minus_at, signed_at, offset_at, lin_at, name_at, goes_on_name, GivesTo};
+ghost use Rattle.pb_text_read.specs.Fronts.{strip};
+ghost use Rattle.pb_cread_rows.specs.Parts.{number_at, small_at, plus_at, minus_at, signed_at, offset_at, lin_at, name_at, goes_on_name, GivesTo};
 
 use crate::names::{goes_on_name, is_name};
 use pb_ctree::{Base, Lin, Name};
+use pb_text_read::{number, strip};
 
-/// The number that these digits go on, and how many digits those are.
-fn digits(start: u32, bytes: &[u8]) -> Option<(u32, usize)>
-    ensures within { IfSome result (λ x. x.1 ≤ length bytes.now) }
-    ensures found { MatchOption result (digits_at start bytes.now ≡ None) (λ x. digits_at start bytes.now ≡ Some (x.0, drop x.1 bytes.now)) }
-{
-    let mut n = u64::from(start);
-    for at in 0..bytes.len() {
-        let c = bytes[at];
-        if !c.is_ascii_digit() {
-            return Some((n as u32, at));
-        }
-        n = n * 10 + u64::from(c - b'0');
-        if n >= 4_294_967_296 {
-            return None;
-        }
-    }
-    Some((n as u32, bytes.len()))
-}
+/// Numbers fit 32 bits.
+const LIMIT: u128 = 4_294_967_296;
 
 /// The bytes that are left of a line. After `None` they are any.
 #[derive(Drop)]
@@ -34,12 +20,11 @@ pub struct Cursor<'a> {
 
 impl<'a> Cursor<'a> {
     /// Passes over a text, where it stands here.
-    #[tactic(auto, using(crate::proofs::Strips::strip_is))]
     pub fn strip(&mut self, text: &[u8]) -> bool
         ensures found { strip text.now self.old.rest.now ≡ cond result (Some self.new.rest.now) None }
         ensures kept { result ≡ false → self.new.rest.now ≡ self.old.rest.now }
     {
-        match self.rest.strip_prefix(text) {
+        match strip(text, self.rest) {
             Some(rest) => {
                 self.rest = rest;
                 true
@@ -48,20 +33,14 @@ impl<'a> Cursor<'a> {
         }
     }
 
+    /// Passes over all the digits that stand here, and gives their number. `None` exactly where there is none, or the number
+    /// is 2^32 or more.
     pub fn number(&mut self) -> Option<u32>
         ensures { GivesTo result self.new.rest.now (number_at self.old.rest.now) }
     {
-        match self.rest {
-            [] => None,
-            [first, others @ ..] => {
-                if !first.is_ascii_digit() {
-                    return None;
-                }
-                let (n, count) = digits(u32::from(*first - b'0'), others)?;
-                self.rest = &others[count..];
-                Some(n)
-            }
-        }
+        let (n, rest) = number(LIMIT, self.rest)?;
+        self.rest = rest;
+        Some(n as u32)
     }
 
     fn small(&mut self) -> Option<u32>
@@ -139,6 +118,8 @@ impl<'a> Cursor<'a> {
             .count()
     }
 
+    /// Passes over the letters, digits and underscores that stand here, and gives them. `None` exactly where they are
+    /// no name.
     #[tactic(auto, using(crate::proofs::Strips::name_some, crate::proofs::Strips::name_short))]
     pub fn name(&mut self) -> Option<Name>
         ensures { GivesTo result self.new.rest.now (name_at self.old.rest.now) }

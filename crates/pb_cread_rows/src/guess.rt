@@ -6,6 +6,7 @@ ghost use Rattle.pb_cread_rows.specs.Guesses.{protocol_guess, high_at, range_gue
 use crate::cursor::Cursor;
 use pb_ctree::{CoreKernel, CoreLabel, KernelKind, NRange, Name, Payload, Role};
 
+/// What the line says if it is the protocol's. It doesn't look at the line's end.
 pub fn protocol_guess(line: &[u8]) -> Option<Name>
     ensures { result ≡ protocol_guess line.now }
 {
@@ -27,6 +28,7 @@ fn high(bytes: &[u8]) -> Option<Option<u32>>
     Some(Some(high))
 }
 
+/// What the line says if it is that of the range of N. It doesn't look at the line's end.
 pub fn range_guess(line: &[u8]) -> Option<NRange>
     ensures { result ≡ range_guess line.now }
 {
@@ -42,6 +44,7 @@ pub fn range_guess(line: &[u8]) -> Option<NRange>
     Some(NRange { low, high })
 }
 
+/// What the line says if it is a role's. It doesn't look at the line's end.
 pub fn role_guess(line: &[u8]) -> Option<Role>
     ensures { result ≡ role_guess line.now }
 {
@@ -79,6 +82,7 @@ fn payload(bytes: &[u8]) -> Option<Payload>
     None
 }
 
+/// What the line says if it is a label's. It doesn't look at the line's end.
 pub fn label_guess(line: &[u8]) -> Option<CoreLabel>
     ensures { result ≡ label_guess line.now }
 {
@@ -102,6 +106,7 @@ fn kernel(kind: KernelKind, bytes: &[u8]) -> Option<CoreKernel>
     Some(CoreKernel { name, kind })
 }
 
+/// What the line says if it is the first of a kernel's function. It doesn't look at the line's end.
 pub fn kernel_guess(line: &[u8]) -> Option<CoreKernel>
     ensures { result ≡ kernel_guess line.now }
 {

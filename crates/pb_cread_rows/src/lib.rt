@@ -11,7 +11,6 @@ mod sums;
 
 pub use rows::{read_kernel, read_label, read_protocol, read_range, read_role};
 pub use rules::has_size;
-pub use sums::number_roles;
 
 #[cfg(test)]
 mod tests;

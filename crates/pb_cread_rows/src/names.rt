@@ -4,7 +4,10 @@ ghost use Rattle.std.specs.Prelude.{◌≡◌, nat_eq, map};
 ghost use Rattle.std.specs.Cmp.Lexicographic.{pointwise};
 ghost use Rattle.std.specs.List.{list_any, list_all};
 ghost use Rattle.pb_local.specs.Names.{is_letter, is_word, is_keyword, is_name};
+ghost use Rattle.pb_text.specs.Spellings.{key_spelling};
 ghost use Rattle.pb_cread_rows.specs.Parts.{goes_on_name};
+
+use pb_text::Key;
 
 fn is_letter(byte: u8) -> bool
     ensures { result ≡ is_letter byte }
@@ -12,6 +15,7 @@ fn is_letter(byte: u8) -> bool
     (b'A' <= byte && byte <= b'Z') || (b'a' <= byte && byte <= b'z') || byte == b'_'
 }
 
+/// Whether the byte is a letter, a digit or an underscore.
 pub fn goes_on_name(byte: u8) -> bool
     ensures { result ≡ goes_on_name byte }
 {
@@ -33,11 +37,11 @@ fn is_word(word: &[u8]) -> bool
     }
 }
 
-fn is_one_of(words: &[&[u8]], word: &[u8]) -> bool
-    ensures { result ≡ list_any (λ k. pointwise nat_eq k word.now) (map (λ w. w.now) words.now) }
+fn is_one_of(keys: &[Key], word: &[u8]) -> bool
+    ensures { result ≡ list_any (λ k. pointwise nat_eq k word.now) (map key_spelling keys.now) }
 {
-    for other in words {
-        if *other == word {
+    for key in keys {
+        if key.spelling() == word {
             return true;
         }
     }
@@ -47,35 +51,7 @@ fn is_one_of(words: &[&[u8]], word: &[u8]) -> bool
 fn is_keyword(word: &[u8]) -> bool
     ensures { result ≡ is_keyword word.now }
 {
-    is_one_of(
-        &[
-            b"const",
-            b"global",
-            b"protocol",
-            b"role",
-            b"from",
-            b"to",
-            b"foreach",
-            b"rec",
-            b"continue",
-            b"choice",
-            b"at",
-            b"or",
-            b"compute",
-            b"barrier",
-            b"broadcast",
-            b"reduce",
-            b"allreduce",
-            b"with",
-            b"max",
-            b"min",
-            b"sum",
-            b"int32",
-            b"uint32",
-            b"do",
-        ],
-        word,
-    )
+    is_one_of(Key::all(), word)
 }
 
 /// True where the word is a name: at most 64 letters, digits and underscores, no digit first, and no keyword.

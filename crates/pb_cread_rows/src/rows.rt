@@ -25,6 +25,7 @@ fn protocol_line(alloc: Global, name: &Name) -> Result<Vec<u8>, NoMemory>
     Ok(line)
 }
 
+/// The name in the protocol's line. `None` where the line isn't spelled so, or the word is no name.
 pub fn read_protocol(alloc: Global, line: &[u8]) -> Result<Option<Name>, NoMemory>
     ensures { IfOk result (λ name. name ≡ if_spelled protocol_text is_name line.now (protocol_guess line.now)) }
 {
@@ -40,6 +41,7 @@ pub fn read_protocol(alloc: Global, line: &[u8]) -> Result<Option<Name>, NoMemor
     }
 }
 
+/// The range in the line of N. `None` where the line isn't spelled so, or it is no range.
 #[tactic(auto, unfolding(pb_cprint::specs::Framed::range_line))]
 pub fn read_range(alloc: Global, line: &[u8]) -> Result<Option<NRange>, NoMemory>
     ensures { IfOk result (λ range. range ≡ if_spelled range_line is_range line.now (range_guess line.now)) }
@@ -57,6 +59,8 @@ pub fn read_range(alloc: Global, line: &[u8]) -> Result<Option<NRange>, NoMemory
     }
 }
 
+/// The role in a role's line, behind the roles before and their names. `None` where the line isn't spelled so, or the role
+/// may not stand there.
 #[tactic(auto, unfolding(pb_cprint::specs::Framed::role_line), using(crate::proofs::RuleParts::role_small, crate::proofs::RuleParts::role_few, crate::proofs::RuleParts::role_fresh))]
 pub fn read_role(
     alloc: Global,
@@ -84,6 +88,8 @@ pub fn read_role(
     }
 }
 
+/// The label in a label's line, behind the labels before and their names. `None` where the line isn't spelled so, or the
+/// label may not stand there.
 #[tactic(auto, unfolding(pb_cprint::specs::Framed::label_line), using(crate::proofs::RuleParts::label_fresh))]
 pub fn read_label(
     alloc: Global,
@@ -108,6 +114,8 @@ pub fn read_label(
     }
 }
 
+/// The kernel in the first line of its function, behind the kernels before and their names. `None` where the line isn't
+/// spelled so, or the kernel may not stand there.
 #[tactic(auto, unfolding(pb_cprint::specs::Framed::kernel_line), using(crate::proofs::RuleParts::kernel_fresh))]
 pub fn read_kernel(
     alloc: Global,

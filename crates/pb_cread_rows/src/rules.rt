@@ -10,12 +10,12 @@ ghost use Rattle.pb_cread_rows.specs.Spelled.{names_of_roles, names_of_labels, n
 use crate::names::is_name;
 use crate::sums::ranks;
 use pb_ctree::{Base, CoreKernel, CoreLabel, Lin, NRange, Name, Payload, Role};
-use pb_text::Names;
+use pb_text::{LEAST_OFFSET, MOST_NUMBER, MOST_OFFSET, Names};
 
 fn is_number(n: u32) -> bool
     ensures { result ≡ is_number n }
 {
-    n <= 2_000_000_000
+    n <= MOST_NUMBER
 }
 
 fn is_upper_end(low: u32, high: Option<u32>) -> bool
@@ -27,6 +27,7 @@ fn is_upper_end(low: u32, high: Option<u32>) -> bool
     }
 }
 
+/// Whether the low end is from 1 to 2,000,000,000, and the high end, if there is one, from the low end to 2,000,000,000.
 pub fn is_range(range: NRange) -> bool
     ensures { result ≡ is_range range }
 {
@@ -36,7 +37,7 @@ pub fn is_range(range: NRange) -> bool
 fn is_offset(off: i32) -> bool
     ensures { result ≡ is_offset off }
 {
-    -1_000_000 <= off && off <= 1_000_000
+    LEAST_OFFSET <= off && off <= MOST_OFFSET
 }
 
 fn is_var(base: Base) -> bool
@@ -109,6 +110,8 @@ fn has_fixed_ends(role: &Role) -> bool
         && !is_var(role.high.base)
 }
 
+/// Whether a role may stand behind the roles before and their names: it is named as none of them, it is one of at most 64,
+/// its ends are numbers or N, with offsets from -1,000,000 to 1,000,000, and it has an index for each N of the range.
 #[tactic(auto, using(crate::proofs::RuleParts::role_is, crate::proofs::RuleParts::names_long))]
 pub fn is_role(range: NRange, before: &[Role], names: &Names, role: &Role) -> bool
     requires names { names.now ≡ names_of_roles before.now }
@@ -130,6 +133,7 @@ fn is_single(range: NRange) -> bool
     }
 }
 
+/// Whether there is a role, and the number of ranks grows with N or there is one N alone. There are at most 64 roles.
 pub fn has_size(range: NRange, roles: &[Role]) -> bool
     requires few { length roles.now ≤ 64 }
     requires small { All HasSmallEnds roles.now }
@@ -148,6 +152,8 @@ fn is_payload(payload: Payload) -> bool
     }
 }
 
+/// Whether a label may stand behind the labels before and their names: it is named as none of them, it is one of at most
+/// 4,000, and it has no words or from 1 to 1,024.
 #[tactic(auto, using(crate::proofs::RuleParts::labels_long))]
 pub fn is_label_row(before: &[CoreLabel], names: &Names, label: &CoreLabel) -> bool
     requires names { names.now ≡ names_of_labels before.now }
@@ -159,6 +165,8 @@ pub fn is_label_row(before: &[CoreLabel], names: &Names, label: &CoreLabel) -> b
         && is_payload(label.payload)
 }
 
+/// Whether a kernel may stand behind the kernels before and their names: it is named as none of them, and it is one of at
+/// most 4,000.
 #[tactic(auto, using(crate::proofs::RuleParts::kernels_long))]
 pub fn is_kernel_row(before: &[CoreKernel], names: &Names, kernel: &CoreKernel) -> bool
     requires names { names.now ≡ names_of_kernels before.now }

@@ -1,6 +1,8 @@
 -- Reading goes along the lines of any statements, as long as they keep their rules.
 use Rattle.std.proofs.Common.{◌≡◌, ℕ, suc, ◌+◌, Bool, true, false, cond, List, [], ◌∷◌, ◌++◌, length, Some, None, refl, sym, ap, subst, ◌∙◌, append_assoc, append-nil, arith}
 use Rattle.std.specs.Prelude.{nat_eq, nat_lt, ◌&&◌, if◌then◌else◌}
+use Rattle.std.proofs.Math.Bool.{and-true}
+use Rattle.std.proofs.lemmas.Bool.{and_from}
 use Rattle.pb_affine.specs.declared.guard.Guard.{Guard}
 use Rattle.pb_local.specs.declared.stmt.Peer.{Peer}
 use Rattle.pb_local.specs.Tree.{Code, when, for_each, own, loop, again, choice, send, recv, run, barrier, broadcast, reduce, allreduce, Codes, nothing, more, Parts, no_part, part, codes_of, parts_of, Program, size, size_all, size_parts}
@@ -11,7 +13,7 @@ use Rattle.pb_ctree.specs.Small.{outgoing, incoming}
 use Rattle.pb_ctree.specs.Spelling.{told_lines, spelled, spelled_all, spelled_other, spelled_parts}
 use Rattle.pb_cread_statements.specs.Marks.{marks, marks_all, marks_other, marks_parts}
 use Rattle.pb_cread_statements.specs.Reading.{Told, told, chosen_of, in_first, in_other, in_for, in_loop_of, in_branch, in_last, Frame, frame, statement, made, rooted, cast, reduced, allreduced, received, chosen, answered, state, depth_of, around, is_same_peer}
-use Rattle.pb_cread_statements.proofs.Small.{left, right, and_true, but_true, eq_self, longer, peer_self}
+use Rattle.pb_cread_statements.proofs.Small.{left, right, eq_self, longer, peer_self}
 use Rattle.pb_cread_statements.proofs.Follow.{Follows, follow_on, shift, along, quiet, told_on, told_marks}
 
 abbrev pub list_of : Codes → List Code
@@ -91,7 +93,7 @@ receives p label from done stack n k false wordy =
     λ a. (s2, along p s0 s2 (depth_of stack) (mpi_recv label from) refl a (ap (λ b. cond b (Some s1) (Some s2)) wordy), refl, last_line p done (recv label from) stack n k (n + 0) (omega arith))
 
 pub is_root : (label : ℕ) (root : Peer) → (nat_eq label label && is_same_peer root root) ≡ true
-is_root label root = and_true (nat_eq label label) (is_same_peer root root) (eq_self label) (peer_self root)
+is_root label root = and_from (nat_eq label label) (is_same_peer root root) (eq_self label) (peer_self root)
 
 -- branches from number k on, behind parts and the branch that is read
 abbrev Branches : Program → Told → List (List Code) → List Code → List Code → List Frame → ℕ → ℕ → ℕ → Parts → Type 0
@@ -151,7 +153,7 @@ mutual
       let s3 = state (answered t) done stack n (k + 1) in
       λ e. (
         s1,
-        along p s0 s1 d (if_open (who ∷ [])) refl (but_true (is_guard p who) ∙ e) refl,
+        along p s0 s1 d (if_open (who ∷ [])) refl (and-true (is_guard p who) ∙ e) refl,
         refl,
         λ g. (
           s2,

@@ -1,5 +1,5 @@
--- What goes on fits: each line's numbers are those of its rule, or of what was read before.
-use Rattle.std.proofs.Common.{◌≡◌, ℕ, suc, ◌+◌, ◌≤◌, Bool, true, false, cond, List, [], ◌∷◌, ◌++◌, length, Option, Some, None, refl, subst, arith, eqb-true}
+-- What goes on fits, however many lines stand before it: each line's numbers are those of its rule, or of what was read before.
+use Rattle.std.proofs.Common.{◌≡◌, ℕ, suc, ◌+◌, ◌<◌, ◌≤◌, Bool, true, false, cond, List, [], ◌∷◌, ◌++◌, length, Option, Some, None, refl, subst, arith, eqb-true}
 use Rattle.std.specs.Prelude.{nat_eq, nat_lt, ◌^◌, ◌&&◌}
 use Rattle.std.proofs.lemmas.Bool.{ltb-true}
 use Rattle.pb_affine.specs.declared.lin.Lin.{Lin}
@@ -21,8 +21,14 @@ use Rattle.pb_cread_statements.proofs.Written.{Every, by_test}
 use Rattle.pb_cread_statements.proofs.Closed.{every_at}
 use Rattle.pb_cread_statements.proofs.Numbers.{offset_fits, guards_fit, peer_fits, root_fits, label_there, label_fits, computing_there, choosing_there, label_as, peer_as, Below, below_more, below_found}
 
+-- a loop that begins has the next number, and one that is named an earlier one
+abbrev pub FitsAt : Program → ℕ → Item → Type 0
+FitsAt p loops (loop_open id) = id ≡ loops
+FitsAt p loops (goto id) = id < loops
+FitsAt p loops other = Fits p other
+
 -- what fits of a statement that is half spelled
-abbrev Holds : Program → Wanted → Type 0
+abbrev pub Holds : Program → Wanted → Type 0
 Holds p (made label) = HasLabel p label
 Holds p (rooted label root) = HasLabel p label × FitsPeer p root
 Holds p (cast label root) = HasLabel p label
@@ -31,28 +37,29 @@ Holds p (allreduced label op) = HasLabel p label
 Holds p (received label from) = HasLabel p label
 Holds p other = Unit {0}
 
-record Keeps (p : Program) (s : State) : Type 0 where
-  loops : s.loops ≤ s.begun
-  around : Below s.loops (around s.stack)
-  wanted : Holds p s.wanted
+pub record Keeps (p : Program) (s : State) : Type 0 where
+  pub loops : s.loops ≤ s.begun
+  pub around : Below s.loops (around s.stack)
+  pub wanted : Holds p s.wanted
 
--- the line fits, where there are few loops before it, and the state behind it keeps what is kept
-record Kept (p : Program) (loops : ℕ) (i : Item) (t : State) : Type 0 where
-  fits : loops ≤ 50000 → Fits p i
-  next : Keeps p t
+-- the line fits, apart from the number of a loop, and the state behind it keeps what is kept
+pub record Kept (p : Program) (loops : ℕ) (i : Item) (t : State) : Type 0 where
+  pub fits : FitsAt p loops i
+  pub next : Keeps p t
+  pub more : loops ≤ t.loops
 
 -- ---- the kinds of steps
 
 -- a line that isn't a loop's, behind which the same loops are around
-goes : (p : Program) (w v : Wanted) (done now : List Code) (stack fs : List Frame) (n k j : ℕ) (i : Item) → Keeps p (state w done stack n k) → k ≤ j → Below n (around fs) → Holds p v → Fits p i → Kept p n i (state v now fs n j)
-goes p w v done now stack fs n k j i h more below holds fits = record { fits = λ few. fits; next = record { loops = omega (arith, h.loops, more); around = below; wanted = holds } }
+goes : (p : Program) (w v : Wanted) (done now : List Code) (stack fs : List Frame) (n k j : ℕ) (i : Item) → Keeps p (state w done stack n k) → k ≤ j → Below n (around fs) → Holds p v → FitsAt p n i → Kept p n i (state v now fs n j)
+goes p w v done now stack fs n k j i h more below holds fits = record { fits = fits; next = record { loops = omega (arith, h.loops, more); around = below; wanted = holds }; more = omega arith }
 
 -- a further line of a statement
-on : (p : Program) (w v : Wanted) (done now : List Code) (stack : List Frame) (n k : ℕ) (i : Item) → Keeps p (state w done stack n k) → Holds p v → Fits p i → Kept p n i (state v now stack n k)
+on : (p : Program) (w v : Wanted) (done now : List Code) (stack : List Frame) (n k : ℕ) (i : Item) → Keeps p (state w done stack n k) → Holds p v → FitsAt p n i → Kept p n i (state v now stack n k)
 on p w v done now stack n k i h holds fits = goes p w v done now stack stack n k k i h (omega arith) h.around holds fits
 
 -- the first line of a statement
-first : (p : Program) (v : Wanted) (done now : List Code) (stack : List Frame) (n k : ℕ) (i : Item) → Keeps p (state statement done stack n k) → Holds p v → Fits p i → Kept p n i (state v now stack n (k + 1))
+first : (p : Program) (v : Wanted) (done now : List Code) (stack : List Frame) (n k : ℕ) (i : Item) → Keeps p (state statement done stack n k) → Holds p v → FitsAt p n i → Kept p n i (state v now stack n (k + 1))
 first p v done now stack n k i h holds fits = goes p statement v done now stack stack n k (k + 1) i h (omega arith) h.around holds fits
 
 -- the loops around a brace
@@ -100,14 +107,15 @@ enters_loop : (p : Program) (done : List Code) (stack : List Frame) (n k id : �
 enters_loop p done stack n k id h e =
     let is : id ≡ n = eqb-true id n e in
     record {
-      fits = λ few. omega (arith, is, few);
+      fits = is;
       next = record { loops = omega (arith, h.loops); around = (omega (arith, is), below_more n (around stack) h.around); wanted = tt };
+      more = omega arith;
     }
 
 goes_back : (p : Program) (done now : List Code) (stack : List Frame) (n k id : ℕ) → Keeps p (state statement done stack n k) → free_rule p (state statement done stack n k) (goto id) ≡ true → Kept p n (goto id) (state statement now stack n (k + 1))
 goes_back p done now stack n k id h e =
     let below = below_found n id (around stack) e h.around in
-    record { fits = λ few. omega (arith, below, few); next = record { loops = omega (arith, h.loops); around = h.around; wanted = tt } }
+    record { fits = below; next = record { loops = omega (arith, h.loops); around = h.around; wanted = tt }; more = omega arith }
 
 free : (p : Program) (done : List Code) (stack : List Frame) (n k : ℕ) (i : Item) → HasHead p → Keeps p (state statement done stack n k) → free_rule p (state statement done stack n k) i ≡ true → Every (Kept p n i) (free_step p (state statement done stack n k) i)
 free p done stack n k (if_open guards) head h e = goes p statement statement done [] stack (frame (in_first guards) done ∷ stack) n k (k + 1) (if_open guards) h (omega arith) h.around tt (guards_fit p guards head e)
@@ -224,27 +232,46 @@ both : (b : Bool) (o : Option State) (t : State) → cond b o None ≡ Some t �
 both true o t e = (refl, e)
 both false o t e = absurd cc
 
-goes_keeps : (p : Program) (s t : State) (depth : ℕ) (i : Item) → HasHead p → Keeps p s → goes_on p s depth i ≡ Some t → (depth ≡ place s i) × Kept p s.loops i t
+pub goes_keeps : (p : Program) (s t : State) (depth : ℕ) (i : Item) → HasHead p → Keeps p s → goes_on p s depth i ≡ Some t → Kept p s.loops i t
 goes_keeps p s t depth i head h e =
     let r = both (nat_eq depth (place s i) && rule p s i) (step p s i) t e in
     let rules = right (nat_eq depth (place s i)) (rule p s i) r.0 in
-    (eqb-true depth (place s i) (left (nat_eq depth (place s i)) (rule p s i) r.0), every_at (Kept p s.loops i) (step p s i) t r.1 (keeps p s.wanted s.done s.stack s.loops s.begun i head h rules))
+    every_at (Kept p s.loops i) (step p s i) t r.1 (keeps p s.wanted s.done s.stack s.loops s.begun i head h rules)
 
-first_read : (p : Program) (o : Option State) (is : List Place) (t : State) → then_read o (read p is) ≡ Some t → (n : State) × (o ≡ Some n) × (read p is n ≡ Some t)
+pub first_read : (p : Program) (o : Option State) (is : List Place) (t : State) → then_read o (read p is) ≡ Some t → (n : State) × (o ≡ Some n) × (read p is n ≡ Some t)
 first_read p None is t e = absurd cc
 first_read p (Some n) is t e = (n, refl, e)
 
 some_is : (s t : State) → ◌≡◌ {A = Option State} (Some s) (Some t) → s ≡ t
 some_is s t e = cc
 
-read_keeps : (p : Program) (is : List Place) (s t : State) → HasHead p → Keeps p s → read p is s ≡ Some t → Keeps p t
-read_keeps p [] s t head h e = subst (Keeps p) (some_is s t e) h
+pub record Reads (p : Program) (s t : State) : Type 0 where
+  pub keeps : Keeps p t
+  pub more : s.loops ≤ t.loops
+
+-- what is kept goes on to be kept, and loops only become more
+pub read_keeps : (p : Program) (is : List Place) (s t : State) → HasHead p → Keeps p s → read p is s ≡ Some t → Reads p s t
+read_keeps p [] s t head h e = subst (Reads p s) (some_is s t e) (record { keeps = h; more = omega arith })
 read_keeps p (i ∷ is) s t head h e =
     let r = first_read p (goes_on p s i.depth i.item) is t e in
-    read_keeps p is r.0 t head (goes_keeps p s r.0 i.depth i.item head h r.1).1.next r.2
+    let k = goes_keeps p s r.0 i.depth i.item head h r.1 in
+    let rest = read_keeps p is r.0 t head k.next r.2 in
+    record { keeps = rest.keeps; more = omega (arith, k.more, rest.more) }
 
-start : (p : Program) → Keeps p nothing_read
+pub start : (p : Program) → Keeps p nothing_read
 start p = record { loops = omega arith; around = tt; wanted = tt }
+
+-- ---- where there are few loops
+
+few_fit : (p : Program) (loops : ℕ) (i : Item) → loops ≤ 50000 → FitsAt p loops i → Fits p i
+few_fit p loops (loop_open id) few is = omega (arith, is, few)
+few_fit p loops (goto id) few below = omega (arith, below, few)
+few_fit p loops other few fits = fits
+
+stands : (p : Program) (s t : State) (depth : ℕ) (i : Item) → goes_on p s depth i ≡ Some t → depth ≡ place s i
+stands p s t depth i e =
+    let r = both (nat_eq depth (place s i) && rule p s i) (step p s i) t e in
+    eqb-true depth (place s i) (left (nat_eq depth (place s i)) (rule p s i) r.0)
 
 -- a line stands at most one deeper than the braces that are open
 free_deep : (stack : List Frame) (i : Item) → free_place stack i ≤ depth_of stack
@@ -262,6 +289,7 @@ deep stack other i = omega arith
 
 pub fits : FitsWhatGoesOn
 fits p items s t depth item head was few shallow e =
-    let h = read_keeps p items nothing_read s head (start p) was in
+    let h = (read_keeps p items nothing_read s head (start p) was).keeps in
+    let there = stands p s t depth item e in
     let r = goes_keeps p s t depth item head h e in
-    (omega (arith, r.0, deep s.stack s.wanted item, shallow), r.1.fits (omega (arith, h.loops, few)))
+    (omega (arith, there, deep s.stack s.wanted item, shallow), few_fit p s.loops item (omega (arith, h.loops, few)) r.fits)

@@ -2,6 +2,8 @@
 use Rattle.std.proofs.Common.{◌≡◌, ℕ, ◌+◌, Bool, true, false, cond, List, [], ◌∷◌, ◌++◌, map, Some, None, refl, sym, ap, subst, ◌∙◌, append_assoc, append-nil}
 use Rattle.std.proofs.lemmas.List.{map-append}
 use Rattle.std.specs.Prelude.{nat_eq, nat_lt, ◌&&◌, ◌^◌}
+use Rattle.std.proofs.Math.Bool.{and-true}
+use Rattle.std.proofs.lemmas.Bool.{and_from}
 use Rattle.pb_affine.specs.declared.guard.Guard.{Guard}
 use Rattle.pb_local.specs.declared.stmt.Peer.{Peer}
 use Rattle.pb_local.specs.declared.stmt.Test.{Test}
@@ -12,7 +14,7 @@ use Rattle.pb_ctree.specs.Rules.{is_peer_of, comes_after}
 use Rattle.pb_ctree.specs.Spelling.{relay_lines, probe_lines, next_tests, test_lines, abort_lines, isnt_there, told_lines}
 use Rattle.pb_cread_statements.specs.Marks.{counted}
 use Rattle.pb_cread_statements.specs.Reading.{Told, told, Frame, Wanted, chosen, asked, relaying, relayed, sourced, probed, untested, testing, tested, aborting, aborted, all_tested, answered, State, state, depth_of, place, last_of, untold, rule, step, goes_on}
-use Rattle.pb_cread_statements.proofs.Small.{left, right, and_true, but_true, eq_self, source_is, source_at}
+use Rattle.pb_cread_statements.proofs.Small.{left, right, eq_self, source_is, source_at}
 
 abbrev pub Follows : Program → State → List Line → List Bool → State → Type 0
 Follows p s [] [] t = s ≡ t
@@ -33,7 +35,7 @@ shift p ls ms s w done now stack m n k j h e f g =
     subst (λ x. Follows p s ls ms (state w x stack n j)) e (subst (λ x. Follows p s ls ms (state w done stack x j)) f (subst (λ x. Follows p s ls ms (state w done stack m x)) g h))
 
 pub along : (p : Program) (s n : State) (d : ℕ) (i : Item) → d ≡ place s i → rule p s i ≡ true → step p s i ≡ Some n → goes_on p s d i ≡ Some n
-along p s n d i at keeps goes = ap (λ b. cond b (step p s i) None) (and_true (nat_eq d (place s i)) (rule p s i) (ap (λ x. nat_eq d x) (sym at) ∙ eq_self d) keeps) ∙ goes
+along p s n d i at keeps goes = ap (λ b. cond b (step p s i) None) (and_from (nat_eq d (place s i)) (rule p s i) (ap (λ x. nat_eq d x) (sym at) ∙ eq_self d) keeps) ∙ goes
 
 -- ---- how the branch is told: no line begins a statement
 
@@ -118,7 +120,7 @@ all_tests_on p t ts who kernel relays from done stack n k =
       s1,
       along p s0 s1 d (test_open t.label t.guards) refl a refl,
       refl,
-      λ b. (s2, along p s1 s2 (d + 1) (picks t.branch) refl (but_true (nat_lt t.branch (2 ^ 32)) ∙ b) refl, refl, tests_on p ts (t ∷ []) t who kernel relays from done stack n k refl),
+      λ b. (s2, along p s1 s2 (d + 1) (picks t.branch) refl (and-true (nat_lt t.branch (2 ^ 32)) ∙ b) refl, refl, tests_on p ts (t ∷ []) t who kernel relays from done stack n k refl),
     )
 
 aborts_on : (p : Program) (t : Told) (done : List Code) (stack : List Frame) (n k : ℕ)

@@ -1,6 +1,7 @@
 -- Each line that goes on is the next of the lines that were read.
 use Rattle.std.proofs.Common.{◌≡◌, ℕ, suc, ◌+◌, true, List, [], ◌∷◌, ◌++◌, length, Some, None, refl, sym, ap, ◌∙◌, append_assoc, append-nil, arith, eqb-true}
 use Rattle.std.specs.Prelude.{nat_eq, nat_lt, ◌&&◌}
+use Rattle.std.proofs.Math.Bool.{and-true}
 use Rattle.pb_affine.specs.declared.guard.Guard.{Guard}
 use Rattle.pb_local.specs.Tree.{Code, when, for_each, loop, nothing, no_part, part, codes_of, Program}
 use Rattle.pb_local.specs.WellMade.{Scope, behind, loops_at}
@@ -8,7 +9,7 @@ use Rattle.pb_ctree.specs.Lines.{close, else_open, if_open, chooses, else_pick_o
 use Rattle.pb_ctree.specs.Rules.{is_guard, are_guards, is_chooser, can_choose}
 use Rattle.pb_ctree.specs.Spelling.{branch_open, spelled}
 use Rattle.pb_cread_statements.specs.Reading.{Told, chosen_of, Kind, in_first, in_other, in_for, in_loop_of, in_branch, in_last, Frame, frame, Wanted, statement, chosen, state, depth_of, around, close_in, else_in, branch_in, choose_in, rule}
-use Rattle.pb_cread_statements.proofs.Small.{but_true, longer}
+use Rattle.pb_cread_statements.proofs.Small.{longer}
 use Rattle.pb_cread_statements.proofs.Along.{at}
 use Rattle.pb_cread_statements.proofs.Written.{loops_of, loops_parts, lines_of, head, partial, branches_read, opening, inner, loops_before, before, Fits, IsGood, Adds, Every, by_test, loops_append, lines_append}
 use Rattle.pb_cread_statements.proofs.Branched.{branches_append, branches_last, loops_parts_append}
@@ -183,7 +184,7 @@ choosing p who kernel outer fs n k h =
     let d = depth_of fs in
     let l = line (d + 1) (chooses kernel) (is_chooser who && can_choose p kernel) ∷ [] in
     record {
-      line = ap (λ b. before p fs ++ (here p fs outer ++ (line d (if_open (who ∷ [])) b ∷ l))) (sym (but_true (is_guard p who))) ∙ choose (before p fs) (here p fs outer) (line d (if_open (who ∷ [])) (are_guards p (who ∷ [])) ∷ []) l;
+      line = ap (λ b. before p fs ++ (here p fs outer ++ (line d (if_open (who ∷ [])) b ∷ l))) (sym (and-true (is_guard p who))) ∙ choose (before p fs) (here p fs outer) (line d (if_open (who ∷ [])) (are_guards p (who ∷ [])) ∷ []) l;
       is_good = record { loops = omega (arith, h.loops); fits = tt };
     }
 

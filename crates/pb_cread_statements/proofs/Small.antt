@@ -3,6 +3,7 @@ use Rattle.std.proofs.Common.{◌≡◌, ℕ, ◌+◌, Bool, true, false, List, 
 use Rattle.std.specs.Prelude.{nat_eq, ◌&&◌}
 use Rattle.std.specs.Ordering.{int_eq}
 use Rattle.std.proofs.lemmas.List.{length-append}
+use Rattle.std.proofs.lemmas.Bool.{and_from}
 use Rattle.pb_affine.specs.declared.lin.Base.{Base}
 use Rattle.pb_affine.specs.declared.lin.Base.TheVariants.{Fixed, Param, Var}
 use Rattle.pb_affine.specs.declared.lin.Lin.{Lin}
@@ -19,13 +20,6 @@ left false b e = absurd cc
 pub right : (a b : Bool) → (a && b) ≡ true → b ≡ true
 right true b e = e
 right false b e = absurd cc
-
-pub and_true : (a b : Bool) → a ≡ true → b ≡ true → (a && b) ≡ true
-and_true a b p q = rw p q
-
-pub but_true : (a : Bool) → (a && true) ≡ a
-but_true true = refl
-but_true false = refl
 
 pub eq_self : (n : ℕ) → nat_eq n n ≡ true
 eq_self n = eq-eqb n n refl
@@ -62,7 +56,7 @@ lin_same a b e =
     ap (λ x. let l : Lin = record { base = x; off = a.off } in l) base ∙ ap (λ x. let l : Lin = record { base = b.base; off = x } in l) off
 
 pub lin_self : (a : Lin) → is_same_lin a a ≡ true
-lin_self a = and_true (is_same_base a.base a.base) (int_eq a.off a.off) (base_self a.base) (int_self a.off)
+lin_self a = and_from (is_same_base a.base a.base) (int_eq a.off a.off) (base_self a.base) (int_self a.off)
 
 pub peer_same : (a b : Peer) → is_same_peer a b ≡ true → a ≡ b
 peer_same a b e =
@@ -71,7 +65,7 @@ peer_same a b e =
     ap (λ x. let l : Peer = record { role = x; at = a.at } in l) role ∙ ap (λ x. let l : Peer = record { role = b.role; at = x } in l) at
 
 pub peer_self : (a : Peer) → is_same_peer a a ≡ true
-peer_self a = and_true (nat_eq a.role a.role) (is_same_lin a.at a.at) (eq_self a.role) (lin_self a.at)
+peer_self a = and_from (nat_eq a.role a.role) (is_same_lin a.at a.at) (eq_self a.role) (lin_self a.at)
 
 pub at_same : (low : Option Lin) (at : Lin) → is_at low at ≡ true → low ≡ Some at
 at_same None at e = absurd cc

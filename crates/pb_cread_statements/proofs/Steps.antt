@@ -1,6 +1,8 @@
 -- Each step adds its line to the lines that were read.
 use Rattle.std.proofs.Common.{◌≡◌, ℕ, ◌+◌, true, List, [], ◌∷◌, ◌++◌, Option, Some, None, refl, sym, ap, ◌∙◌, append_assoc, append-nil, arith, eqb-true}
 use Rattle.std.specs.Prelude.{nat_eq, nat_lt, ◌^◌, ◌&&◌, if◌then◌else◌}
+use Rattle.std.proofs.Math.Bool.{and-true}
+use Rattle.std.proofs.lemmas.Bool.{and_from}
 use Rattle.pb_affine.specs.declared.lin.Lin.{Lin}
 use Rattle.pb_affine.specs.declared.guard.Guard.{Guard}
 use Rattle.pb_syntax.specs.declared.tree.Op.{Op}
@@ -14,7 +16,7 @@ use Rattle.pb_ctree.specs.Small.{outgoing, incoming, payload_of}
 use Rattle.pb_ctree.specs.Spelling.{probe_lines, test_lines}
 use Rattle.pb_cread_statements.specs.Reading.{Told, told, with_test, in_first, in_for, in_loop_of, in_branch, Frame, Wanted, statement, made, rooted, cast, reduced, allreduced, received, chosen, asked, relaying, relayed, sourced, probed, untested, testing, tested, aborting, aborted, all_tested, answered, State, state, depth_of, place, is_same_peer, untold, step, rule, last_of}
 use Rattle.pb_cread_statements.proofs.Small as Small
-use Rattle.pb_cread_statements.proofs.Small.{but_true, eq_self, longer, lin_self, peer_same, and_true}
+use Rattle.pb_cread_statements.proofs.Small.{eq_self, longer, lin_self, peer_same}
 use Rattle.pb_cread_statements.proofs.Along.{at}
 use Rattle.pb_cread_statements.proofs.Written.{start, head, relays_read, tests_read, relay_open, tested_open, asked_read, untested_read, tested_read, all_tested_read, partial, IsMore, IsGood, Adds, Every, by_test}
 use Rattle.pb_cread_statements.proofs.Branched.{relays_append, relays_some, tests_some, relays_all, next_append}
@@ -55,7 +57,7 @@ free p done stack n k other h = tt
 -- ---- messages and collectives
 
 makes_it : (p : Program) (d label same : ℕ) → label ≡ same → is_wordy p same ≡ true → line d (makes label) (is_label p label && is_wordy p label) ≡ line d (makes same) (is_label p same)
-makes_it p d label same is wordy = ap (λ x. line d (makes x) (is_label p x && is_wordy p x)) is ∙ ap (λ b. line d (makes same) (is_label p same && b)) wordy ∙ ap (line d (makes same)) (but_true (is_label p same))
+makes_it p d label same is wordy = ap (λ x. line d (makes x) (is_label p x && is_wordy p x)) is ∙ ap (λ b. line d (makes same) (is_label p same && b)) wordy ∙ ap (line d (makes same)) (and-true (is_label p same))
 
 behind_make : (p : Program) (same : ℕ) (done : List Code) (stack : List Frame) (n k : ℕ) (i : Item) → IsGood p (state (made same) done stack n k) → Grows p (state (made same) done stack n k) i
 behind_make p same done stack n k (mpi_send label to) h =
@@ -120,7 +122,7 @@ taken_root p same op root done stack n k other h = tt
 -- ---- how the branch is told
 
 is_told_by : (who : Guard) (low : Lin) → who.low ≡ Some low → is_peer_of (record { role = who.role; at = low }) who ≡ true
-is_told_by who low is = and_true (nat_eq who.role who.role) _ (eq_self who.role) (ap (λ x. is_at x low) is ∙ lin_self low)
+is_told_by who low is = and_from (nat_eq who.role who.role) _ (eq_self who.role) (ap (λ x. is_at x low) is ∙ lin_self low)
 
 untold_on : (p : Program) (who : Guard) (kernel : ℕ) (done : List Code) (stack : List Frame) (n k : ℕ) (low : Option Lin) → who.low ≡ low → IsGood p (state (chosen who kernel) done stack n k)
     → Every (λ t. Adds p (state (chosen who kernel) done stack n k) t (line (depth_of stack) close true)) (untold (state (chosen who kernel) done stack n k) who kernel low)
@@ -184,7 +186,7 @@ untested_on p who kernel relays from done stack n k other h = tt
 test_lines_more : (p : Program) (d : ℕ) (ts : List Test) (branch label : ℕ) (guards : List Guard)
     → tests_read p d (ts ++ record { branch = branch; label = label; guards = guards } ∷ [])
     ≡ tests_read p d ts ++ (tested_open p d ts label guards ∷ line (d + 1) (picks branch) (nat_lt branch (2 ^ 32) && comes_after (last_of ts) (record { branch = branch; label = label; guards = guards })) ∷ [])
-test_lines_more p d [] branch label guards = ap (λ b. line d (test_open label guards) (is_label p label && are_guards p guards) ∷ line (d + 1) (picks branch) b ∷ []) (sym (but_true (nat_lt branch (2 ^ 32))))
+test_lines_more p d [] branch label guards = ap (λ b. line d (test_open label guards) (is_label p label && are_guards p guards) ∷ line (d + 1) (picks branch) b ∷ []) (sym (and-true (nat_lt branch (2 ^ 32))))
 test_lines_more p d (t ∷ ts) branch label guards =
     ap (λ x. line d (test_open t.label t.guards) (is_label p t.label && are_guards p t.guards) ∷ line (d + 1) (picks t.branch) (nat_lt t.branch (2 ^ 32)) ∷ x) (next_append p d t ts (record { branch = branch; label = label; guards = guards }))
 

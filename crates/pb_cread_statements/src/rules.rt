@@ -8,6 +8,7 @@ ghost use Rattle.pb_cread_statements.specs.Reading.{is_same_peer, last_of};
 use crate::{Peer, Test};
 use pb_local::is_same_lin;
 
+/// Whether both have the same role and the same lin.
 pub fn is_same_peer(a: Peer, b: Peer) -> bool
     ensures { result ≡ is_same_peer a b }
 {

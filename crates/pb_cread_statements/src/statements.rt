@@ -32,7 +32,7 @@ fn is_next(parts: &Vec<Vec<Stmt>>, branch: u32) -> bool
     branch as usize == parts.len() + 1
 }
 
-#[tactic(auto, using(crate::proofs::Plains::choice_plain))]
+#[tactic(auto, using(pb_local::proofs::Plains::choice_plain))]
 fn choice_of(told: Told, branches: Vec<Vec<Stmt>>) -> Stmt
     ensures { plain result ≡ chosen_of (told_of told) (plains branches.items) }
 {

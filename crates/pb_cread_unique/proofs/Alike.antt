@@ -16,7 +16,7 @@ use Rattle.pb_cread_lines.proofs.Whole.{only_line, no_line}
 use Rattle.pb_cread_statements.specs.Reading.{State, goes_on}
 use Rattle.pb_cread_statements.proofs.Relabelled.{only_one}
 use Rattle.pb_cread_unique.proofs.Held.{tables_of, are_tables}
-use Rattle.pb_cread_unique.proofs.Fitted.{FitsAt, Keeps, goes_keeps}
+use Rattle.pb_cread_statements.proofs.Fitted.{FitsAt, Keeps, goes_keeps}
 
 -- ---- the depth
 

@@ -2,6 +2,7 @@
 use Rattle.std.proofs.Common.{◌≡◌, ℕ, zero, suc, ◌<◌, ◌≤◌, Bool, true, false, List, [], ◌∷◌, ◌++◌, length, take, Some, refl, sym, ap, subst, ◌∙◌, arith}
 use Rattle.std.specs.Prelude.{◌^◌}
 use Rattle.std.proofs.lemmas.List.{take_all}
+use Rattle.std.proofs.lemmas.Option.{same_Some}
 use Rattle.pb_local.specs.Tree.{Codes, codes_of, Program}
 use Rattle.pb_ctree.specs.Frame.{end_lines}
 use Rattle.pb_ctree.specs.Lines.{Item, Line}
@@ -13,7 +14,7 @@ use Rattle.pb_cread_statements.specs.Marks.{counted, marks_all, begun_in}
 use Rattle.pb_cread_statements.specs.Reading.{State, Place, nothing_read, goes_on, read, finished}
 use Rattle.pb_cread_statements.proofs.Laws.{reads_fronts, reads_statements}
 use Rattle.pb_cread_statements.proofs.Marked.{marks_statements}
-use Rattle.pb_cread_unique.proofs.Fitted.{Keeps, goes_keeps, read_keeps, first_read, start}
+use Rattle.pb_cread_statements.proofs.Fitted.{Keeps, goes_keeps, read_keeps, first_read, start}
 use Rattle.pb_cread_unique.proofs.Alike.{one_item, no_end}
 
 abbrev pub places : List Line → List Place
@@ -25,9 +26,6 @@ places (l ∷ ls) = place_of l.depth l.item ∷ places ls
 same_line : (l m : Line) → l.depth ≡ m.depth → l.item ≡ m.item → l.kept ≡ true → m.kept ≡ true → l ≡ m
 same_line l m d i a b =
     ap (λ (x : ℕ). record l { depth = x }) d ∙ ap (λ (x : Item). record l { depth = m.depth; item = x }) i ∙ ap (λ (x : Bool). record l { depth = m.depth; item = m.item; kept = x }) (a ∙ sym b)
-
-some_same : {X : Type 0} (x y : X) → Some x ≡ Some y → x ≡ y
-some_same x y e = cc
 
 both : {x y : Line} {xs ys : List Line} → x ≡ y → xs ≡ ys → x ∷ xs ≡ y ∷ ys
 both {y = y} {xs = xs} e f = ap (λ z. z ∷ xs) e ∙ ap (λ zs. y ∷ zs) f
@@ -52,7 +50,7 @@ same_front p (x ∷ xs) (l ∷ ls) (m ∷ ms) s ta tb head keeps few ra rb sa sb
     let more = (read_keeps p (places (take (suc (length xs)) (l ∷ ls))) s ta head keeps ra).more in
     let k = goes_keeps p s a.0 l.depth l.item head keeps a.1 in
     let same = one_item p s a.0 b.0 l.depth m.depth l.item m.item head keeps (omega (arith, more, few)) (sym sa.0 ∙ sb.0) a.1 b.1 in
-    let next : b.0 ≡ a.0 = some_same b.0 a.0 (sym b.1 ∙ ap (λ d. goes_on p s d m.item) (sym same.0) ∙ ap (goes_on p s l.depth) (sym same.1) ∙ a.1) in
+    let next : b.0 ≡ a.0 = same_Some b.0 a.0 (sym b.1 ∙ ap (λ d. goes_on p s d m.item) (sym same.0) ∙ ap (goes_on p s l.depth) (sym same.1) ∙ a.1) in
     let P : State → Type 0 = λ u. read p (places (take (length xs) ms)) u ≡ Some tb in
     both (same_line l m same.0 same.1 sa.1 sb.1) (same_front p xs ls ms a.0 ta tb head k.next few a.2 (subst P next b.2) sa.2 sb.2)
 
@@ -113,7 +111,7 @@ same_to p a b xs head few sa sb =
     let rb = is_read_to p b xs sb in
     let keeps = (read_keeps p (places (take (length xs) (main_lines p a))) nothing_read ra.state head (start p) ra.reads).keeps in
     let lines = same_front p xs (main_lines p a) (main_lines p b) nothing_read ra.state rb.state head (start p) (omega (arith, keeps.loops, ra.begun, few)) ra.reads rb.reads sa sb in
-    let one : ra.state ≡ rb.state = some_same ra.state rb.state (sym ra.reads ∙ ap (λ ls. read p (places ls) nothing_read) lines ∙ rb.reads) in
+    let one : ra.state ≡ rb.state = same_Some ra.state rb.state (sym ra.reads ∙ ap (λ ls. read p (places ls) nothing_read) lines ∙ rb.reads) in
     record { lines = lines; begun = sym ra.begun ∙ ap (λ (s : State). s.begun) one ∙ rb.begun }
 
 -- ---- all lines of statements
@@ -133,6 +131,6 @@ same_statements p a b xs head few la lb sa sb =
     let P : List Line → Type 0 = λ ls. Are (places ls) (main_lines p b) in
     let ra = reads_statements p a (places (main_lines p a)) (all_are p xs (main_lines p a) la sa) in
     let rb = reads_statements p b (places (main_lines p a)) (subst P (sym lines) (all_are p xs (main_lines p b) lb sb)) in
-    let one : ra.0 ≡ rb.0 = some_same ra.0 rb.0 (sym ra.1 ∙ rb.1) in
-    let done : ra.2 ≡ rb.2 = some_same ra.2 rb.2 (sym ra.3 ∙ ap finished one ∙ rb.3) in
+    let one : ra.0 ≡ rb.0 = same_Some ra.0 rb.0 (sym ra.1 ∙ rb.1) in
+    let done : ra.2 ≡ rb.2 = same_Some ra.2 rb.2 (sym ra.3 ∙ ap finished one ∙ rb.3) in
     sym ra.4 ∙ ap codes_of done ∙ rb.4

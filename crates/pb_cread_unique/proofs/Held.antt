@@ -1,6 +1,7 @@
 -- The tables of a program, with a label for each payload.
 use Rattle.std.proofs.Common.{◌≡◌, ℕ, zero, suc, ◌+◌, ◌<◌, Bool, true, false, cond, List, [], ◌∷◌, length, map, Option, Some, None, refl, sym, ap, ◌∙◌, arith, nat_eq, ◌⊎◌, inl, inr, eqb-true, eq-eqb, BuildHasherDefault, FoldHasher}
 use Rattle.std.specs.Prelude.{IsSome}
+use Rattle.std.proofs.lemmas.Option.{same_Some, none-some}
 use Rattle.indexmap.specs.Layout.{hash_map}
 use Rattle.pb_syntax.specs.declared.tree.Payload.{Payload}
 use Rattle.pb_syntax.specs.declared.tree.Payload.TheVariants.{Unit as NoWords, Int32, Uint32}
@@ -31,27 +32,21 @@ payloads_from k (l ∷ ls) = put k l.payload (payloads_from (suc k) ls)
 abbrev pub tables_of : Program → Tables
 tables_of p = record { roles = map (λ r. r.name) p.roles; labels = map (λ l. l.name) p.labels; kernels = map (λ k. k.name) p.kernels; payloads = payloads_from 0 p.labels }
 
-none_some : (j : ℕ) → None ≡ Some j → ⊥
-none_some j e = cc
-
-some_is : (a b : ℕ) → Some a ≡ Some b → a ≡ b
-some_is a b e = cc
-
 put_sound : (k : ℕ) (a : Payload) (m : Payloads) (q : Payload) (j : ℕ) → holding (put k a m) q ≡ Some j → ((j ≡ k) × (a ≡ q)) ⊎ (holding m q ≡ Some j)
-put_sound k NoWords m NoWords j e = inl (sym (some_is k j e), refl)
+put_sound k NoWords m NoWords j e = inl (sym (same_Some k j e), refl)
 put_sound k NoWords m (Int32 d) j e = inr e
 put_sound k NoWords m (Uint32 d) j e = inr e
 put_sound k (Int32 c) m NoWords j e = inr e
 put_sound k (Int32 c) m (Int32 d) j e = at (nat_eq d c) refl e where
   at : (b : Bool) → nat_eq d c ≡ b → cond b (Some k) (holding m (Int32 d)) ≡ Some j → ((j ≡ k) × (Int32 c ≡ Int32 d)) ⊎ (holding m (Int32 d) ≡ Some j)
-  at true t e = inl (sym (some_is k j e), ap (λ (n : ℕ). Int32 n) (sym (eqb-true d c t)))
+  at true t e = inl (sym (same_Some k j e), ap (λ (n : ℕ). Int32 n) (sym (eqb-true d c t)))
   at false t e = inr e
 put_sound k (Int32 c) m (Uint32 d) j e = inr e
 put_sound k (Uint32 c) m NoWords j e = inr e
 put_sound k (Uint32 c) m (Int32 d) j e = inr e
 put_sound k (Uint32 c) m (Uint32 d) j e = at (nat_eq d c) refl e where
   at : (b : Bool) → nat_eq d c ≡ b → cond b (Some k) (holding m (Uint32 d)) ≡ Some j → ((j ≡ k) × (Uint32 c ≡ Uint32 d)) ⊎ (holding m (Uint32 d) ≡ Some j)
-  at true t e = inl (sym (some_is k j e), ap (λ (n : ℕ). Uint32 n) (sym (eqb-true d c t)))
+  at true t e = inl (sym (same_Some k j e), ap (λ (n : ℕ). Uint32 n) (sym (eqb-true d c t)))
   at false t e = inr e
 
 same_number : (c : ℕ) → nat_eq c c ≡ true
@@ -83,9 +78,9 @@ record Found (k : ℕ) (ls : List CoreLabel) (q : Payload) (j : ℕ) : Type 0 wh
   payload : payload_in ls row ≡ q
 
 nothing_held : (q : Payload) (j : ℕ) → holding no_payload q ≡ Some j → ⊥
-nothing_held NoWords j e = none_some j e
-nothing_held (Int32 d) j e = none_some j e
-nothing_held (Uint32 d) j e = none_some j e
+nothing_held NoWords j e = none-some j e
+nothing_held (Int32 d) j e = none-some j e
+nothing_held (Uint32 d) j e = none-some j e
 
 sound_from : (k : ℕ) (ls : List CoreLabel) (q : Payload) (j : ℕ) → holding (payloads_from k ls) q ≡ Some j → Found k ls q j
 sound_from k [] q j e = absurd (nothing_held q j e)

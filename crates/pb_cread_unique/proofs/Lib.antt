@@ -1,7 +1,6 @@
 pub mod Bodied
 pub mod Held
 pub mod Only
-pub mod Fitted
 pub mod Alike
 pub mod Fronts
 pub mod Rows

@@ -1,6 +1,7 @@
 -- A worked text.
 use Rattle.std.specs.Prelude.{ℤ, pos, negsuc, [], ◌∷◌, Some, None, codes, map, ◌≡◌, true, refl}
 use Rattle.std.specs.Fmt.{digits}
+use Rattle.pb_text.specs.Spellings as spellings
 use Rattle.pb_affine.specs.declared.lin.Base.TheVariants.{Fixed, Param}
 use Rattle.pb_affine.specs.declared.lin.Lin.{Lin}
 use Rattle.pb_affine.specs.declared.guard.Guard.{Guard}
@@ -80,4 +81,5 @@ unfolding digits
 worked = refl
 
 worked_kept : all_kept (text_lines first_to_last [] []) ≡ true
+unfolding spellings.keys
 worked_kept = refl

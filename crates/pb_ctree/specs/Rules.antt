@@ -2,6 +2,7 @@
 use Rattle.std.specs.Prelude.{ℕ, ℤ, pos, negsuc, int_le, nat_eq, nat_lt, nat_le, not, Bool, true, false, ◌&&◌, ◌||◌, Option, Some, None, List, [], ◌∷◌, length}
 use Rattle.std.specs.List.{list_all, list_any}
 use Rattle.std.specs.Cmp.Lexicographic.{pointwise}
+use Rattle.pb_text.specs.declared.limits.TheConstants.{LEAST_OFFSET, MOST_NUMBER, MOST_OFFSET}
 use Rattle.pb_affine.specs.declared.lin.Base.{Base}
 use Rattle.pb_affine.specs.declared.lin.Base.TheVariants.{Fixed, Param, Var}
 use Rattle.pb_affine.specs.declared.lin.Lin.{Lin}
@@ -28,7 +29,7 @@ use Rattle.pb_ctree.specs.Functions.{has_words}
 use Rattle.pb_ctree.specs.Small.{payload_of}
 
 abbrev pub is_number : ℕ → Bool
-is_number n = nat_le n 2000000000
+is_number n = nat_le n MOST_NUMBER
 
 -- ---- the head
 
@@ -40,7 +41,7 @@ abbrev pub is_range : NRange → Bool
 is_range r = nat_le 1 r.low && is_number r.low && is_upper_end r.low r.high
 
 abbrev pub is_offset : ℤ → Bool
-is_offset off = int_le (negsuc 999999) off && int_le off (pos 1000000)
+is_offset off = int_le LEAST_OFFSET off && int_le off MOST_OFFSET
 
 abbrev pub is_var : Base → Bool
 is_var Fixed = false

@@ -58,7 +58,7 @@ impl Formula {
     }
 
     /// The sum with the number of this role's ranks added.
-    fn with_role(self, role: &Role) -> Formula
+    pub fn with_role(self, role: &Role) -> Formula
         requires room { HasRoom self }
         requires small { HasSmallEnds role.now }
         ensures { sum_of result ≡ with_role (sum_of self) role.now }
@@ -102,7 +102,7 @@ fn number_role(
 /// Appends the bases and places of the roles, where the first rank of the first role has the number `first`, and gives
 /// the number behind the last rank.
 #[tactic(auto, using(crate::proofs::Rooms::room_after, crate::proofs::Rooms::room_now))]
-fn number_roles(
+pub fn number_roles(
     roles: &[Role],
     bases: &mut Vec<Formula>,
     places: &mut Vec<Formula>,
@@ -139,7 +139,8 @@ fn numbered(alloc: Global, local: &Local) -> Result<CTree, NoMemory>
 
 /// The C tree of an endpoint program. A role's base is the number of its first rank, and its place is that less its least
 /// index: so a rank's number is its index plus its role's place, and its role is the last whose base is at most that.
-
+///
+/// The same as `numbered`, with the clause that the tree numbers the ranks.
 pub fn emit(alloc: Global, local: &Local) -> Result<CTree, NoMemory>
     requires { IsWellMade (program_of local.now) }
     ensures same { IfOk result (λ tree. program_of tree.local ≡ program_of local.now) }

@@ -10,7 +10,7 @@ mod rules;
 mod tree;
 
 pub use body::{Bodies, Body};
-pub use emitting::emit;
+pub use emitting::{emit, number_roles};
 pub use kernel::{KName, Kind};
 pub use kernels::{default_bodies, functions, has_words};
 pub use pb_affine::{Base, Guard, Guards, Lin, NRange};

@@ -8,18 +8,19 @@ ghost use Rattle.pb_ctree.specs.Rules.{is_number, is_offset, is_var, is_small_if
 use crate::kernels::has_words;
 use crate::{Base, Guard, KernelKind, Lin, Local, Op, Payload, Peer, Test};
 use pb_local::is_same_lin;
+use pb_text::{LEAST_OFFSET, MOST_NUMBER, MOST_OFFSET};
 
 fn is_number(n: u32) -> bool
     ensures { result ≡ is_number n }
 {
-    n <= 2_000_000_000
+    n <= MOST_NUMBER
 }
 
 /// Whether an offset lies within its bounds: from -1,000,000 to 1,000,000.
 pub fn is_offset(off: i32) -> bool
     ensures { result ≡ is_offset off }
 {
-    -1_000_000 <= off && off <= 1_000_000
+    LEAST_OFFSET <= off && off <= MOST_OFFSET
 }
 
 fn is_var(base: Base) -> bool

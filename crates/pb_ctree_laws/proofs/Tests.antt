@@ -7,6 +7,7 @@ use Rattle.std.proofs.lemmas.Cmp.{nat_eq_equiv}
 use Rattle.std.proofs.lemmas.List.{get_or_default}
 use Rattle.std.proofs.lemmas.List.Folds.{Any-from_list_any}
 use Rattle.std.proofs.lemmas.Map.Views.{list_any-from_Contains}
+use Rattle.std.proofs.Math.Bool.{and_assoc}
 use lib.Signed.{le_z_yes}
 use Rattle.pb_ctree.specs.Lines.{Line}
 use Rattle.pb_ctree.specs.Texts.{all_kept}
@@ -53,13 +54,9 @@ contains_is xs x = (found, λ w. list_any-from_Contains nat_eq_equiv x xs w) whe
 
 -- ---- lines
 
-and_assoc : (a b c : Bool) → (a && (b && c)) ≡ (a && b && c)
-and_assoc true b c = refl
-and_assoc false b c = refl
-
 pub kept_append : (xs ys : List Line) → all_kept (xs ++ ys) ≡ (all_kept xs && all_kept ys)
 kept_append [] ys = refl
-kept_append (x ∷ xs) ys = ap (λ b. x.kept && b) (kept_append xs ys) ∙ and_assoc x.kept (all_kept xs) (all_kept ys)
+kept_append (x ∷ xs) ys = ap (λ b. x.kept && b) (kept_append xs ys) ∙ sym (and_assoc x.kept (all_kept xs) (all_kept ys))
 
 pub lines_then : {P Q : Type 0} (xs ys : List Line) → Decides (all_kept xs) P → (P → Decides (all_kept ys) Q) → Decides (all_kept (xs ++ ys)) (P × Q)
 lines_then {P} {Q} xs ys h k = subst (λ b. Decides b (P × Q)) (sym (kept_append xs ys)) (and_then (all_kept xs) (all_kept ys) h k)

@@ -1,5 +1,6 @@
 -- The laws on worked texts: a program that is well made, and programs that aren't.
 use Rattle.std.proofs.Common.{◌≡◌, ℤ, pos, negsuc, true, false, List, [], ◌∷◌, Some, None, codes, refl}
+use Rattle.pb_text.specs.Spellings as spellings
 use Rattle.pb_affine.specs.declared.lin.Base.TheVariants.{Fixed, Param}
 use Rattle.pb_affine.specs.declared.lin.Lin.{Lin}
 use Rattle.pb_affine.specs.declared.range.NRange.{NRange}
@@ -43,6 +44,7 @@ abbrev sends_for_ever : Program
 sends_for_ever = with_role from_two (param (negsuc 0)) (first_rank (loop 0 (codes_of (to_last ∷ again 0 ∷ []))) ∷ [])
 
 well_made : IsWellMade sends_for_ever
+unfolding spellings.keys
 well_made = kept_well_made sends_for_ever [] [] refl
 
 -- what some line says no to isn't well made
@@ -53,18 +55,22 @@ ill_made p refused made =
 
 -- a loop with the number of another
 other_number : IsWellMade (with_role from_two (param (negsuc 0)) (first_rank (loop 1 (codes_of (to_last ∷ again 1 ∷ []))) ∷ [])) → ⊥
+unfolding spellings.keys
 other_number = ill_made _ refl
 
 -- back to a loop that isn't around
 no_loop : IsWellMade (with_role from_two (param (negsuc 0)) (first_rank (again 0) ∷ [])) → ⊥
+unfolding spellings.keys
 no_loop = ill_made _ refl
 
 -- each N has a world of the same size
 no_size : IsWellMade (with_role from_two (fixed (pos 3)) []) → ⊥
+unfolding spellings.keys
 no_size = ill_made _ refl
 
 -- no index at N = 2
 no_index : IsWellMade (with_role from_two (param (negsuc 2)) []) → ⊥
+unfolding spellings.keys
 no_index = ill_made _ refl
 
 -- bodies of kernels

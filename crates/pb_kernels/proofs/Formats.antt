@@ -1,6 +1,7 @@
 -- What is read is the format.
 use Rattle.std.proofs.Common.{◌≡◌, ℕ, Bool, true, false, not, ◌&&◌, List, [], ◌∷◌, ◌++◌, refl, sym, ap, subst, ◌∙◌, append_assoc, append-nil, Some, None, Ok, Err, if◌then◌else◌}
 use Rattle.std.specs.Prelude.{Result}
+use Rattle.std.proofs.lemmas.Bool.{not-true, and_from, and_parts}
 use Rattle.pb_text.specs.Places.{one_more}
 use Rattle.pb_ctree.specs.Bodies.{is_marker}
 use Rattle.pb_ctree.specs.declared.kernel.KName.{KName}
@@ -16,7 +17,6 @@ use Rattle.pb_kernels.specs.Format.{IsBody, close, more, IsFile, done, pass, bod
 use Rattle.pb_kernels.specs.Marks.{marker_of}
 use Rattle.pb_kernels.specs.Names.{is_among, are_new, are_distinct}
 use Rattle.pb_kernels.proofs.Steps.{read_on}
-use Rattle.pb_kernels.proofs.Whole.{both, joined}
 
 abbrev outside : List NamedBody → Reading
 outside before = record { closed = before; current = None }
@@ -37,10 +37,6 @@ step_at : (n : ℕ) (line : List ℕ) (reading : Reading) (b : Bool) (m : Marker
 unfolding step
 step_at n line reading b m e f =
     ap (λ (t : Bool). stepped t (marker_of line) n line reading) e ∙ ap (λ (k : Marker). stepped b k n line reading) f
-
-not_true : (b : Bool) → not b ≡ true → b ≡ false
-not_true true h = sym h
-not_true false h = refl
 
 -- every kernel file is read
 
@@ -66,10 +62,10 @@ read_file (pass line {below} {list} plain file) n before fresh =
     ∙ read_file file (one_more n) before fresh
 read_file (body line name {below} {rest} {bytes} {list} marker opens inner file) n before fresh =
     let parts : (not (is_among name before) ≡ true) × (are_new (before ++ named name bytes ∷ []) list ≡ true) =
-    both (not (is_among name before)) (are_new (before ++ named name bytes ∷ []) list) fresh in
+    and_parts (not (is_among name before)) (are_new (before ++ named name bytes ∷ []) list) fresh in
     let b : OpenBody = record { name = name; line = n; text = [] } in
     let opened : step n line (outside before) ≡ Ok (inside before b) =
-    step_at n line (outside before) true (Opening name) marker opens ∙ ap (λ (t : Bool). if t then Err (Twice name) else Ok (inside before b)) (not_true (is_among name before) parts.0) in
+    step_at n line (outside before) true (Opening name) marker opens ∙ ap (λ (t : Bool). if t then Err (Twice name) else Ok (inside before b)) (not-true (is_among name before) parts.0) in
     read_on n line below (outside before) (inside before b) opened
     ∙ read_body inner (one_more n) before b (Ok (before ++ named name bytes ∷ list))
     (λ m. read_file file m (before ++ named name bytes ∷ []) parts.1 ∙ ap Ok (append_assoc before (named name bytes ∷ []) list))
@@ -107,7 +103,7 @@ opening_at line name below n before list false within marker opens among e =
       tail = named name g.bytes ∷ g.tail;
       whole = g.whole ∙ append_assoc before (named name g.bytes ∷ []) g.tail;
       file = body line name marker opens g.inner g.file;
-      fresh = joined (not (is_among name before)) (are_new (before ++ named name g.bytes ∷ []) g.tail) (ap not among) g.fresh;
+      fresh = and_from (not (is_among name before)) (are_new (before ++ named name g.bytes ∷ []) g.tail) (ap not among) g.fresh;
     }
 
 out_at : (line : List ℕ) (below : List (List ℕ)) (n : ℕ) (before list : List NamedBody) (t : Bool) (m : Marker) → Out below → In below

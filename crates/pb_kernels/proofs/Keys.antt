@@ -1,6 +1,6 @@
 -- Names as keys of a map: what a look-up finds is the body with the name.
 use Rattle.std.proofs.Common.{◌≡◌, ℕ, zero, suc, ◌+◌, ◌<◌, Bool, true, false, cond, ◌&&◌, ◌||◌, List, [], ◌∷◌, ◌++◌, map, drop, get_or, length, unwrap_or, is_some, Option, Some, None, slice_get, option_map, refl, sym, ap, ◌∙◌, nat_eq, Decides, drop-cons, add-one, if◌then◌else◌}
-use Rattle.std.proofs.Math.Bool.{or-false}
+use Rattle.std.proofs.Math.Bool.{or-false, or_assoc}
 use Rattle.std.proofs.lemmas.Bool.Decides.{Decides-and, Decides-eqb, Decides-like}
 use Rattle.std.proofs.lemmas.List.{map-append}
 use Rattle.std.proofs.lemmas.List.Folds.{list_any-append}
@@ -187,10 +187,6 @@ same_way old f name there same =
 pub inserted : (old new : List KName) (f name : KName) → new ≡ insert_key eq-value.it old f → has name new ≡ (has name old || same_name name f)
 inserted old new f name is =
     ap (has name) is ∙ with_more old f name (list_any (eq-value.it f) old) (same_way old f name)
-
-or_assoc : (a b c : Bool) → ((a || b) || c) ≡ (a || (b || c))
-or_assoc true b c = refl
-or_assoc false b c = refl
 
 -- names that are in the set, or still come
 abbrev pub AreInOrCome : List KName → List KName → List KName → Type 0

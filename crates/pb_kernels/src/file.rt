@@ -97,7 +97,7 @@ impl KernelFile {
 pub fn same_name(a: &KName, b: &KName) -> bool
     ensures { result ≡ same_name a.now b.now }
 {
-    a.kind as u8 == b.kind as u8 && same_words(&a.name, &b.name)
+    a.kind == b.kind && same_words(&a.name, &b.name)
 }
 
 fn same_words(a: &Option<Name>, b: &Option<Name>) -> bool

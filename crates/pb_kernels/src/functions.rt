@@ -30,6 +30,7 @@ impl Functions {
     ghost use Rattle.std.specs.List.{list_any};
     ghost use Rattle.pb_kernels.specs.Names.{same_name};
 
+    /// The functions of a list, in its order.
     pub fn of(alloc: Global, list: Vec<KName>) -> Result<Functions, NoMemory>
         ensures { IfOk result (λ functions. functions ≡ list.items) }
     {
@@ -37,6 +38,7 @@ impl Functions {
         Ok(Functions { list, names })
     }
 
+    /// The functions in order. Takes no memory.
     pub fn list(&self) -> &[KName]
         ensures { result.now ≡ self.now }
     {

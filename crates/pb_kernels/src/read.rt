@@ -27,7 +27,7 @@ pub fn read_kernels(alloc: Global, bytes: &[u8]) -> Result<KernelFile, KernelFau
     reading.finish()
 }
 
-/// The number of bytes of the first line, with its line feed.
+/// The number of bytes of the first line, with its line feed. The same as `first_len`, with the clauses on lines.
 fn line_len(bytes: &[u8]) -> usize
     requires { 0 < length bytes.now }
     ensures first { lines bytes.now ≡ take result bytes.now ∷ lines (drop result bytes.now) }

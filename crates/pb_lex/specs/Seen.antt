@@ -8,6 +8,7 @@ use Rattle.pb_text.specs.Lexemes.{Fault, bad_byte, open_comment, number_too_larg
 use Rattle.pb_text.specs.Lexemes as grammar
 use Rattle.pb_text.specs.Places.{place_after}
 use Rattle.pb_text.specs.Tokens.{IsFirstFault, IsName, Lexes}
+use Rattle.pb_text.specs.declared.limits.TheConstants.{MOST_NUMBER}
 use Rattle.pb_text.specs.declared.token.Token.{Token as Item}
 use Rattle.pb_text.specs.declared.place.Place.{Place}
 use Rattle.pb_text.specs.declared.token.TokenKind.{TokenKind}
@@ -61,7 +62,7 @@ IsBegun (Bad fault) len text = lexeme_seen (Bad fault) len text ≡ lexeme text
 
 abbrev pub IsSound : Sort → ℕ → List ℕ → Type 0
 IsSound Name len text = IsName (take len text)
-IsSound (Number n) len text = n ≤ 2000000000
+IsSound (Number n) len text = n ≤ MOST_NUMBER
 IsSound _ len text = Unit {0}
 
 -- no line ends in these bytes

@@ -18,7 +18,7 @@ pub fn mark(text: &[u8]) -> Lexeme
     match mark_at(text) {
         Some(mark) => Lexeme {
             sort: Sort::Mark(mark),
-            len: mark_spelling(mark).len(),
+            len: mark.spelling().len(),
         },
         None => Lexeme {
             sort: Sort::Bad(Fault::BadByte),
@@ -65,30 +65,9 @@ fn first_mark(marks: &[Mark], text: &[u8]) -> Option<Mark>
     ensures within { IfSome result (λ mark. length (mark_spelling mark) ≤ length text.now) }
 {
     for mark in marks {
-        if text.starts_with(mark_spelling(*mark)) {
+        if text.starts_with(mark.spelling()) {
             return Some(*mark);
         }
     }
     None
-}
-
-fn mark_spelling(mark: Mark) -> &'static [u8]
-    ensures spelled { result.now ≡ mark_spelling mark }
-    ensures some { 0 < length result.now }
-{
-    match mark {
-        Mark::Dots => b"..",
-        Mark::Equals => b"=",
-        Mark::Semicolon => b";",
-        Mark::LeftParen => b"(",
-        Mark::RightParen => b")",
-        Mark::LeftBracket => b"[",
-        Mark::RightBracket => b"]",
-        Mark::LeftBrace => b"{",
-        Mark::RightBrace => b"}",
-        Mark::Comma => b",",
-        Mark::Colon => b":",
-        Mark::Plus => b"+",
-        Mark::Minus => b"-",
-    }
 }

@@ -5,9 +5,7 @@ ghost use Rattle.pb_text.specs.Lexemes.{number, value_from};
 ghost use Rattle.pb_lex.specs.Seen.{lexeme_seen, IsSound, IsLevel};
 
 use crate::lexeme::{Fault, Lexeme, Sort};
-
-// the greatest number of a text
-const MOST: u64 = 2_000_000_000;
+use pb_text::MOST_NUMBER;
 
 /// A number: digits, of which leading zeros count for nothing.
 #[tactic(auto, using(crate::proofs::Prefixes::prefix_passes))]
@@ -42,12 +40,12 @@ fn digits_len(text: &[u8]) -> usize
 #[tactic(auto, using(crate::proofs::Values::too_large))]
 fn value_of(digits: &[u8]) -> Option<u32>
     requires { All (λ byte. is_ascii_digit byte ≡ true) digits.now }
-    ensures { let value = value_from 0 digits.now in result ≡ (if nat_le value 2000000000 then Some value else None) }
+    ensures { let value = value_from 0 digits.now in result ≡ (if nat_le value MOST_NUMBER then Some value else None) }
 {
     let mut value: u64 = 0;
     for digit in digits {
         value = 10 * value + u64::from(*digit - b'0');
-        if value > MOST {
+        if value > u64::from(MOST_NUMBER) {
             return None;
         }
     }

@@ -1,5 +1,6 @@
 ghost use Rattle.std.specs.Prelude.{◌≡◌, ◌≤◌, length, take};
 ghost use Rattle.pb_text.specs.Places.{first_place, place_after, place_behind};
+ghost use Rattle.pb_text.specs.declared.limits.TheConstants.{MOST_TEXT_BYTES};
 ghost use Rattle.pb_lex.specs.Seen.{HasNoFeed, IsLevel};
 
 use crate::lexeme::{Lexeme, Sort};
@@ -17,7 +18,7 @@ pub fn end_place(bytes: &[u8]) -> Place
 
 /// The place behind the lexeme that the text begins with, which is at a place.
 pub fn behind(place: Place, lexeme: Lexeme, text: &[u8]) -> Place
-    requires most { length text.now ≤ 67108864 }
+    requires most { length text.now ≤ MOST_TEXT_BYTES }
     requires within { lexeme.len ≤ length text.now }
     requires level { IsLevel lexeme.sort lexeme.len text.now }
     ensures { result ≡ place_after place (take lexeme.len text.now) }
@@ -34,7 +35,7 @@ pub fn behind(place: Place, lexeme: Lexeme, text: &[u8]) -> Place
 // The place after the bytes, in which no line ends.
 #[tactic(auto, using(crate::proofs::Levels::beside))]
 fn place_beside(place: Place, bytes: &[u8]) -> Place
-    requires most { length bytes.now ≤ 67108864 }
+    requires most { length bytes.now ≤ MOST_TEXT_BYTES }
     requires level { HasNoFeed bytes.now }
     ensures { result ≡ place_after place bytes.now }
 {

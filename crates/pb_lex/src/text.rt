@@ -2,6 +2,7 @@ ghost use Rattle.std.specs.Prelude.{◌≡◌, ◌≤◌, true, ◌∷◌, ◌++
 ghost use Rattle.std.specs.List.{All};
 ghost use Rattle.pb_text.specs.Tokens.{IsFirstFault, IsText, IsSoundToken};
 ghost use Rattle.pb_text.specs.Lexemes.{Fault as Kind};
+ghost use Rattle.pb_text.specs.declared.limits.TheConstants.{MOST_TEXT_BYTES};
 ghost use Rattle.pb_text.specs.declared.place.Place.{Place as Where};
 ghost use Rattle.pb_text.specs.declared.token.Token.{Token as Item};
 ghost use Rattle.pb_text.specs.declared.token.TokenKind.TheVariants.{Word};
@@ -18,7 +19,7 @@ use std::alloc::Global;
 /// `Bad` names the first lexical fault in text order; there is none exactly where there are tokens. Each number is at
 /// most 2,000,000,000, and no name is a keyword.
 pub fn lex(alloc: Global, bytes: &[u8]) -> Result<Vec<Token>, LexFault>
-    requires { length bytes.now ≤ 67108864 }
+    requires { length bytes.now ≤ MOST_TEXT_BYTES }
     ensures text { IfOk result (λ tokens. IsText bytes.now tokens.items) }
     ensures sound { IfOk result (λ tokens. All IsSoundToken tokens.items) }
     ensures refused { IfErr result (IsRefusal bytes.now) }

@@ -99,40 +99,9 @@ fn first_key(keys: &[Key], word: &[u8]) -> Option<Key>
     ensures { result ≡ find (λ key. pointwise nat_eq word.now (key_spelling key)) keys.now }
 {
     for key in keys {
-        if word == key_spelling(*key) {
+        if word == key.spelling() {
             return Some(*key);
         }
     }
     None
-}
-
-fn key_spelling(key: Key) -> &'static [u8]
-    ensures { result.now ≡ key_spelling key }
-{
-    match key {
-        Key::Const => b"const",
-        Key::Global => b"global",
-        Key::Protocol => b"protocol",
-        Key::Role => b"role",
-        Key::From => b"from",
-        Key::To => b"to",
-        Key::Foreach => b"foreach",
-        Key::Rec => b"rec",
-        Key::Continue => b"continue",
-        Key::Choice => b"choice",
-        Key::At => b"at",
-        Key::Or => b"or",
-        Key::Compute => b"compute",
-        Key::Barrier => b"barrier",
-        Key::Broadcast => b"broadcast",
-        Key::Reduce => b"reduce",
-        Key::Allreduce => b"allreduce",
-        Key::With => b"with",
-        Key::Max => b"max",
-        Key::Min => b"min",
-        Key::Sum => b"sum",
-        Key::Int32 => b"int32",
-        Key::Uint32 => b"uint32",
-        Key::Do => b"do",
-    }
 }

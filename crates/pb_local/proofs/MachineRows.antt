@@ -13,7 +13,7 @@ use Rattle.pb_world.specs.Counted.{Counted, FollowsWithin, ended, silent, act, p
 use Rattle.pb_local.specs.declared.stmt.Peer.{Peer}
 use Rattle.pb_local.specs.Tree.{Code, when, for_each, own, loop, again, choice, send, recv, reduce, allreduce, Codes, nothing, more, no_part, part, Program}
 use Rattle.pb_local.specs.Collectives.{outcome}
-use Rattle.pb_local.specs.Machine.{Todo, finished, next, round_of, Rank, move, machine, start}
+use Rattle.pb_local.specs.Machine.{Todo, finished, do_next, round_of, Rank, move, machine, start}
 use Rattle.pb_local.specs.Family.{most_silent, is_allowed, text_machine, text_start}
 use Rattle.pb_local.specs.Alone.{EndsText}
 
@@ -268,7 +268,7 @@ abbrev next_round : Todo
 next_round = round_of (n+ (negsuc 0)) 1 round finished
 
 abbrev behind_send : Todo
-behind_send = next 3 (if_at (i+ (pos 0)) (recv 0 (w (fixed (pos 0))))) (next 5 (if_at (i+ (pos 0)) (send 1 (w (fixed (pos 0))))) (next 7 (if_at (fixed (pos 0)) (recv 1 (w (i+ (pos 0))))) next_round))
+behind_send = do_next 3 (if_at (i+ (pos 0)) (recv 0 (w (fixed (pos 0))))) (do_next 5 (if_at (i+ (pos 0)) (send 1 (w (fixed (pos 0))))) (do_next 7 (if_at (fixed (pos 0)) (recv 1 (w (i+ (pos 0))))) next_round))
 
 abbrev EndsFrom : Rank → List Action → Type 0
 EndsFrom x s = FollowsWithin (most_silent rounds) (machine rounds (pos 3)) (is_allowed rounds (pos 3) 0) (most_silent rounds) x s true

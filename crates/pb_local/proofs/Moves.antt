@@ -2,6 +2,7 @@
 use Rattle.std.proofs.Common.{◌≡◌, ◌≢◌, ℕ, zero, suc, ◌<◌, ◌≤◌, ℤ, pos, negsuc, Bool, true, false, ◌&&◌, if◌then◌else◌, cond, nat_le, int_le, int_lt, List, [], ◌∷◌, Option, Some, None, refl, sym, ap, ◌∙◌, subst, arith}
 use Rattle.std.proofs.lemmas.Int.{ints}
 use Rattle.std.proofs.lemmas.Bool.Decides.{nat_tests}
+use Rattle.std.proofs.lemmas.Bool.{and_parts}
 use Rattle.pb_affine.specs.declared.lin.Lin.{Lin}
 use Rattle.pb_affine.specs.Values.{count_of}
 use Rattle.pb_world.specs.Actions.{Action, Barrier, Broadcast, Reduce, Allreduce, Kind, Runs, Sends, Receives, Enters, Leaves}
@@ -15,7 +16,7 @@ use Rattle.pb_local.specs.Ranks.{total}
 use Rattle.pb_local.specs.Tree.{Code, when, for_each, own, loop, again, choice, send, recv, run, barrier, broadcast, reduce, allreduce, Codes, Parts, Program}
 use Rattle.pb_local.specs.Computed.{all_fit, is_for, is_rank, is_peer, peer_number, peer_numbers, guard_numbers, relay_numbers, branch_for, source_of}
 use Rattle.pb_local.specs.Collectives.{operation_of}
-use Rattle.pb_local.specs.Machine.{Todo, finished, next, round_of, end_of, leave, Rank, Move, ends, undefined, silent, does, chooses, probes, with_i, with_todo, entered, told, with_peer, asks, joins, move_at, move_from, move, next_in, quiet_in, read_in, act_in, machine}
+use Rattle.pb_local.specs.Machine.{Todo, finished, do_next, round_of, end_of, leave, Rank, Move, ends, undefined, silent, does, chooses, probes, with_i, with_todo, entered, told, with_peer, asks, joins, move_at, move_from, move, next_in, quiet_in, read_in, act_in, machine}
 use Rattle.pb_local.specs.Family.{most_silent, is_allowed, text_machine}
 use Rattle.pb_local.specs.MachineLaws.{KeepsRank, peer_of_kind, peer_of, NamesRanks, is_finished, EndsWhenFinished, LostOrUndefined, CountsWithin, FollowsAlone}
 
@@ -80,7 +81,7 @@ module _ (p : Program) (n : ℤ) where
 
   keeps_from : (x : Rank) (todo : Todo) → Keeps x (move_from p n x todo)
   keeps_from x finished = record { behind = tt }
-  keeps_from x (next k c rest) = keeps_at x k c rest
+  keeps_from x (do_next k c rest) = keeps_at x k c rest
   keeps_from x (round_of high k body rest) = keeps_so _ (keeps_silent x _ _)
   keeps_from x (end_of id k body rest) = keeps_from x rest
   keeps_from x (leave joint rest) = keeps_does x _ _
@@ -123,10 +124,6 @@ keeps_rank p n = record {
 
 -- ---- a step names ranks of the world alone
 
-and_right : (a b : Bool) → a && b ≡ true → b ≡ true
-and_right true b h = h
-and_right false b h = cc
-
 below_total : (x : ℤ) (t : ℕ) → int_le (pos 0) x && int_lt x (pos t) ≡ true → count_of x < t
 below_total (pos k) t h = grind (arith, ints)
 below_total (negsuc k) t h = cc
@@ -158,7 +155,7 @@ module _ (p : Program) (n : ℤ) where
   names_peer : (x : Rank) (e : Peer) {go : ℕ → Move} → ((q : ℕ) → q < total p.roles n → Names (total p.roles n) (go q)) → Names (total p.roles n) (with_peer p n x e go)
   names_peer x e h =
       names_so (is_peer n x.seat x.i p e)
-      (λ is. h _ (below_total (peer_number n x.seat x.i p e) (total p.roles n) (and_right (all_fit (peer_numbers n x.seat x.i p e)) (is_rank p n (peer_number n x.seat x.i p e)) is)))
+      (λ is. h _ (below_total (peer_number n x.seat x.i p e) (total p.roles n) (and_parts (all_fit (peer_numbers n x.seat x.i p e)) (is_rank p n (peer_number n x.seat x.i p e)) is).1))
 
   names_asks : (x : Rank) (relays : List Relay) (from : Peer) (tests : List Test) (k : ℕ) (bs : Parts) (rest : Todo) → Names (total p.roles n) (asks p n x relays from tests k bs rest)
   names_asks x relays from [] k bs rest = record { within = λ q e. cc }
@@ -185,7 +182,7 @@ module _ (p : Program) (n : ℤ) where
 
   names_from : (x : Rank) (todo : Todo) → Names (total p.roles n) (move_from p n x todo)
   names_from x finished = record { within = λ q e. cc }
-  names_from x (next k c rest) = names_at x k c rest
+  names_from x (do_next k c rest) = names_at x k c rest
   names_from x (round_of high k body rest) = names_so _ (λ is. names_silent _ _)
   names_from x (end_of id k body rest) = names_from x rest
   names_from x (leave joint rest) = names_none _ (Leaves joint) _ refl
@@ -237,14 +234,14 @@ module _ (p : Program) (n : ℤ) where
 
   left_from : (x : Rank) (todo : Todo) → next_in (move_from p n x todo) ≡ Ended → is_finished todo ≡ true
   left_from x finished e = refl
-  left_from x (next k c rest) e = absurd ((on_at x k c rest).goes e)
+  left_from x (do_next k c rest) e = absurd ((on_at x k c rest).goes e)
   left_from x (round_of high k body rest) e = absurd ((on_turn x high k body rest).goes e)
   left_from x (end_of id k body rest) e = left_from x rest e
   left_from x (leave joint rest) e = cc
 
   none_from : (x : Rank) (todo : Todo) → is_finished todo ≡ true → next_in (move_from p n x todo) ≡ Ended
   none_from x finished e = refl
-  none_from x (next k c rest) e = cc
+  none_from x (do_next k c rest) e = cc
   none_from x (round_of high k body rest) e = cc
   none_from x (end_of id k body rest) e = none_from x rest e
   none_from x (leave joint rest) e = cc

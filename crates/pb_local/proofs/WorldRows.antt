@@ -10,7 +10,7 @@ use Rattle.pb_world.specs.Family.{Family, choosing, running}
 use Rattle.pb_world.specs.World.{Message, World, beginning, AllEager, Takes, first, later, next_of, moved, posted, taken, IsFree, Step, silent, probe, internal, send, receive, enter, leave, CanStep, Reached, start, event}
 use Rattle.pb_local.specs.Tree.{Code, Codes, nothing, more, Program}
 use Rattle.pb_local.specs.Tree as T
-use Rattle.pb_local.specs.Machine.{Todo, finished, next, Rank, move}
+use Rattle.pb_local.specs.Machine.{Todo, finished, do_next, Rank, move}
 use Rattle.pb_local.specs.Family.{Sequence, family}
 use Rattle.pb_local.specs.Alone.{Passes, Comes, Reaches, Takes as TakesPart, FirstPart, OtherPart}
 use Rattle.pb_local.specs.Alone as A
@@ -51,10 +51,10 @@ abbrev p1 : Program
 p1 = ranks (label NoWords ∷ []) (more (if_at (fixed (pos 0)) to_last) (one (if_at (n+ (negsuc 0)) from_first)))
 
 abbrev second : Todo
-second = next 2 (if_at (n+ (negsuc 0)) from_first) finished
+second = do_next 2 (if_at (n+ (negsuc 0)) from_first) finished
 
 abbrev V1 : World (Counted Rank)
-V1 = moved (F p1) (beginning (F p1)) 0 (at (pos 0) 1 (next 1 to_last second))
+V1 = moved (F p1) (beginning (F p1)) 0 (at (pos 0) 1 (do_next 1 to_last second))
 
 abbrev V2 : World (Counted Rank)
 V2 = posted (F p1) V1 0 (at (pos 0) 0 second) 1 (message 0 Eager)
@@ -66,7 +66,7 @@ abbrev V4 : World (Counted Rank)
 V4 = moved (F p1) V3 1 (at (pos 1) 1 second)
 
 abbrev V5 : World (Counted Rank)
-V5 = moved (F p1) V4 1 (at (pos 1) 2 (next 3 from_first finished))
+V5 = moved (F p1) V4 1 (at (pos 1) 2 (do_next 3 from_first finished))
 
 abbrev V6 : World (Counted Rank)
 V6 = taken (F p1) V5 1 (at (pos 1) 0 finished) 0 []
@@ -116,7 +116,7 @@ no_answers r = record { branches = []; words = [] }
 -- rank 0 reaches the send, also by the run's front that has nothing
 first_reaches : Reaches p1 (pos 2) one_message 0 1
 unfolding move
-first_reaches = record { state = at (pos 0) 1 (next 1 to_last second); comes = record { answers = no_answers; steps = 0; way = A.silent refl A.here }; there = refl }
+first_reaches = record { state = at (pos 0) 1 (do_next 1 to_last second); comes = record { answers = no_answers; steps = 0; way = A.silent refl A.here }; there = refl }
 
 -- rank 0 takes the other part of the second If, and rank 1 the first
 first_takes : TakesPart p1 (pos 2) one_message 0 2 OtherPart
@@ -135,7 +135,7 @@ last_takes = record { state = at (pos 1) 1 second; comes = record { answers = no
 
 last_reaches : Reaches p1 (pos 2) one_message 1 3
 unfolding move
-last_reaches = record { state = at (pos 1) 2 (next 3 from_first finished); comes = record { answers = no_answers; steps = 0; way = A.silent refl (A.silent refl A.here) }; there = refl }
+last_reaches = record { state = at (pos 1) 2 (do_next 3 from_first finished); comes = record { answers = no_answers; steps = 0; way = A.silent refl (A.silent refl A.here) }; there = refl }
 
 -- ---- two messages whose receives stand in the other order
 
@@ -157,17 +157,17 @@ crossed = ranks (label NoWords ∷ label NoWords ∷ [])
 
 -- what is left from the second, the third and the fourth statement on
 abbrev from_2 : Todo
-from_2 = next 2 (if_at (fixed (pos 1)) recv_second) (next 4 (if_at (fixed (pos 0)) send_second) (next 6 (if_at (fixed (pos 1)) recv_first) finished))
+from_2 = do_next 2 (if_at (fixed (pos 1)) recv_second) (do_next 4 (if_at (fixed (pos 0)) send_second) (do_next 6 (if_at (fixed (pos 1)) recv_first) finished))
 
 abbrev from_4 : Todo
-from_4 = next 4 (if_at (fixed (pos 0)) send_second) (next 6 (if_at (fixed (pos 1)) recv_first) finished)
+from_4 = do_next 4 (if_at (fixed (pos 0)) send_second) (do_next 6 (if_at (fixed (pos 1)) recv_first) finished)
 
 abbrev from_6 : Todo
-from_6 = next 6 (if_at (fixed (pos 1)) recv_first) finished
+from_6 = do_next 6 (if_at (fixed (pos 1)) recv_first) finished
 
 -- rank 0's first send, in this mode
 abbrev X1 : World (Counted Rank)
-X1 = moved (F crossed) (beginning (F crossed)) 0 (at (pos 0) 1 (next 1 send_first from_2))
+X1 = moved (F crossed) (beginning (F crossed)) 0 (at (pos 0) 1 (do_next 1 send_first from_2))
 
 abbrev X2 : Mode → World (Counted Rank)
 X2 mode = posted (F crossed) X1 0 (at (pos 0) 0 from_2) 1 (message 0 mode)
@@ -188,7 +188,7 @@ abbrev X3 : World (Counted Rank)
 X3 = moved (F crossed) (X2 Eager) 0 (at (pos 0) 1 from_4)
 
 abbrev X4 : World (Counted Rank)
-X4 = moved (F crossed) X3 0 (at (pos 0) 2 (next 5 send_second from_6))
+X4 = moved (F crossed) X3 0 (at (pos 0) 2 (do_next 5 send_second from_6))
 
 abbrev X5 : World (Counted Rank)
 X5 = posted (F crossed) X4 0 (at (pos 0) 0 from_6) 1 (message 1 Eager)
@@ -206,7 +206,7 @@ abbrev X7 : World (Counted Rank)
 X7 = moved (F crossed) X6 1 (at (pos 1) 1 from_2)
 
 abbrev X8 : World (Counted Rank)
-X8 = moved (F crossed) X7 1 (at (pos 1) 2 (next 3 recv_second from_4))
+X8 = moved (F crossed) X7 1 (at (pos 1) 2 (do_next 3 recv_second from_4))
 
 abbrev X9 : World (Counted Rank)
 X9 = taken (F crossed) X8 1 (at (pos 1) 0 from_4) 0 (message 0 Eager ∷ [])
@@ -215,7 +215,7 @@ abbrev X10 : World (Counted Rank)
 X10 = moved (F crossed) X9 1 (at (pos 1) 1 from_6)
 
 abbrev X11 : World (Counted Rank)
-X11 = moved (F crossed) X10 1 (at (pos 1) 2 (next 7 recv_first finished))
+X11 = moved (F crossed) X10 1 (at (pos 1) 2 (do_next 7 recv_first finished))
 
 abbrev X12 : World (Counted Rank)
 X12 = taken (F crossed) X11 1 (at (pos 1) 0 finished) 0 []
@@ -245,7 +245,7 @@ abbrev Y3 : World (Counted Rank)
 Y3 = moved (F crossed) (X2 Waiting) 1 (at (pos 1) 1 from_2)
 
 abbrev Y4 : World (Counted Rank)
-Y4 = moved (F crossed) Y3 1 (at (pos 1) 2 (next 3 recv_second from_4))
+Y4 = moved (F crossed) Y3 1 (at (pos 1) 2 (do_next 3 recv_second from_4))
 
 waiting : Reached (F crossed) ((0, Send 1 0 []) ∷ []) Y4
 unfolding move

@@ -5,7 +5,7 @@ use Rattle.pb_world.specs.Machine.{Silent, Does, Probe, Machine}
 use Rattle.pb_world.specs.Counted.{Counted, FollowsWithin}
 use Rattle.pb_local.specs.Tree.{when, Program}
 use Rattle.pb_local.specs.Computed.{is_for_some}
-use Rattle.pb_local.specs.Machine.{Todo, finished, next, round_of, end_of, leave, Rank, machine, start}
+use Rattle.pb_local.specs.Machine.{Todo, finished, do_next, round_of, end_of, leave, Rank, machine, start}
 use Rattle.pb_local.specs.Family.{Sequence, most_silent, is_allowed, text_machine, text_start}
 
 -- Rank r does exactly these actions, and then stands at an action, a probe or its end. It makes at most `most_silent` silent
@@ -36,9 +36,9 @@ pub record Comes (p : Program) (n : ℤ) (sequence : Sequence) (r : ℕ) (x : Co
 -- the number of the statement at which a rank stands
 abbrev pub number_at : Todo → Option ℕ
 number_at finished = None
-number_at (next k c rest) = Some k
-number_at (round_of high k body rest) = None
-number_at (end_of id k body rest) = number_at rest
+number_at (do_next number first rest) = Some number
+number_at (round_of high number body rest) = None
+number_at (end_of id number body rest) = number_at rest
 number_at (leave joint rest) = None
 
 -- rank r reaches the statement with number k
@@ -53,8 +53,8 @@ pub data Part : Type 0 where
 
 -- the part that a rank takes of the If at which it stands
 abbrev pub part_at : ℤ → Rank → Todo → Option Part
-part_at n x (next k (when guards first other) rest) = Some (if is_for_some n x.seat x.i guards then FirstPart else OtherPart)
-part_at n x (end_of id k body rest) = part_at n x rest
+part_at n x (do_next number (when guards first other) rest) = Some (if is_for_some n x.seat x.i guards then FirstPart else OtherPart)
+part_at n x (end_of id number body rest) = part_at n x rest
 part_at n x _ = None
 
 -- rank r takes this part of the If with number k

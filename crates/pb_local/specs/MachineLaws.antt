@@ -5,7 +5,7 @@ use Rattle.pb_world.specs.Machine.{Next, Silent, Does, Probe, Ended, Lost, Undef
 use Rattle.pb_world.specs.Counted.{Counted, is_quiet}
 use Rattle.pb_local.specs.Ranks.{total}
 use Rattle.pb_local.specs.Tree.{Program}
-use Rattle.pb_local.specs.Machine.{Todo, finished, next, round_of, end_of, leave, Rank, machine}
+use Rattle.pb_local.specs.Machine.{Todo, finished, do_next, round_of, end_of, leave, Rank, machine}
 use Rattle.pb_local.specs.Family.{most_silent, is_allowed, text_machine, text_start}
 use Rattle.pb_local.specs.Alone.{FollowsText, EndsText}
 
@@ -47,9 +47,9 @@ NamesRanks = (p : Program) (n : ℤ) (x : Rank) (q : ℕ) → peer_of ((machine 
 -- no statement is left
 abbrev pub is_finished : Todo → Bool
 is_finished finished = true
-is_finished (next k c rest) = false
-is_finished (round_of high k body rest) = false
-is_finished (end_of id k body rest) = is_finished rest
+is_finished (do_next number first rest) = false
+is_finished (round_of high number body rest) = false
+is_finished (end_of id number body rest) = is_finished rest
 is_finished (leave joint rest) = false
 
 -- A rank has ended exactly where no statement is left

@@ -1,7 +1,8 @@
 -- Which words are names.
-use Rattle.std.specs.Prelude.{◌≢◌, ℕ, ◌<◌, nat_le, nat_lt, nat_eq, not, Bool, false, ◌&&◌, ◌||◌, List, [], ◌∷◌, length, codes, slice_index_or}
+use Rattle.std.specs.Prelude.{◌≢◌, ℕ, ◌<◌, nat_le, nat_lt, nat_eq, not, Bool, false, ◌&&◌, ◌||◌, List, [], ◌∷◌, length, map, slice_index_or}
 use Rattle.std.specs.List.{list_all, list_any}
 use Rattle.std.specs.Cmp.Lexicographic.{pointwise}
+use Rattle.pb_text.specs.Spellings.{keys, key_spelling}
 
 abbrev pub is_letter : ℕ → Bool
 is_letter c = (nat_le 65 c && nat_le c 90) || (nat_le 97 c && nat_le c 122) || nat_eq c 95
@@ -16,9 +17,7 @@ is_word (c ∷ cs) = is_letter c && list_all (λ d. is_letter d || is_digit d) c
 
 -- the keywords of the protocol language
 abbrev pub keywords : List (List ℕ)
-keywords = codes "const" ∷ codes "global" ∷ codes "protocol" ∷ codes "role" ∷ codes "from" ∷ codes "to" ∷ codes "foreach" ∷ codes "rec" ∷ codes "continue"
-    ∷ codes "choice" ∷ codes "at" ∷ codes "or" ∷ codes "compute" ∷ codes "barrier" ∷ codes "broadcast" ∷ codes "reduce" ∷ codes "allreduce" ∷ codes "with"
-    ∷ codes "max" ∷ codes "min" ∷ codes "sum" ∷ codes "int32" ∷ codes "uint32" ∷ codes "do" ∷ []
+keywords = map key_spelling keys
 
 abbrev pub is_keyword : List ℕ → Bool
 is_keyword w = list_any (λ k. pointwise nat_eq k w) keywords

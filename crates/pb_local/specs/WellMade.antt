@@ -1,5 +1,6 @@
 -- Which endpoint programs are well made.
 use Rattle.std.specs.Prelude.{◌≡◌, ◌≢◌, ℕ, suc, ◌+◌, ◌<◌, ◌≤◌, pos, ◌≤ℤ◌, IsTrue, Option, Some, None, List, [], ◌∷◌, length, map, All, Contains, ◌⊎◌}
+use Rattle.pb_text.specs.declared.limits.TheConstants.{MOST_NUMBER}
 use Rattle.pb_affine.specs.declared.lin.Base.TheVariants.{Var}
 use Rattle.pb_affine.specs.declared.lin.Lin.{Lin}
 use Rattle.pb_affine.specs.declared.guard.Guard.{Guard}
@@ -23,17 +24,13 @@ use Rattle.pb_local.specs.Tree.{Code, when, for_each, own, loop, again, choice, 
 
 -- ---- the tables
 
--- the greatest number that an end of N may be
-abbrev pub most_number : ℕ
-most_number = 2000000000
-
 abbrev pub IsUpperEnd : ℕ → Option ℕ → Type 0
 IsUpperEnd low None = Unit {0}
-IsUpperEnd low (Some high) = (low ≤ high) × (high ≤ most_number)
+IsUpperEnd low (Some high) = (low ≤ high) × (high ≤ MOST_NUMBER)
 
 pub record IsRange (r : NRange) : Type 0 where
   pub some : 1 ≤ r.low
-  pub most : r.low ≤ most_number
+  pub most : r.low ≤ MOST_NUMBER
   pub high : IsUpperEnd r.low r.high
 
 abbrev pub IsUpTo : ℕ → Option ℕ → Type 0
@@ -93,7 +90,7 @@ pub record IsPeer (p : Program) (e : Peer) : Type 0 where
 
 abbrev pub IsBoundIf : Option ℕ → Type 0
 IsBoundIf None = Unit {0}
-IsBoundIf (Some n) = n ≤ most_number
+IsBoundIf (Some n) = n ≤ MOST_NUMBER
 
 pub record IsGuard (p : Program) (g : Guard) : Type 0 where
   pub role : g.role < length p.roles

@@ -5,12 +5,12 @@ ghost use Rattle.pb_local.specs.Layout.{high_text, range_line, protocol_line, wh
 ghost use Rattle.pb_local.specs.Pieces.{line};
 ghost use Rattle.pb_local.specs.Tree.{program_of};
 
-use crate::small::{
-    op_name, push_decimal, push_guard, push_guards, push_lin, push_offset, push_peer,
-};
+use crate::small::{op_name, push_guard, push_guards, push_lin, push_offset, push_peer};
 use crate::{Guard, Lin, Local, NRange, NoMemory, Op, Peer, Relay, Test, push_indent, push_pieces};
 use itoa::Buffer;
+use pb_text::push_decimal;
 
+/// Appends a line of one word.
 pub fn push_word(out: &mut Vec<u8>, depth: usize, word: &[u8]) -> Result<(), NoMemory>
     ensures { OnOk result (out.new.items ≡ out.old.items ++ line depth word.now) }
 {
@@ -25,27 +25,30 @@ fn push_high(out: &mut Vec<u8>, high: Option<u32>) -> Result<(), NoMemory>
 {
     match high {
         None => push_pieces(out, &[b"max"]),
-        Some(n) => push_decimal(out, n),
+        Some(n) => push_decimal(out, u64::from(n)),
     }
 }
 
+/// Appends the line of the range of N.
 pub fn push_range_line(out: &mut Vec<u8>, range: NRange) -> Result<(), NoMemory>
     ensures { OnOk result (out.new.items ≡ out.old.items ++ range_line range) }
 {
     push_pieces(out, &[b"N "])?;
-    push_decimal(out, range.low)?;
+    push_decimal(out, u64::from(range.low))?;
     push_pieces(out, &[b" to "])?;
     push_high(out, range.high)?;
     out.push(b'\n')?;
     Ok(())
 }
 
+/// Appends the line that names the protocol.
 pub fn push_protocol(local: &Local, out: &mut Vec<u8>) -> Result<(), NoMemory>
     ensures { OnOk result (out.new.items ≡ out.old.items ++ protocol_line (program_of local.now)) }
 {
     push_pieces(out, &[b"local ", local.protocol.bytes(), b"\n"])
 }
 
+/// Appends the line that opens an `If`, with its guards.
 pub fn push_when(
     local: &Local,
     out: &mut Vec<u8>,
@@ -61,6 +64,7 @@ pub fn push_when(
     Ok(())
 }
 
+/// Appends the line that opens a `For`, with both ends of its range.
 pub fn push_for(out: &mut Vec<u8>, depth: usize, low: Lin, high: Lin) -> Result<(), NoMemory>
     ensures { OnOk result (out.new.items ≡ out.old.items ++ for_line depth low high) }
 {
@@ -73,6 +77,7 @@ pub fn push_for(out: &mut Vec<u8>, depth: usize, low: Lin, high: Lin) -> Result<
     Ok(())
 }
 
+/// Appends the line of an `Own`, with its offset.
 pub fn push_own(out: &mut Vec<u8>, depth: usize, off: i32) -> Result<(), NoMemory>
     ensures { OnOk result (out.new.items ≡ out.old.items ++ own_line depth off) }
 {
@@ -83,26 +88,29 @@ pub fn push_own(out: &mut Vec<u8>, depth: usize, off: i32) -> Result<(), NoMemor
     Ok(())
 }
 
+/// Appends the line that opens a `Loop`, with its number.
 pub fn push_loop(out: &mut Vec<u8>, depth: usize, id: u32) -> Result<(), NoMemory>
     ensures { OnOk result (out.new.items ≡ out.old.items ++ loop_line depth id) }
 {
     push_indent(out, depth)?;
     push_pieces(out, &[b"loop "])?;
-    push_decimal(out, id)?;
+    push_decimal(out, u64::from(id))?;
     out.push(b'\n')?;
     Ok(())
 }
 
+/// Appends the line of an `Again`, with the number of its loop.
 pub fn push_again(out: &mut Vec<u8>, depth: usize, id: u32) -> Result<(), NoMemory>
     ensures { OnOk result (out.new.items ≡ out.old.items ++ again_line depth id) }
 {
     push_indent(out, depth)?;
     push_pieces(out, &[b"again "])?;
-    push_decimal(out, id)?;
+    push_decimal(out, u64::from(id))?;
     out.push(b'\n')?;
     Ok(())
 }
 
+/// Appends the line that opens a `Choice`, with its kernel and the rank that chooses.
 pub fn push_choice(
     local: &Local,
     out: &mut Vec<u8>,
@@ -131,6 +139,7 @@ fn push_relay(local: &Local, out: &mut Vec<u8>, depth: usize, relay: &Relay) -> 
     Ok(())
 }
 
+/// Appends a line for each relay of a choice.
 pub fn push_relays(
     local: &Local,
     out: &mut Vec<u8>,
@@ -150,13 +159,14 @@ fn push_test(local: &Local, out: &mut Vec<u8>, depth: usize, test: &Test) -> Res
 {
     push_indent(out, depth)?;
     push_pieces(out, &[b"told ", local.label_name(test.label), b" "])?;
-    push_decimal(out, test.branch)?;
+    push_decimal(out, u64::from(test.branch))?;
     push_pieces(out, &[b" when "])?;
     push_guards(local, out, test.guards.list())?;
     out.push(b'\n')?;
     Ok(())
 }
 
+/// Appends a line for each test of a choice.
 pub fn push_tests(
     local: &Local,
     out: &mut Vec<u8>,
@@ -171,6 +181,7 @@ pub fn push_tests(
     Ok(())
 }
 
+/// Appends the line that opens a branch, with its number.
 pub fn push_branch(out: &mut Vec<u8>, depth: usize, number: usize) -> Result<(), NoMemory>
     ensures { OnOk result (out.new.items ≡ out.old.items ++ branch_line depth number) }
 {
@@ -179,6 +190,7 @@ pub fn push_branch(out: &mut Vec<u8>, depth: usize, number: usize) -> Result<(),
     push_pieces(out, &[b"branch ", buffer.format(number).as_bytes(), b"\n"])
 }
 
+/// Appends the line of a `Send`.
 pub fn push_send(
     local: &Local,
     out: &mut Vec<u8>,
@@ -195,6 +207,7 @@ pub fn push_send(
     Ok(())
 }
 
+/// Appends the line of a `Recv`.
 pub fn push_recv(
     local: &Local,
     out: &mut Vec<u8>,
@@ -211,6 +224,7 @@ pub fn push_recv(
     Ok(())
 }
 
+/// Appends the line of a `Run`.
 pub fn push_run(local: &Local, out: &mut Vec<u8>, depth: usize, kernel: u32) -> Result<(), NoMemory>
     ensures { OnOk result (out.new.items ≡ out.old.items ++ run_line (program_of local.now) depth kernel) }
 {
@@ -218,6 +232,7 @@ pub fn push_run(local: &Local, out: &mut Vec<u8>, depth: usize, kernel: u32) -> 
     push_pieces(out, &[b"run ", local.kernel_name(kernel), b"\n"])
 }
 
+/// Appends the line of a `Broadcast`.
 pub fn push_broadcast(
     local: &Local,
     out: &mut Vec<u8>,
@@ -234,6 +249,7 @@ pub fn push_broadcast(
     Ok(())
 }
 
+/// Appends the line of a `Reduce`.
 pub fn push_reduce(
     local: &Local,
     out: &mut Vec<u8>,
@@ -252,6 +268,7 @@ pub fn push_reduce(
     Ok(())
 }
 
+/// Appends the line of an `Allreduce`.
 pub fn push_allreduce(
     local: &Local,
     out: &mut Vec<u8>,

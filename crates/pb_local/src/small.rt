@@ -6,42 +6,28 @@ ghost use Rattle.pb_local.specs.Layout.{offset_text, lin_text, is_same_base, is_
 ghost use Rattle.pb_local.specs.Tree.{program_of};
 
 use crate::{Base, Guard, Lin, Local, NoMemory, Op, Peer, push_pieces};
-use itoa::Buffer;
+use pb_text::{push_decimal, push_number};
 
-pub fn push_decimal(out: &mut Vec<u8>, n: u32) -> Result<(), NoMemory>
-    ensures { OnOk result (out.new.items ≡ out.old.items ++ decimal n) }
-{
-    let mut buffer = Buffer::new();
-    out.extend_from_slice(buffer.format(n).as_bytes())?;
-    Ok(())
-}
-
-pub fn push_signed(out: &mut Vec<u8>, n: i32) -> Result<(), NoMemory>
-    ensures { OnOk result (out.new.items ≡ out.old.items ++ signed_decimal n) }
-{
-    let mut buffer = Buffer::new();
-    out.extend_from_slice(buffer.format(n).as_bytes())?;
-    Ok(())
-}
-
+/// Appends an offset with its sign, or nothing for 0.
 pub fn push_offset(out: &mut Vec<u8>, off: i32) -> Result<(), NoMemory>
     ensures { OnOk result (out.new.items ≡ out.old.items ++ offset_text off) }
 {
     if off < 0 {
         out.push(b'-')?;
-        push_decimal(out, off.unsigned_abs())?;
+        push_decimal(out, u64::from(off.unsigned_abs()))?;
     } else if 0 < off {
         out.push(b'+')?;
-        push_decimal(out, off.unsigned_abs())?;
+        push_decimal(out, u64::from(off.unsigned_abs()))?;
     }
     Ok(())
 }
 
+/// Appends a lin: a number, or `N` or `i` and the offset.
 pub fn push_lin(out: &mut Vec<u8>, lin: Lin) -> Result<(), NoMemory>
     ensures { OnOk result (out.new.items ≡ out.old.items ++ lin_text lin) }
 {
     match lin.base {
-        Base::Fixed => push_signed(out, lin.off),
+        Base::Fixed => push_number(out, i64::from(lin.off)),
         Base::Param => {
             out.push(b'N')?;
             push_offset(out, lin.off)
@@ -119,7 +105,7 @@ fn push_from(out: &mut Vec<u8>, from: Option<u32>) -> Result<(), NoMemory>
 {
     if let Some(n) = from {
         push_pieces(out, &[b" N>="])?;
-        push_decimal(out, n)?;
+        push_decimal(out, u64::from(n))?;
     }
     Ok(())
 }
@@ -129,11 +115,12 @@ fn push_to(out: &mut Vec<u8>, to: Option<u32>) -> Result<(), NoMemory>
 {
     if let Some(n) = to {
         push_pieces(out, &[b" N<="])?;
-        push_decimal(out, n)?;
+        push_decimal(out, u64::from(n))?;
     }
     Ok(())
 }
 
+/// Appends a guard: its role, its ends in brackets, and its bounds on N, where it has them.
 pub fn push_guard(local: &Local, out: &mut Vec<u8>, guard: Guard) -> Result<(), NoMemory>
     ensures { OnOk result (out.new.items ≡ out.old.items ++ guard_text (program_of local.now) guard) }
 {
@@ -153,6 +140,7 @@ fn push_others(local: &Local, out: &mut Vec<u8>, guards: &[Guard]) -> Result<(),
     Ok(())
 }
 
+/// Appends guards with ` or ` between them.
 pub fn push_guards(local: &Local, out: &mut Vec<u8>, guards: &[Guard]) -> Result<(), NoMemory>
     ensures { OnOk result (out.new.items ≡ out.old.items ++ guards_text (program_of local.now) guards.now) }
 {
@@ -165,6 +153,7 @@ pub fn push_guards(local: &Local, out: &mut Vec<u8>, guards: &[Guard]) -> Result
     }
 }
 
+/// Appends a rank: the name of its role, and its lin in brackets.
 pub fn push_peer(local: &Local, out: &mut Vec<u8>, peer: Peer) -> Result<(), NoMemory>
     ensures { OnOk result (out.new.items ≡ out.old.items ++ peer_text (program_of local.now) peer) }
 {
@@ -174,6 +163,7 @@ pub fn push_peer(local: &Local, out: &mut Vec<u8>, peer: Peer) -> Result<(), NoM
     Ok(())
 }
 
+/// The word of an operation.
 pub fn op_name(op: Op) -> &'static [u8]
     ensures { result.now ≡ op_text op }
 {

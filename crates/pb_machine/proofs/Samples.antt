@@ -2,6 +2,7 @@
 use Rattle.std.proofs.Common.{◌≡◌, ◌≤◌, ◌<◌, ℕ, zero, suc, pos, Option, Some, None, List, [], ◌∷◌, length, refl, arith, inl, ap, sym, subst}
 use Rattle.std.specs.Prelude.{All, IsTrue, slice_index_or}
 use Rattle.std.proofs.lemmas.Int.{ints}
+use Rattle.pb_text.specs.Spellings as spellings
 use Rattle.pb_affine.specs.declared.lin.Lin.{Lin}
 use Rattle.pb_affine.specs.declared.range.NRange.{NRange}
 use Rattle.pb_affine.specs.Values.{IsSmall, IsSmallIf}
@@ -37,6 +38,7 @@ other_first a b less e = let same : a ≡ b = ap (λ xs. slice_index_or xs 0 0) 
 -- ---- the tables
 
 role_made : IsRole (record { low = 2; high = None }) (role_named (87 ∷ []))
+unfolding spellings.keys
 role_made = record {
   name = refl;
   low = record { low = omega (arith, ints); high = omega (arith, ints) };
@@ -96,6 +98,7 @@ module _ (b : Codes) where
       (tt, ((omega arith, tt, peer_made 1 (omega arith)), ((omega arith, tt, peer_made 0 (omega arith)), ((omega arith, tt), tt))))
 
   pub made : AreMade (sample_with b) outermost b → IsWellMade (sample_with b)
+  unfolding spellings.keys
   made statements = record {
     protocol = refl;
     range = record { some = omega arith; most = omega arith; high = tt };

@@ -1,7 +1,7 @@
 -- What the program tells by moves is what the definition's counting machine tells.
 use Rattle.std.proofs.Common.{◌≡◌, ◌<◌, ◌≤◌, ℕ, zero, suc, ℤ, Bool, true, false, ◌&&◌, cond, nat_lt, nat_le, if◌then◌else◌, Option, Some, None, refl, ap, sym, ◌∙◌, ◌⊎◌, inl, inr, arith}
 use Rattle.std.specs.Prelude.{IsSome, unwrap_or}
-use Rattle.std.proofs.lemmas.Bool.{cases_lt}
+use Rattle.std.proofs.lemmas.Bool.{cases_lt, and_from}
 use Rattle.std.proofs.lemmas.Bool.Decides.{nat_tests}
 use Rattle.pb_world.specs.Actions.{Action, Kind, kind_of, branch_in}
 use Rattle.pb_world.specs.Machine as W
@@ -111,15 +111,12 @@ labels f limit count Plain less h = never h
 labels f limit count (Answer x) less h = never h
 labels f limit count (Tag label) less h = is_some (nat_lt count limit) (read_as (suc count) (f label)) less
 
-both_true : (a b : Bool) → a ≡ true → b ≡ true → (a && b) ≡ true
-both_true a b h g = rw (h, g) refl
-
 goes_is : (limit count : ℕ) (input : Input) (m : M.Move) → goes_with (next_by limit count m) input ≡ true → IsSome (after limit count input m)
 goes_is limit count input M.ends h = never h
 goes_is limit count input M.undefined h = never h
 goes_is limit count input (M.silent x) h = by_left (left limit count) where
   by_left : Left limit count → IsSome (if_so (is_plain input && nat_lt count limit) (counted_as (suc count) x))
-  by_left (some e f) = is_some _ _ (both_true (is_plain input) (nat_lt count limit) (sym (ap (λ b. goes_with (if b then N.Silent else N.Lost) input) e) ∙ h) e)
+  by_left (some e f) = is_some _ _ (and_from (is_plain input) (nat_lt count limit) (sym (ap (λ b. goes_with (if b then N.Silent else N.Lost) input) e) ∙ h) e)
   by_left (none e f) = never (sym (ap (λ b. goes_with (if b then N.Silent else N.Lost) input) e) ∙ h)
 goes_is limit count input (M.does kind x) h = is_some (goes_with_act (act_of kind) input) (counted_as 0 x) h
 goes_is limit count input (M.chooses kernel branches f) h = answers branches f input h

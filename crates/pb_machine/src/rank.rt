@@ -1,4 +1,5 @@
 ghost use Rattle.std.specs.Prelude.{◌≡◌, ◌≤◌, ◌<◌, ◌+◌, ℕ, suc, IfOk, IsSome, Some, length, take, pos, ◌≤ℤ◌, true};
+ghost use Rattle.pb_text.specs.declared.limits.TheConstants.{MOST_NUMBER};
 ghost use Rattle.pb_affine.specs.Values.{count_of};
 ghost use Rattle.pb_local.specs.Ranks.{total};
 ghost use Rattle.pb_local.specs.Tree.{Codes, program_of};
@@ -47,7 +48,7 @@ impl Rank {
         requires some { pos 0 ≤ℤ n }
         requires range { IsInRange tree.now.local.range (count_of n) }
         requires there { rank < total tree.now.local.roles.items n }
-        requires few { total tree.now.local.roles.items n ≤ 2000000000 }
+        requires few { total tree.now.local.roles.items n ≤ MOST_NUMBER }
         ensures fits { IfOk result (λ r. Fits tree.now r) }
         ensures n { IfOk result (λ r. param_of r ≡ n) }
         ensures start { IfOk result (λ r. shown tree.now r ≡ going (text_start (program_of tree.now.local) n rank)) }
@@ -68,7 +69,7 @@ impl Rank {
         requires some { pos 0 ≤ℤ n }
         requires range { IsInRange tree.now.local.range (count_of n) }
         requires there { rank < total tree.now.local.roles.items n }
-        requires few { total tree.now.local.roles.items n ≤ 2000000000 }
+        requires few { total tree.now.local.roles.items n ≤ MOST_NUMBER }
         ensures fits { IfOk result (λ r. Fits tree.now r) }
         ensures n { IfOk result (λ r. param_of r ≡ n) }
         ensures start { IfOk result (λ r. shown tree.now r ≡ going (text_start (program_of tree.now.local) n rank)) }

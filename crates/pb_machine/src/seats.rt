@@ -1,4 +1,5 @@
 ghost use Rattle.std.specs.Prelude.{◌≡◌, ◌≤◌, ◌<◌, pos, ◌+ℤ◌, ◌-ℤ◌, ◌≤ℤ◌, length, IfSome, None};
+ghost use Rattle.pb_text.specs.declared.limits.TheConstants.{MOST_NUMBER};
 ghost use Rattle.pb_affine.specs.Values.{value, count_of, IsNear};
 ghost use Rattle.pb_local.specs.Ranks.{seats, seat_at, total};
 ghost use Rattle.pb_local.specs.WellMade.{IsInRange};
@@ -48,7 +49,7 @@ fn count(role: &Role, n: i64) -> u64
 #[tactic(auto, using(crate::proofs::Ranges::length_round))]
 fn total(roles: &[Role], n: i64) -> u64
     requires modest { IsModest n }
-    requires few { total roles.now n ≤ 2000000000 }
+    requires few { total roles.now n ≤ MOST_NUMBER }
     ensures { result ≡ total roles.now n }
 {
     let mut sum = 0;
@@ -72,7 +73,7 @@ fn index(role: &Role, n: i64, left: u32) -> i64
 pub fn me_at(roles: &[Role], n: i64, rank: u32) -> Me
     requires modest { IsModest n }
     requires many { length roles.now ≤ 64 }
-    requires few { total roles.now n ≤ 2000000000 }
+    requires few { total roles.now n ≤ MOST_NUMBER }
     ensures seat { seat_of result ≡ seat_at rank (seats roles.now n) }
     ensures n { result.n ≡ n }
     ensures total { result.total ≡ total roles.now n }
@@ -125,7 +126,7 @@ pub fn total_of(tree: &CTree, n: i64, most: u32) -> Option<u32>
     requires tree { IsTree tree.now }
     requires some { pos 0 ≤ℤ n }
     requires range { IsInRange tree.now.local.range (count_of n) }
-    requires few { most ≤ 2000000000 }
+    requires few { most ≤ MOST_NUMBER }
     ensures some { IfSome result (λ count. (count ≡ total tree.now.local.roles.items n) × (count ≤ most)) }
     ensures none { result ≡ None → most < total tree.now.local.roles.items n }
 {

@@ -17,8 +17,8 @@ use Rattle.pb_local.specs.Tree.{Code, when, for_each, own, loop, again, choice, 
 use Rattle.pb_local.specs.WellMade.{count_parts}
 use Rattle.pb_local.specs.Collectives.{operation_of}
 use Rattle.pb_local.specs.Computed.{fits, all_fit, is_for, is_for_some, guard_numbers, numbers_of, relay_numbers, source_of, is_peer, peer_number, branch_for}
-use Rattle.pb_local.specs.Machine.{Todo, finished, next, round_of, end_of, leave, Rank, Move, ends, undefined, silent, does, chooses, probes, pushed, entered, back_to, with_i, with_todo, quietly, told, with_peer, asks, move_at, move_from}
-use Rattle.pb_local.proofs.Plains.{choice_plain}
+use Rattle.pb_local.specs.Machine.{Todo, finished, do_next, round_of, end_of, leave, Rank, Move, ends, undefined, silent, does, chooses, probes, pushed, entered, back_to, with_i, with_todo, quietly, told, with_peer, asks, move_at, move_from}
+use Rattle.pb_local.proofs.Plains.{choice_plain, when_plain, for_plain, loop_plain}
 use Rattle.pb_ctree.specs.declared.tree.Formula.{Formula}
 use Rattle.pb_machine_next.specs.declared.step.Step.{Step}
 use Rattle.pb_machine_next.specs.declared.me.Me.{Me}
@@ -29,7 +29,7 @@ use Rattle.pb_machine_next.specs.Peers.{peer_at}
 use Rattle.pb_machine_next.specs.Place.{part_at, part_number, inner_number, looped, found, nowhere, at_code, at_round, block_from, number_at, head, inside, marked, Spot, on_from, beyond, enter, enter_at, spot, root, todo, block_at, tests_of, tests_at, settled}
 use Rattle.pb_machine_next.specs.Meaning.{IsFront, IsCode, IsRound, IsAt, IsLoop, IsBack}
 use Rattle.pb_machine_next.specs.View.{rank_of, goes, told_to, enters, when_some, begun, turned, owned, probed, asked, chosen, branched, move_to, back_by, Knows}
-use Rattle.pb_machine_next.proofs.Plains.{parts, from_none, if_plain, for_plain, loop_plain}
+use Rattle.pb_machine_next.proofs.Plains.{parts, from_none}
 use Rattle.pb_machine_next.proofs.Places.{spot-append, block_is, found_whole, looped_whole, back-passed}
 use Rattle.pb_machine_next.proofs.Heights.{path_low}
 use Rattle.pb_machine_next.proofs.Breadths.{path_narrow}
@@ -156,7 +156,7 @@ count-parts (b ∷ bs) = ap suc (count-parts bs)
 -- the ends of loops that were reached are passed
 pub move-settled : (p : Program) (n : ℤ) (x : Rank) (t : Todo) → move_from p n x t ≡ move_from p n x (settled t)
 move-settled p n x finished = refl
-move-settled p n x (next k c rest) = refl
+move-settled p n x (do_next k c rest) = refl
 move-settled p n x (round_of high k body rest) = refl
 move-settled p n x (end_of id k body rest) = move-settled p n x rest
 move-settled p n x (leave joint rest) = refl
@@ -288,7 +288,7 @@ choice_does places me i s who k rs e ts bs into back stay n relays tests is coun
 
 pub if_high : (s : Stmt) (gs : List Guard) (x y : Vec Stmt Global) (d h : ℕ) → s ≡ If gs x y → d + height (plain s) ≤ h → d < h
 if_high s gs x y d h is le =
-    let f : height (plain s) ≡ height (when gs (plain_all x.items) (plain_all y.items)) = ap (λ z. height (plain z)) is ∙ ap height (if_plain gs x y) in
+    let f : height (plain s) ≡ height (when gs (plain_all x.items) (plain_all y.items)) = ap (λ z. height (plain z)) is ∙ ap height (when_plain gs x y) in
     omega (arith, le, f)
 
 pub for_high : (s : Stmt) (low high : Lin) (x : Vec Stmt Global) (d h : ℕ) → s ≡ For low high x → d + height (plain s) ≤ h → d < h

@@ -2,7 +2,7 @@
 use Rattle.std.proofs.Common.{◌≡◌, ℕ, zero, suc, ◌+◌, List, [], ◌∷◌, ◌++◌, length, ap, sym, ◌∙◌, refl, Option, Some, None, Bool, true, false, nat_eq, if◌then◌else◌, add-one, append_assoc, length-append}
 use Rattle.std.proofs.lemmas.Bool.{eq-eqb}
 use Rattle.pb_local.specs.Tree.{Code, when, for_each, own, loop, again, choice, send, recv, run, barrier, broadcast, reduce, allreduce, Codes, nothing, more, size}
-use Rattle.pb_local.specs.Machine.{Todo, next, round_of, end_of, pushed, back_to}
+use Rattle.pb_local.specs.Machine.{Todo, do_next, round_of, end_of, pushed, back_to}
 use Rattle.pb_machine_next.specs.declared.step.Step.{Step}
 use Rattle.pb_machine_next.specs.Place.{block_from, number_at, head, marked, Spot, on_from, beyond, enter, spot, root, todo, block_at, settled, Found, nowhere, at_code, at_round, at_or, round_or, better, found, loop_or, looped}
 use Rattle.pb_machine_next.specs.Meaning.{IsFront, IsAt, IsLoop, IsBack}
@@ -47,8 +47,8 @@ at_or_is b path front d k best (more c cs) is h old =
       is_front = is;
       after_is = refl;
       there = h ∙ ap (more c) (sym e1);
-      todo_is = ap (λ z. next (number_at s.number k s.block) c (pushed (number_at s.number k s.block + size c) z s.rest)) (sym e1)
-          ∙ ap (λ z. next (number_at s.number k s.block) c (pushed z (block_from (suc k) s.block) s.rest)) (sym e2);
+      todo_is = ap (λ z. do_next (number_at s.number k s.block) c (pushed (number_at s.number k s.block + size c) z s.rest)) (sym e1)
+          ∙ ap (λ z. do_next (number_at s.number k s.block) c (pushed z (block_from (suc k) s.block) s.rest)) (sym e2);
     }
 
 -- the best place once a step was taken

@@ -1,15 +1,13 @@
 -- Plain trees, and the statements of blocks.
 use Rattle.std.proofs.Common.{◌≡◌, ◌≤◌, ◌<◌, ℕ, zero, suc, ◌+◌, List, [], ◌∷◌, map, length, ap, sym, ◌∙◌, Vec, refl, get_or, add-one, arith}
 use Rattle.std.specs.declared.alloc.Global.{Global}
-use Rattle.pb_affine.specs.declared.lin.Lin.{Lin}
 use Rattle.pb_affine.specs.declared.guard.Guard.{Guard}
 use Rattle.pb_local.specs.declared.stmt.Peer.{Peer}
 use Rattle.pb_local.specs.declared.stmt.Test.{Test}
 use Rattle.pb_local.specs.declared.stmt.Relay.{Relay}
-use Rattle.pb_local.specs.declared.stmt.Stmt.{Stmt, fold-roll-Stmt}
-use Rattle.pb_local.specs.declared.stmt.Stmt.TheVariants.{Choice, If, rolls-If, For, rolls-For, Loop, rolls-Loop}
-use Rattle.pb_local.specs.declared.stmt.Stmt.TheOpen as Layer
-use Rattle.pb_local.specs.Tree.{Code, when, for_each, loop, nothing, more, Parts, parts_of, layer, plain, plain_all}
+use Rattle.pb_local.specs.declared.stmt.Stmt.{Stmt}
+use Rattle.pb_local.specs.declared.stmt.Stmt.TheVariants.{Choice}
+use Rattle.pb_local.specs.Tree.{nothing, more, Parts, parts_of, plain, plain_all}
 use Rattle.pb_local.proofs.Plains.{choice_plain}
 use Rattle.pb_machine_next.specs.declared.step.Step.{Step}
 use Rattle.pb_machine_next.specs.Place.{block_from, head, inside, part_at, tests_of, Found, at_or, round_or, better}
@@ -17,15 +15,6 @@ use Rattle.pb_machine_next.specs.Place.{block_from, head, inside, part_at, tests
 -- the branches of a choice
 abbrev pub parts : List (Vec Stmt Global) → Parts
 parts bs = parts_of (map (λ v. map plain v.items) bs)
-
-pub if_plain : (gs : List Guard) (x y : Vec Stmt Global) → plain (If gs x y) ≡ when gs (plain_all x.items) (plain_all y.items)
-if_plain gs x y = ap plain (sym (rolls-If gs x y)) ∙ fold-roll-Stmt Code layer (Layer.If gs x y)
-
-pub for_plain : (low high : Lin) (x : Vec Stmt Global) → plain (For low high x) ≡ for_each low high (plain_all x.items)
-for_plain low high x = ap plain (sym (rolls-For low high x)) ∙ fold-roll-Stmt Code layer (Layer.For low high x)
-
-pub loop_plain : (id : ℕ) (x : Vec Stmt Global) → plain (Loop id x) ≡ loop id (plain_all x.items)
-loop_plain id x = ap plain (sym (rolls-Loop id x)) ∙ fold-roll-Stmt Code layer (Layer.Loop id x)
 
 pub of_choice : (s : Stmt) (who : Guard) (k : ℕ) (rs : Vec Relay Global) (from : Peer) (ts : Vec Test Global) (bs : Vec (Vec Stmt Global) Global) (n : ℕ) →
     s ≡ Choice who k rs from ts bs → inside n (plain s) ≡ part_at n (parts bs.items)

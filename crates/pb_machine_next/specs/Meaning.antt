@@ -2,7 +2,7 @@
 use Rattle.std.specs.Prelude.{◌≡◌, ℕ, suc, List, [], ◌∷◌, ◌++◌, length, Option, Some, None}
 use Rattle.pb_affine.specs.declared.lin.Lin.{Lin}
 use Rattle.pb_local.specs.Tree.{Code, for_each, Codes, more}
-use Rattle.pb_local.specs.Machine.{Todo, finished, next, round_of, back_to}
+use Rattle.pb_local.specs.Machine.{Todo, finished, do_next, round_of, back_to}
 use Rattle.pb_machine_next.specs.declared.step.Step.{Step}
 use Rattle.pb_machine_next.specs.Place.{block_from, number_at, head, on_from, beyond, enter, spot, root, settled, Found, nowhere, at_code, at_round}
 
@@ -17,7 +17,7 @@ pub record IsCode (b : Codes) (path : List Step) (todo : Todo) (depth k after : 
   pub is_front : IsFront path depth front
   pub after_is : after ≡ suc k
   pub there : block_from k (spot (root b) front).block ≡ more code (block_from (suc k) (spot (root b) front).block)
-  pub todo_is : settled todo ≡ next (number_at (spot (root b) front).number k (spot (root b) front).block) code (beyond (spot (root b) front) k)
+  pub todo_is : settled todo ≡ do_next (number_at (spot (root b) front).number k (spot (root b) front).block) code (beyond (spot (root b) front) k)
 
 pub record IsRound (b : Codes) (path : List Step) (todo : Todo) (depth after : ℕ) (high : Lin) : Type 0 where
   pub front : List Step

@@ -3,7 +3,7 @@ use Rattle.std.specs.Prelude.{ℕ, zero, suc, ◌+◌, List, [], ◌∷◌, Opti
 use Rattle.pb_affine.specs.declared.lin.Lin.{Lin}
 use Rattle.pb_local.specs.declared.stmt.Test.{Test}
 use Rattle.pb_local.specs.Tree.{Code, when, for_each, own, loop, again, choice, send, recv, run, barrier, broadcast, reduce, allreduce, Codes, nothing, more, Parts, no_part, part, size, size_all}
-use Rattle.pb_local.specs.Machine.{Todo, finished, next, round_of, end_of, leave, pushed}
+use Rattle.pb_local.specs.Machine.{Todo, finished, do_next, round_of, end_of, leave, pushed}
 use Rattle.pb_machine_next.specs.declared.step.Step.{Step}
 
 -- ---- blocks
@@ -154,9 +154,9 @@ tests_at b path k = tests_of (head (block_from k (block_at b path)))
 -- with the ends of loops that were reached passed
 abbrev pub settled : Todo → Todo
 settled finished = finished
-settled (next k c rest) = next k c rest
-settled (round_of high k body rest) = round_of high k body rest
-settled (end_of id k body rest) = settled rest
+settled (do_next number first rest) = do_next number first rest
+settled (round_of high number body rest) = round_of high number body rest
+settled (end_of id number body rest) = settled rest
 settled (leave joint rest) = leave joint rest
 
 -- ---- where a rank stands, found on the way down a path

@@ -9,7 +9,7 @@ ghost use Rattle.pb_syntax.specs.Grammar.{kind_number};
 
 use pb_lex::end_place;
 use pb_syntax::{Place, Spot};
-use pb_text::{Key, Mark, Token, TokenKind};
+use pb_text::{Key, MOST_NUMBER, Mark, Token, TokenKind};
 use std::alloc::AllocFailed;
 
 /// Why a form can't be read.
@@ -38,15 +38,39 @@ pub(crate) struct Numeral {
     pub(crate) place: Place,
 }
 
-// Marks have the kinds 0 to 12, keys 13 to 36, names 37 and numbers 38.
+// Marks have the kinds 0 to 12, in their order, and keys the kinds from here on, in theirs.
+const KEYS: u8 = 13;
+
+const NAME: u8 = 37;
+
+const NUMBER: u8 = 38;
+
+const FOREACH: u8 = KEYS + Key::Foreach as u8;
+
+const REC: u8 = KEYS + Key::Rec as u8;
+
+const CONTINUE: u8 = KEYS + Key::Continue as u8;
+
+const CHOICE: u8 = KEYS + Key::Choice as u8;
+
+const COMPUTE: u8 = KEYS + Key::Compute as u8;
+
+const BARRIER: u8 = KEYS + Key::Barrier as u8;
+
+const BROADCAST: u8 = KEYS + Key::Broadcast as u8;
+
+const REDUCE: u8 = KEYS + Key::Reduce as u8;
+
+const ALLREDUCE: u8 = KEYS + Key::Allreduce as u8;
+
 fn kind_number(kind: &TokenKind) -> u8
     ensures { result ≡ kind_number kind.now }
 {
     match kind {
         TokenKind::Mark(mark) => *mark as u8,
-        TokenKind::Key(key) => 13 + *key as u8,
-        TokenKind::Word(_) => 37,
-        TokenKind::Number(_) => 38,
+        TokenKind::Key(key) => KEYS + *key as u8,
+        TokenKind::Word(_) => NAME,
+        TokenKind::Number(_) => NUMBER,
     }
 }
 
@@ -70,7 +94,7 @@ impl<'a> Cursor<'a> {
         ensures { result ≡ starts (key_next key) self.now.rest.now }
     {
         match self.rest.first() {
-            Some(token) => kind_number(&token.kind) == 13 + key as u8,
+            Some(token) => kind_number(&token.kind) == KEYS + key as u8,
             None => false,
         }
     }
@@ -79,7 +103,7 @@ impl<'a> Cursor<'a> {
         ensures { result ≡ starts word_next self.now.rest.now }
     {
         match self.rest.first() {
-            Some(token) => kind_number(&token.kind) == 37,
+            Some(token) => kind_number(&token.kind) == NAME,
             None => false,
         }
     }
@@ -88,7 +112,7 @@ impl<'a> Cursor<'a> {
         ensures { result ≡ starts number_next self.now.rest.now }
     {
         match self.rest.first() {
-            Some(token) => kind_number(&token.kind) == 38,
+            Some(token) => kind_number(&token.kind) == NUMBER,
             None => false,
         }
     }
@@ -97,7 +121,7 @@ impl<'a> Cursor<'a> {
         ensures { result ≡ starts (among item_keys) self.now.rest.now }
     {
         match self.rest.first() {
-            Some(token) => matches!(kind_number(&token.kind), 37 | 25),
+            Some(token) => matches!(kind_number(&token.kind), NAME | COMPUTE),
             None => false,
         }
     }
@@ -108,7 +132,15 @@ impl<'a> Cursor<'a> {
         match self.rest.first() {
             Some(token) => matches!(
                 kind_number(&token.kind),
-                37 | 19 | 20 | 21 | 22 | 25 | 26 | 27 | 28 | 29
+                NAME | FOREACH
+                    | REC
+                    | CONTINUE
+                    | CHOICE
+                    | COMPUTE
+                    | BARRIER
+                    | BROADCAST
+                    | REDUCE
+                    | ALLREDUCE
             ),
             None => false,
         }
@@ -130,7 +162,7 @@ impl<'a> Cursor<'a> {
         ensures { GivesTo (λ x. x) result self.new.rest.now (key_at key self.old.rest.now) }
     {
         match self.rest.split_first() {
-            Some((token, rest)) if kind_number(&token.kind) == 13 + key as u8 => {
+            Some((token, rest)) if kind_number(&token.kind) == KEYS + key as u8 => {
                 self.rest = rest;
                 Ok(token.place)
             }
@@ -158,13 +190,13 @@ impl<'a> Cursor<'a> {
 
     pub(crate) fn number(&mut self) -> Result<Numeral, Stop>
         ensures read { GivesTo numeral result self.new.rest.now (number_at self.old.rest.now) }
-        ensures small { IfOk result (λ n. n.value ≤ 2000000000) }
+        ensures small { IfOk result (λ n. n.value ≤ MOST_NUMBER) }
     {
         let Some((token, rest)) = self.rest.split_first() else {
             return Err(Stop::Unexpected);
         };
         match token.kind {
-            TokenKind::Number(value) if value <= 2_000_000_000 => {
+            TokenKind::Number(value) if value <= MOST_NUMBER => {
                 self.rest = rest;
                 Ok(Numeral {
                     value,
@@ -182,7 +214,7 @@ impl<'a> Cursor<'a> {
             return Err(Stop::Unexpected);
         };
         match token.kind {
-            TokenKind::Number(value) if value <= 2_000_000_000 && value != 0 => {
+            TokenKind::Number(value) if value <= MOST_NUMBER && value != 0 => {
                 self.rest = rest;
                 Ok(Numeral {
                     value,

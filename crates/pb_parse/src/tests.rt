@@ -1,6 +1,6 @@
 use super::*;
 use pb_syntax::print_file;
-use pb_text::{Place, Quantity};
+use pb_text::{Key, MOST_TEXT_BYTES, Place, Quantity};
 use std::alloc::Global;
 use std::test::Fail;
 
@@ -37,7 +37,7 @@ fn at(line: u32, col: u32) -> Place {
 }
 
 fn fault_of(alloc: Global, text: &[u8]) -> Option<ParseFault> {
-    if text.len() > 67_108_864 {
+    if text.len() > MOST_TEXT_BYTES as usize {
         return None;
     }
     parse(alloc, text).err()
@@ -213,34 +213,8 @@ fn counts_to_the_limits(rt: HostRuntime) -> Result<(), Fail> {
 #[test]
 fn takes_no_keyword_for_a_name(rt: HostRuntime) -> Result<(), Fail> {
     let alloc = rt.alloc();
-    let keywords: [&[u8]; 24] = [
-        b"const",
-        b"global",
-        b"protocol",
-        b"role",
-        b"from",
-        b"to",
-        b"foreach",
-        b"rec",
-        b"continue",
-        b"choice",
-        b"at",
-        b"or",
-        b"compute",
-        b"barrier",
-        b"broadcast",
-        b"reduce",
-        b"allreduce",
-        b"with",
-        b"max",
-        b"min",
-        b"sum",
-        b"int32",
-        b"uint32",
-        b"do",
-    ];
-    for keyword in keywords {
-        let text = repeated(alloc, b"const ", keyword, 1, b" = 2..max;")?;
+    for keyword in Key::all() {
+        let text = repeated(alloc, b"const ", keyword.spelling(), 1, b" = 2..max;")?;
         assert_eq!(rt;
             fault_of(alloc, &text),
             Some(ParseFault::Unexpected(at(1, 7)))
@@ -253,7 +227,7 @@ fn takes_no_keyword_for_a_name(rt: HostRuntime) -> Result<(), Fail> {
 fn reads_back_what_was_printed(rt: HostRuntime) -> Result<(), Fail> {
     let alloc = rt.alloc();
     for text in [PAIR, WHOLE] {
-        if text.len() > 67_108_864 {
+        if text.len() > MOST_TEXT_BYTES as usize {
             return Ok(());
         }
         let file = parse(alloc, text).map_err(|_| "parse")?;

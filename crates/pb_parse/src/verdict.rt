@@ -2,6 +2,7 @@ ghost use Rattle.std.specs.Prelude.{◌≡◌, ◌<◌, ◌≤◌, List, take, d
 ghost use Rattle.pb_text.specs.declared.token.Token.{Token};
 ghost use Rattle.pb_text.specs.Places.{first_place, place_after};
 ghost use Rattle.pb_text.specs.Tokens.{IsText};
+ghost use Rattle.pb_text.specs.declared.limits.TheConstants.{MOST_TEXT_BYTES};
 ghost use Rattle.pb_syntax.specs.Tree.{PlainFile};
 ghost use Rattle.pb_syntax.specs.Grammar.{IsFile};
 ghost use Rattle.pb_parse.specs.Limits.{AreWithin, NextPasses, counts};
@@ -18,10 +19,10 @@ use std::alloc::Global;
 /// The tree of a protocol file.
 ///
 /// The bytes are at most 67,108,864. There is a tree exactly where the bytes are a text of the grammar within the limits,
-/// and `ParseFault` says which fault comes where there is none.
+/// and `ParseFault` says which fault comes where there is none. The same as `text_verdict`, with the clause `only`.
 #[tactic(auto, using(crate::proofs::Texts::only_text))]
 pub fn parse(alloc: Global, bytes: &[u8]) -> Result<FileTree, ParseFault>
-    requires { length bytes.now ≤ 67108864 }
+    requires { length bytes.now ≤ MOST_TEXT_BYTES }
     ensures parsed { IsParsedText bytes.now result }
     // Each file within the limits is parsed, unless memory runs out.
     ensures only { (tokens : List Token) (file : PlainFile) → IsText bytes.now tokens → IsFile tokens file → AreWithin tokens → Gives file result }
@@ -31,14 +32,14 @@ pub fn parse(alloc: Global, bytes: &[u8]) -> Result<FileTree, ParseFault>
 
 #[tactic(auto, using(crate::proofs::Texts::refused_text, crate::proofs::Texts::parsed_text))]
 fn text_verdict(alloc: Global, bytes: &[u8]) -> Result<FileTree, ParseFault>
-    requires { length bytes.now ≤ 67108864 }
+    requires { length bytes.now ≤ MOST_TEXT_BYTES }
     ensures { IsParsedText bytes.now result }
 {
     let tokens = lex(alloc, bytes)?;
     parse_tokens(alloc, &tokens, bytes)
 }
 
-/// The tree of the tokens of a whole text, and its bytes.
+/// The tree of the tokens of a whole text, and its bytes. The same as `verdict`, with the clause `only`.
 #[tactic(auto, using(crate::proofs::Together::only))]
 pub(crate) fn parse_tokens(
     alloc: Global,

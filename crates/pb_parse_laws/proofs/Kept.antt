@@ -1,6 +1,7 @@
 -- What a file has that keeps the rules 1, 3 and 5.
-use Rattle.std.proofs.Common.{◌≡◌, ℕ, Bool, true, false, ◌||◌, not, nat_lt, nat_le, if◌then◌else◌, Option, None, List, [], ◌∷◌, ◌++◌, refl, arith}
+use Rattle.std.proofs.Common.{◌≡◌, ℕ, Bool, true, false, nat_lt, nat_le, if◌then◌else◌, Option, None, List, [], ◌∷◌, ◌++◌, refl, arith}
 use Rattle.std.proofs.lemmas.Bool.Decides.{nat_tests}
+use Rattle.std.proofs.lemmas.Bool.{or_parts}
 use Rattle.pb_text.specs.declared.place.Place.{Place}
 use Rattle.pb_syntax.specs.declared.tree.High.{High}
 use Rattle.pb_syntax.specs.declared.tree.High.TheVariants.{Upto, Max}
@@ -26,10 +27,6 @@ none_or : (k : ℕ) (xs : List Place) (later : Option (ℕ × Place)) → first_
 none_or k [] later e = (refl, e)
 none_or k (x ∷ xs) later e = absurd (grind arith)
 
-right_false : (a b : Bool) → (a || b) ≡ false → b ≡ false
-right_false true b e = absurd (grind arith)
-right_false false b e = e
-
 -- ---- rule 1
 
 abbrev IsRight : List Name → Visit → Use → Type 0
@@ -50,16 +47,12 @@ are_right : (roles : List Name) (before vs : List Visit) → misnamed roles befo
 are_right roles before [] e = tt
 are_right roles before (v ∷ vs) e =
     let p = both_none _ _ e in
-    (at v.how (right_false (has_other_kind v.spot.name v.kind before) _ (none_if _ _ p.0)), are_right roles (before ++ v ∷ []) vs p.1)
+    (at v.how (or_parts (has_other_kind v.spot.name v.kind before) _ (none_if _ _ p.0)).1, are_right roles (before ++ v ∷ []) vs p.1)
   where
     at : (how : Use) → is_misused roles before v how ≡ false → IsRight roles v how
     at mentioned m = m
     at declared m = tt
     at bound m = tt
-
-pub is_true : (b : Bool) → not b ≡ false → b ≡ true
-is_true true e = refl
-is_true false e = absurd (grind arith)
 
 -- ---- rule 5
 

@@ -2,6 +2,7 @@
 use Rattle.std.proofs.Common.{◌≡◌, ℕ, suc, ◌+◌, ◌≤◌, Bool, true, false, ◌||◌, ◌&&◌, not, nat_eq, nat_lt, nat_le, if◌then◌else◌, Option, Some, None, List, [], ◌∷◌, length, refl, sym, ap, subst, ◌∙◌, arith}
 use Rattle.std.proofs.lemmas.Bool.Decides.{nat_tests}
 use Rattle.std.specs.List.{list_any}
+use Rattle.std.proofs.lemmas.Bool.{not-false, or_right, and_parts}
 use Rattle.pb_affine.specs.declared.lin.Base.TheVariants.{Param, Var}
 use Rattle.pb_text.specs.declared.place.Spot.{Spot}
 use Rattle.pb_syntax.specs.declared.core_label.CoreKernel.{CoreKernel}
@@ -23,22 +24,10 @@ use Rattle.pb_parse_laws.proofs.Forms.{small_pos}
 use Rattle.pb_parse_laws.proofs.Shape.{IsSmallLin, IsSmallRange, IsSmallOver, IsSmallIndex, IsPlainIndex, IsSmallEnd, IsPlainEnd, AreSmallRoles, IsItem, AreItems, HasBranch, IsShaped, AreShaped, AreBranches, IsShapedFile}
 use Rattle.pb_parse_laws.proofs.Statements.{file_shaped}
 use Rattle.pb_parse_laws.proofs.Named.{below, named_below, label_below, HaveRows, have_rows, rows_both, kernel_below, HaveKernels, have_kernels, kernels_both}
-use Rattle.pb_parse_laws.proofs.Kept.{both_none, some_if, AreRight, right_both, is_true, Kept, kept}
+use Rattle.pb_parse_laws.proofs.Kept.{both_none, some_if, AreRight, right_both, Kept, kept}
 
 both : {a b : Bool} → a ≡ true → b ≡ true → (a && b) ≡ true
 both h g = rw (h, g) refl
-
-left_true : (a b : Bool) → (a && b) ≡ true → a ≡ true
-left_true true b e = refl
-left_true false b e = e
-
-right_true : (a b : Bool) → (a && b) ≡ true → b ≡ true
-right_true true b e = e
-right_true false b e = absurd (grind arith)
-
-or_right : (a b : Bool) → b ≡ true → (a || b) ≡ true
-or_right true b e = refl
-or_right false b e = e
 
 -- ---- lins
 
@@ -58,7 +47,7 @@ over_n roles c scope l none h = at l.base h
   where
     of_name : (x : Spot) (b : Bool) → AreRight roles (record { spot = x; kind = if b then the_constant else a_variable; how = mentioned; scope = scope } ∷ []) → is_over_n (if b then Param else Var) ≡ true
     of_name x true h = refl
-    of_name x false h = absurd (unknown scope.variables none (is_true (is_named x.name scope.variables) h.0))
+    of_name x false h = absurd (unknown scope.variables none (not-false (is_named x.name scope.variables) h.0))
       where
         unknown : (vs : List Name) → vs ≡ [] → is_named x.name vs ≡ true → ⊥
         unknown [] e h = grind arith
@@ -145,7 +134,7 @@ module _ (c : Name) (roles : List Name) (labels : List CoreLabel) (kernels : Lis
   kernel_found x h = below _ _ (kernel_below x kernels h)
 
   role_found : (x : Name) → not (is_named x roles) ≡ false → nat_lt (position_of x roles) (length roles) ≡ true
-  role_found x h = below _ _ (named_below x roles (is_true _ h))
+  role_found x h = below _ _ (named_below x roles (not-false _ h))
 
   small_index : (i : IndexText) → IsSmallIndex i → is_small (index_of c i).off ≡ true
   small_index Zero small = small_pos 0 (omega arith)
@@ -252,7 +241,7 @@ module _ (c : Name) (roles : List Name) (labels : List CoreLabel) (kernels : Lis
     stmt_sound (F.loop at x place body) scope os s b last none shaped h has kernels_has e =
         both (below (length (ids os)) 64 (omega (arith, ids_length os, shaped.0)))
         (block_sound body (with_loop x.name scope) (record { name = x.name; id = s } ∷ os) (suc s) (suc b) none shaped.1 h.1 has kernels_has e)
-    stmt_sound (F.again at x) scope os s b last none shaped h has kernels_has e = opened x.name os (right_true last _ (some_if _ at e))
+    stmt_sound (F.again at x) scope os s b last none shaped h has kernels_has e = opened x.name os (and_parts last _ (some_if _ at e)).1
     stmt_sound (F.choice at k who bs) scope os s b last none shaped h has kernels_has e =
         let g = right_both roles (end_visits c scope scope who) (branches_visits c scope bs) h.1 in
         both (kernel_found k.name kernels_has.0) (both (end_outside scope scope who shaped.0 none g.0) (both (has_branches table os (suc s) b bs shaped.1.0) (branches_sound bs scope os (suc s) b none shaped.1.1 g.1 has kernels_has.1 e)))

@@ -1,6 +1,7 @@
 -- Single tokens: their sorts, and what is seen behind them.
 use Rattle.std.proofs.Common.{◌≡◌, ℕ, ◌<◌, ◌==◌, Bool, true, false, nat_le, if◌then◌else◌, Option, Some, None, List, [], ◌∷◌, length, get_or, refl, sym, ap, subst, ◌∙◌, arith, lit<}
 use Rattle.std.proofs.lemmas.Bool.Decides.{nat_tests}
+use Rattle.std.proofs.lemmas.Option.{cond_some}
 use Rattle.pb_text.specs.declared.place.Place.{Place}
 use Rattle.pb_text.specs.declared.place.Spot.{Spot}
 use Rattle.pb_text.specs.declared.token.Token.{Token}
@@ -116,11 +117,6 @@ sorted (kind.Key k) n e few = key_sorted k ∙ ap (λ i. get_or sorts i Other) e
 sorted (kind.Word w) n e few = ap (λ i. get_or sorts i Other) e
 sorted (kind.Number v) n e few = absurd (omega (arith, e, few))
 
--- what a test passes is read
-passes : {A : Type 0} (b : Bool) (x y : A) → (if b then Some x else None) ≡ Some y → b ≡ true
-passes true x y e = refl
-passes false x y e = absurd (grind arith)
-
 equal : (a b : ℕ) → (a == b) ≡ true → a ≡ b
 equal a b e = grind (arith, nat_tests)
 
@@ -138,10 +134,10 @@ fine_sort : (s : Seen) {k m : Sort} → k ≡ m → IsFine s k → (seen_next s 
 fine_sort s e fine = (ap (seen_next s) e, subst (IsFine s) e fine)
 
 pub mark_step : {s : Seen} (m : Mark) → Step s (mark m) (seen_next s (mark_sort m)) (λ (p : Place). IsFine s (mark_sort m))
-mark_step {s} m = one_step (reads_mark m) (λ t x e fine. fine_sort s (sorted t.kind (mark_number m) (equal _ _ (passes (is_mark m t.kind) t.place x e)) (mark_few m) ∙ sym (mark_sorted m)) fine)
+mark_step {s} m = one_step (reads_mark m) (λ t x e fine. fine_sort s (sorted t.kind (mark_number m) (equal _ _ (cond_some (is_mark m t.kind) t.place x e).0) (mark_few m) ∙ sym (mark_sorted m)) fine)
 
 pub key_step : {s : Seen} (k : Key) → Step s (key k) (seen_next s (key_sort k)) (λ (p : Place). IsFine s (key_sort k))
-key_step {s} k = one_step (reads_key k) (λ t x e fine. fine_sort s (sorted t.kind (key_number k) (equal _ _ (passes (is_key k t.kind) t.place x e)) (key_few k) ∙ sym (key_sorted k)) fine)
+key_step {s} k = one_step (reads_key k) (λ t x e fine. fine_sort s (sorted t.kind (key_number k) (equal _ _ (cond_some (is_key k t.kind) t.place x e).0) (key_few k) ∙ sym (key_sorted k)) fine)
 
 is_word : (k : TokenKind) (p : Place) (x : Spot) → mapped (λ w. record { name = w; place = p }) (word_in k) ≡ Some x → sort_of k ≡ Name
 is_word (kind.Word w) p x e = refl

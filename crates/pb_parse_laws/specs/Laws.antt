@@ -1,5 +1,6 @@
 -- What a file has that was parsed within the limits.
 use Rattle.std.specs.Prelude.{◌≡◌, ℕ, ◌≤◌, true, List, length, None}
+use Rattle.pb_text.specs.declared.limits.TheConstants.{MOST_TEXT_BYTES}
 use Rattle.pb_syntax.specs.Tree.{PlainFile}
 use Rattle.pb_syntax.specs.Grammar.{IsFile}
 use Rattle.pb_parse.specs.Limits.{AreWithin}
@@ -13,9 +14,9 @@ use Rattle.pb_core_file_rules.specs.Lowering.{IsCountable}
 abbrev pub IsTreeOf : List ℕ → PlainFile → Type 0
 IsTreeOf bytes file = OfTokens bytes (λ tokens. IsFile tokens file × AreWithin tokens)
 
--- what is counted in a file of at most 1,048,576 bytes has a number of 32 bits
+-- what is counted in a file of at most 67,108,864 bytes has a number of 32 bits
 abbrev pub ParsedIsCountable : Type 0
-ParsedIsCountable = (bytes : List ℕ) (file : PlainFile) → length bytes ≤ 67108864 → IsTreeOf bytes file → IsCountable file
+ParsedIsCountable = (bytes : List ℕ) (file : PlainFile) → length bytes ≤ MOST_TEXT_BYTES → IsTreeOf bytes file → IsCountable file
 
 -- a file that keeps the rules 1 to 5 means a core with small numbers, known rows, and variables and continues in their scopes
 abbrev pub ParsedIsSound : Type 0

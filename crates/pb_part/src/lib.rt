@@ -1,4 +1,5 @@
-//! What the ranks find first in a block of a file, as guards.
+//! What the ranks find first in a block of a file, as guards. The words `whole`, `held`, `reach` and `told` are told at the
+//! heads of `pb_part_takers` and `pb_part_firsts`.
 #![tactic(auto)]
 
 mod kinds;

@@ -11,12 +11,6 @@ pub or_assoc : (a b c : Bool) → a || (b || c) ≡ (a || b) || c
 or_assoc true b c = refl
 or_assoc false b c = refl
 
-pub or_swapped : (a b : Bool) → a || b ≡ b || a
-or_swapped true true = refl
-or_swapped true false = refl
-or_swapped false true = refl
-or_swapped false false = refl
-
 pub since_is : (p f t u r : Bool) → r ≡ f && t → p && r && u ≡ (p && f && u) && t
 since_is p f t u r e = grind (arith, nat_tests)
 

@@ -3,6 +3,7 @@ use Rattle.std.proofs.Common.{◌≡◌, ◌<◌, ◌+◌, ℕ, ℤ, pos, ◌+�
 use Rattle.std.proofs.lemmas.Int.{ints}
 use Rattle.std.proofs.lemmas.Bool.Decides.{nat_tests}
 use Rattle.std.proofs.lemmas.List.{take_more}
+use Rattle.std.proofs.lemmas.Bool.{or_right, or_left, or_cases}
 use Rattle.pb_affine.specs.declared.range.NRange.{NRange}
 use Rattle.pb_affine.specs.Values.{is_up_to}
 use Rattle.pb_cases.specs.declared.bad.Bad.{Bad}
@@ -176,16 +177,6 @@ one_missing a range n e h = record {
 
 -- ---- the earlier of two answers
 
-either_true : (p q : Bool) → p || q ≡ true → (p ≡ true) ⊎ (q ≡ true)
-either_true true q h = inl refl
-either_true false q h = inr h
-
-or_left : (p q : Bool) → p ≡ true → p || q ≡ true
-or_left p q h = grind (arith, nat_tests)
-
-or_right : (p q : Bool) → q ≡ true → p || q ≡ true
-or_right p q h = grind (arith, nat_tests)
-
 -- by N, then by rank
 not_later : (m n : ℤ) (r s : ℕ) (x y : ℤ) → is_earlier m r x n s y ≡ true → m ≤ℤ n
 not_later m n r s x y h = grind (arith, ints, nat_tests)
@@ -204,7 +195,7 @@ later_rank_other c s t n x y z h k = grind (arith, ints, nat_tests)
 
 module _ (range : NRange) (p q r : ℤ → ℕ → ℤ → Bool) (e : (n : ℤ) (role : ℕ) (x : ℤ) → r n role x ≡ p n role x || q n role x) where
   split : (n : ℤ) (role : ℕ) (x : ℤ) → r n role x ≡ true → (p n role x ≡ true) ⊎ (q n role x ≡ true)
-  split n role x h = either_true (p n role x) (q n role x) (sym (e n role x) ∙ h)
+  split n role x h = or_cases (p n role x) (q n role x) (sym (e n role x) ∙ h)
 
   by_case : {A : Type 0} {B C : Type 0} → B ⊎ C → (B → A) → (C → A) → A
   by_case (inl b) f g = f b

@@ -3,6 +3,7 @@ use Rattle.std.proofs.Common.{◌≡◌, ◌<◌, ℕ, zero, suc, ℤ, pos, Bool
 use Rattle.std.specs.List.{All, remove}
 use Rattle.std.specs.Option.{IfSome}
 use Rattle.std.proofs.lemmas.List.Elements.{All-append, All-take, All-drop}
+use Rattle.std.proofs.Math.Bool.{or_comm}
 use Rattle.pb_affine.specs.declared.lin.Lin.{Lin}
 use Rattle.pb_affine.specs.declared.range.NRange.{NRange}
 use Rattle.pb_part_areas.specs.declared.area.Area.{Area}
@@ -44,7 +45,7 @@ behind a b er el ee eu oa ob = record {
 
 pub exchanged : (a b m : Area) → IsUnion b a m → IsUnion a b m
 exchanged a b m u = record {
-  is = λ n role x. u.is n role x ∙ bools.or_swapped (has b n role x) (has a n role x);
+  is = λ n role x. u.is n role x ∙ or_comm (has b n role x) (has a n role x);
   fits = λ range cuts fa fb. u.fits range cuts fb fa;
 }
 
@@ -55,7 +56,7 @@ or_moved h g y z e = ap (λ w. h || w) e ∙ bools.or_assoc h z g
 
 pub have_removed : (xs : List Area) (i : ℕ) → i < length xs → (n : ℤ) (role : ℕ) (x : ℤ) → have xs n role x ≡ have (remove xs i) n role x || has (get_or xs i blank) n role x
 have_removed [] i lt n role x = absurd (omega (arith, lt))
-have_removed (a ∷ xs) zero lt n role x = bools.or_swapped (has a n role x) (have xs n role x)
+have_removed (a ∷ xs) zero lt n role x = or_comm (has a n role x) (have xs n role x)
 have_removed (a ∷ xs) (suc i) lt n role x = or_moved (has a n role x) (has (get_or xs i blank) n role x) _ _ (have_removed xs i (omega (arith, lt)) n role x)
 
 pub join_is : (xs ys : List Area) (i : ℕ) (last m : Area) → IsJoin xs last i m → ys ≡ remove xs i → (n : ℤ) (role : ℕ) (x : ℤ) (o : Bool) →

@@ -1,6 +1,7 @@
 -- Areas whose ends are cuts, for numbers N between breakpoints.
 use Rattle.std.specs.Prelude.{◌≡◌, ◌≢◌, ℕ, ℤ, pos, negsuc, ◌<ℤ◌, ◌≤ℤ◌, ◌⊎◌, Option, Some, None, List, false}
 use Rattle.std.specs.List.{Contains}
+use Rattle.pb_text.specs.declared.limits.TheConstants.{MOST_OFFSET}
 use Rattle.pb_affine.specs.declared.lin.Base.TheVariants.{Var}
 use Rattle.pb_affine.specs.declared.lin.Lin.{Lin}
 use Rattle.pb_affine.specs.declared.range.NRange.{NRange}
@@ -14,7 +15,7 @@ pub record IsCutOf (cuts : List Lin) (l : Lin) : Type 0 where
   pub there : Contains cuts l
   pub no_var : l.base ≢ Var
   pub least : negsuc 999998 ≤ℤ l.off
-  pub most : l.off ≤ℤ pos 1000000
+  pub most : l.off ≤ℤ MOST_OFFSET
 
 -- a breakpoint, a number below the range, or one above it
 pub record IsEdgeOf (range : NRange) (cuts : List Lin) (m : ℤ) : Type 0 where

@@ -13,6 +13,7 @@ use Rattle.pb_core_language.specs.declared.tree.CoreEnd.{CoreEnd}
 use Rattle.pb_core_language.specs.Outcomes.{Outcome, nothing_first, receives, other_first, or_then}
 use Rattle.pb_core_language.specs.Sound.{Rows, is_small, is_bound, is_end, is_stmt, is_block}
 use Rattle.pb_core_language.specs.Tree.{Mark, StmtTree, message, foreach, loop, again, choice, run, barrier, broadcast, reduce, allreduce, BlockTree, nothing, more}
+use Rattle.pb_core_language.specs.declared.tree.Bounds.{Bounds}
 use Rattle.pb_core_language.specs.Verdict.{IsIn}
 use Rattle.pb_part_areas.specs.declared.area.Area.{Area}
 use Rattle.pb_part_areas.specs.Areas.{has, have, at}
@@ -25,7 +26,6 @@ use Rattle.pb_core_flat.proofs.OutcomeSets.{or_then_assoc, or_then_left}
 use Rattle.pb_core_flat.proofs.SoundOnes.{sound_items}
 use Rattle.pb_core_flat.proofs.Sources.{put_is, over_n_is}
 use Rattle.pb_core_flat.proofs.Turns.{stops_in_turn, finding_is}
-use Rattle.pb_part_firsts.specs.declared.ends.Turns.{Turns}
 use Rattle.pb_part_firsts.specs.declared.firsts.Entry.{Entry}
 use Rattle.pb_part_firsts.specs.declared.firsts.Kind.{Kind}
 use Rattle.pb_part_takers.specs.declared.held.Held.{Held}
@@ -110,13 +110,13 @@ module _ (f : S.Visit → Stop) (role : ℕ) (x : ℤ) (some : (v : S.Visit) →
       ∙ ap (or_then here) (stops_joined vs ys)
       ∙ sym (stops_in_turn (f v) (map f vs ++ ys) role x (some v))
 
-pub fixed_some : (roles : List CoreRole) (t : Turns) (vs : List S.Visit) (n x : ℤ) (v : S.Visit) → is_nothing ((at_fixed roles n (at t.low n) (at t.high n) vs v).finds x) ≡ false
+pub fixed_some : (roles : List CoreRole) (t : Bounds) (vs : List S.Visit) (n x : ℤ) (v : S.Visit) → is_nothing ((at_fixed roles n (at t.low n) (at t.high n) vs v).finds x) ≡ false
 fixed_some roles t vs n x v = finding_is roles n (at t.low n) v.finding
 
-pub some_some : (roles : List CoreRole) (t : Turns) (n x : ℤ) (v : S.Visit) → is_nothing ((at_some roles n (at t.low n) (at t.high n) v).finds x) ≡ false
+pub some_some : (roles : List CoreRole) (t : Bounds) (n x : ℤ) (v : S.Visit) → is_nothing ((at_some roles n (at t.low n) (at t.high n) v).finds x) ≡ false
 some_some roles t n x v = finding_is roles n (x -ℤ v.end.at.off) v.finding
 
-pub each_gives : {range : NRange} {roles : List CoreRole} {reach mid left : List Area} {old now new : List Entry} (rows : Rows) (held : List Held) (m k : Mark) (t : Turns) (items : BlockTree) (vs sorted : List S.Visit) →
+pub each_gives : {range : NRange} {roles : List CoreRole} {reach mid left : List Area} {old now new : List Entry} (rows : Rows) (held : List Held) (m k : Mark) (t : Bounds) (items : BlockTree) (vs sorted : List S.Visit) →
     is_stmt rows false (ids_of held) (foreach (record { low = t.low; high = t.high }) k items) ≡ true → vs ≡ visits items → IsByFalling sorted (moving vs) →
     Gives range roles reach mid old now (λ n role x. found (first_of (map (at_fixed roles n (at t.low n) (at t.high n) vs) vs) role x) ∷ []) →
     Gives range roles mid left now new (λ n role x. found (first_of (map (at_some roles n (at t.low n) (at t.high n)) sorted) role x) ∷ []) →
@@ -132,7 +132,7 @@ each_gives {roles = roles} rows held m k t items vs sorted h e falls a b =
 
 -- ---- what a sound foreach has
 
-pub turns_bounded : (rows : Rows) (ids : List ℕ) (t : Turns) (k : Mark) (items : BlockTree) → is_stmt rows false ids (foreach (record { low = t.low; high = t.high }) k items) ≡ true → IsBounded t
+pub turns_bounded : (rows : Rows) (ids : List ℕ) (t : Bounds) (k : Mark) (items : BlockTree) → is_stmt rows false ids (foreach (record { low = t.low; high = t.high }) k items) ≡ true → IsBounded t
 turns_bounded rows ids t k items h =
     let both = and_parts (is_bound t.low) (is_bound t.high && is_block rows true ids items) h in
     record { low = both.0; high = (and_parts (is_bound t.high) (is_block rows true ids items) both.1).0 }
@@ -168,14 +168,14 @@ narrow_visits rows ids (more m s rest) h =
     let both = and_parts (is_stmt rows true ids s) (is_block rows true ids rest) (and_parts _ (is_stmt rows true ids s && is_block rows true ids rest) h).1 in
     narrow_append (visits_of s) (visits rest) (narrow_of rows ids s both.0) (narrow_visits rows ids rest both.1)
 
-pub each_narrow : (rows : Rows) (ids : List ℕ) (t : Turns) (k : Mark) (items : BlockTree) (vs : List S.Visit) → is_stmt rows false ids (foreach (record { low = t.low; high = t.high }) k items) ≡ true → vs ≡ visits items → are_narrow vs ≡ true
+pub each_narrow : (rows : Rows) (ids : List ℕ) (t : Bounds) (k : Mark) (items : BlockTree) (vs : List S.Visit) → is_stmt rows false ids (foreach (record { low = t.low; high = t.high }) k items) ≡ true → vs ≡ visits items → are_narrow vs ≡ true
 each_narrow rows ids t k items vs h e =
     let both = and_parts (is_bound t.low) (is_bound t.high && is_block rows true ids items) h in
     ap are_narrow e ∙ narrow_visits rows ids items (and_parts (is_bound t.high) (is_block rows true ids items) both.1).1
 
 -- ---- the values of the variable
 
-pub low_is : (t : Turns) (n x : ℤ) → IsBounded t → value t.low n x ≡ at t.low n
+pub low_is : (t : Bounds) (n x : ℤ) → IsBounded t → value t.low n x ≡ at t.low n
 low_is t n x k = over_n_is t.low n x (pos 0) (over_of_bound t.low k.low)
 
 back_ints : (a x : ℤ) → neg_ℤ a +ℤ x ≡ x -ℤ a

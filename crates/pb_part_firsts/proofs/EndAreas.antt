@@ -17,7 +17,7 @@ use Rattle.pb_part_areas.specs.Areas.{have, at}
 use Rattle.pb_core_flat.specs.Seated.{is_at}
 use Rattle.pb_core_flat.specs.Meets.{is_moving, is_passed, is_var}
 use Rattle.pb_core_flat.specs.Stops.{has_fixed}
-use Rattle.pb_part_firsts.specs.declared.ends.Turns.{Turns}
+use Rattle.pb_core_language.specs.declared.tree.Bounds.{Bounds}
 use Rattle.pb_part_firsts.specs.declared.visit.Visit.{Visit}
 use Rattle.pb_part_firsts.specs.Firsts.{is_small_off}
 use Rattle.pb_part_firsts.specs.Visits.{visit_of, IsBounded}
@@ -31,7 +31,7 @@ at_shifted l c n = let b = base_value l.base n (pos 0) in shuffled l.off b c whe
 below_next : (b : Bool) (l h e : ℤ) → e ≡ h +ℤ pos 1 → b && int_lt l e ≡ b && int_le l h
 below_next b l h e k = grind (arith, ints, nat_tests)
 
-pub staying_is : (t : Turns) (next : Lin) (r b : Bool) (n : ℤ) → IsBounded t → (is_small_off (t.high.off +ℤ pos 1) ≡ true → next ≡ shifted t.high (pos 1)) →
+pub staying_is : (t : Bounds) (next : Lin) (r b : Bool) (n : ℤ) → IsBounded t → (is_small_off (t.high.off +ℤ pos 1) ≡ true → next ≡ shifted t.high (pos 1)) →
     (is_small_off t.low.off ≡ true → is_small_off next.off ≡ true → r ≡ b && int_lt (at t.low n) (at next n)) → r ≡ b && int_le (at t.low n) (at t.high n)
 staying_is t next r b n k e h =
     let high : is_small_off (t.high.off +ℤ pos 1) ≡ true = small_next t.high.off (small_of_bound t.high k.high) in
@@ -53,7 +53,7 @@ meeting_bools : (r s le : Bool) (er mr role : ℕ) (ev x lo off mv m : ℤ) → 
     r ≡ le && ((nat_eq mr role && int_eq mv x) && (nat_eq er role && int_eq ev x))
 meeting_bools r s le er mr role ev x lo off mv m e es er' em ev' = grind (arith, ints, nat_tests)
 
-pub meeting_is : (end mover : CoreEnd) (t : Turns) (by : Lin) (r s : Bool) (n : ℤ) (role : ℕ) (x : ℤ) → is_small end.at.off ≡ true → is_small mover.at.off ≡ true → IsBounded t → is_moving mover ≡ true → end.role ≡ mover.role →
+pub meeting_is : (end mover : CoreEnd) (t : Bounds) (by : Lin) (r s : Bool) (n : ℤ) (role : ℕ) (x : ℤ) → is_small end.at.off ≡ true → is_small mover.at.off ≡ true → IsBounded t → is_moving mover ≡ true → end.role ≡ mover.role →
     (is_small_off (t.low.off +ℤ mover.at.off) ≡ true → by ≡ shifted t.low mover.at.off) → is_small_off by.off ≡ true → s ≡ is_at end n (pos 0) role x && int_le (at t.low n) (at t.high n) →
     (is_small_off end.at.off ≡ true → is_small_off by.off ≡ true → r ≡ s && int_eq (at end.at n) (at by n)) →
     r ≡ int_le (at t.low n) (at t.high n) && (is_at mover n (at t.low n) role x && is_at end n (pos 0) role x)
@@ -105,12 +105,12 @@ moved_bools r le m v f e h = grind (arith, nat_tests)
 stayed_bools : (r le m v f : Bool) → v ≡ false → r ≡ m && le → r ≡ le && (m && (not v || f))
 stayed_bools r le m v f e h = grind (arith, nat_tests)
 
-pub first_moving : (roles : List CoreRole) (end : CoreEnd) (visits : List Visit) (t : Turns) (r : Bool) (n : ℤ) (role : ℕ) (x : ℤ) → is_moving end ≡ true →
+pub first_moving : (roles : List CoreRole) (end : CoreEnd) (visits : List Visit) (t : Bounds) (r : Bool) (n : ℤ) (role : ℕ) (x : ℤ) → is_moving end ≡ true →
     r ≡ int_le (at t.low n) (at t.high n) && (is_at end n (at t.low n) role x && has_fixed roles n (map visit_of visits) role x) →
     r ≡ int_le (at t.low n) (at t.high n) && (is_at end n (at t.low n) role x && (not (is_moving end) || has_fixed roles n (map visit_of visits) role x))
 first_moving roles end visits t r n role x e h = moved_bools r _ (is_at end n (at t.low n) role x) (is_moving end) (has_fixed roles n (map visit_of visits) role x) e h
 
-pub first_staying : (roles : List CoreRole) (end : CoreEnd) (visits : List Visit) (t : Turns) (r : Bool) (n : ℤ) (role : ℕ) (x : ℤ) → is_moving end ≡ false →
+pub first_staying : (roles : List CoreRole) (end : CoreEnd) (visits : List Visit) (t : Bounds) (r : Bool) (n : ℤ) (role : ℕ) (x : ℤ) → is_moving end ≡ false →
     r ≡ is_at end n (pos 0) role x && int_le (at t.low n) (at t.high n) →
     r ≡ int_le (at t.low n) (at t.high n) && (is_at end n (at t.low n) role x && (not (is_moving end) || has_fixed roles n (map visit_of visits) role x))
 first_staying roles end visits t r n role x e h =
@@ -121,7 +121,7 @@ passed_bools : (role r : ℕ) (x lo hi off a b n : ℤ) → a ≡ lo +ℤ off �
     nat_eq role r && int_le a x && int_lt x b && int_le (pos 0) n && true ≡ nat_eq r role && (int_le (lo +ℤ off) x && int_le x (hi +ℤ off))
 passed_bools role r x lo hi off a b n ea eb p = grind (arith, ints, nat_tests)
 
-pub passed_is : (end : CoreEnd) (t : Turns) (low high next : Lin) (n : ℤ) (role : ℕ) (x : ℤ) → is_small end.at.off ≡ true → IsBounded t →
+pub passed_is : (end : CoreEnd) (t : Bounds) (low high next : Lin) (n : ℤ) (role : ℕ) (x : ℤ) → is_small end.at.off ≡ true → IsBounded t →
     (is_small_off (t.low.off +ℤ end.at.off) ≡ true → low ≡ shifted t.low end.at.off) → (is_small_off (t.high.off +ℤ end.at.off) ≡ true → high ≡ shifted t.high end.at.off) →
     (is_small_off (high.off +ℤ pos 1) ≡ true → next ≡ shifted high (pos 1)) → pos 0 ≤ℤ n →
     nat_eq role end.role && int_le (at low n) x && int_lt x (at next n) && int_le (pos 0) n && true ≡ nat_eq end.role role && is_passed end.at.off (at t.low n) (at t.high n) x

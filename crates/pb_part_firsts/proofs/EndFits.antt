@@ -11,7 +11,8 @@ use Rattle.pb_affine.specs.Values.{shifted}
 use Rattle.pb_core_language.specs.declared.tree.CoreEnd.{CoreEnd}
 use Rattle.pb_core_language.specs.Cuts.{edges, end_cuts, lin_cuts, moving, stmt_cuts, block_cuts}
 use Rattle.pb_core_language.specs.Sound.{is_small, is_over_n}
-use Rattle.pb_core_language.specs.Tree.{Bounds, StmtTree, message, foreach, loop, again, choice, run, barrier, broadcast, reduce, allreduce, BlockTree, nothing, more}
+use Rattle.pb_core_language.specs.Tree.{StmtTree, message, foreach, loop, again, choice, run, barrier, broadcast, reduce, allreduce, BlockTree, nothing, more}
+use Rattle.pb_core_language.specs.declared.tree.Bounds.{Bounds}
 use Rattle.pb_part_areas.specs.declared.area.Area.{Area}
 use Rattle.pb_part_areas.specs.Fits.{Fits, IsCutOf}
 use Rattle.pb_part_areas.proofs.Meets.{zero_edge}
@@ -20,10 +21,9 @@ use Rattle.pb_core_flat.specs.Stops as S
 use Rattle.pb_core_flat.specs.Stops.{visits, visits_of, put_behind, off_of}
 use Rattle.pb_part_takers.specs.Pieces.{AreAmong}
 use Rattle.pb_part_takers.proofs.Among.{near, cut_of, over_base, end_still, end_moving, end_alike, among_left, among_right}
-use Rattle.pb_part_firsts.specs.declared.ends.Turns.{Turns}
 use Rattle.pb_part_firsts.specs.declared.visit.Visit.{Visit}
 use Rattle.pb_part_firsts.specs.Firsts.{is_small_off}
-use Rattle.pb_part_firsts.specs.Visits.{visit_of, bounds_of, IsBounded, VisitsAmong, MoversAmong}
+use Rattle.pb_part_firsts.specs.Visits.{visit_of, IsBounded, VisitsAmong, MoversAmong}
 use Rattle.pb_part_firsts.proofs.EachSteps.{blank}
 use Rattle.pb_part_firsts.proofs.Meets.{small_off, small_next, small_sum, small_sum_next, small_of_bound, over_of_bound}
 
@@ -39,7 +39,7 @@ cut_moved cuts l c there over small k = let z = near l.off small in let w = near
 cut_moved_next : (cuts : List Lin) (l : Lin) (c : ℤ) → Contains cuts (shifted (shifted l c) (pos 1)) → is_over_n l.base ≡ true → is_small l.off ≡ true → is_small c ≡ true → IsCutOf cuts (shifted (shifted l c) (pos 1))
 cut_moved_next cuts l c there over small k = let z = near l.off small in let w = near c k in cut_of cuts (shifted (shifted l c) (pos 1)) there over (omega (arith, ints, z.low, w.low)) (omega (arith, ints, z.high, w.high))
 
-pub staying_fits : (range : NRange) (cuts : List Lin) (e : CoreEnd) (t : Turns) (next : Lin) (a r : Area) → is_moving e ≡ false → is_small e.at.off ≡ true → IsBounded t → AreAmong (edges t.low t.high) cuts → AreAmong (end_cuts (Some (bounds_of t)) e) cuts →
+pub staying_fits : (range : NRange) (cuts : List Lin) (e : CoreEnd) (t : Bounds) (next : Lin) (a r : Area) → is_moving e ≡ false → is_small e.at.off ≡ true → IsBounded t → AreAmong (edges t.low t.high) cuts → AreAmong (end_cuts (Some t) e) cuts →
     (is_small_off (t.high.off +ℤ pos 1) ≡ true → next ≡ shifted t.high (pos 1)) → (is_over_n e.at.base ≡ true → AreAmong (end_cuts None e) cuts → Fits range cuts a) →
     (is_small_off t.low.off ≡ true → is_small_off next.off ≡ true → Fits range cuts a → IsCutOf cuts t.low → IsCutOf cuts next → Fits range cuts r) → Fits range cuts r
 staying_fits range cuts e t next a r v h k among ends en ea er =
@@ -47,20 +47,20 @@ staying_fits range cuts e t next a r v h k among ends en ea er =
     let sh : is_small t.high.off ≡ true = small_of_bound t.high k.high in
     let high : is_small_off (t.high.off +ℤ pos 1) ≡ true = small_next t.high.off sh in
     let is : next ≡ shifted t.high (pos 1) = en high in
-    er (small_off t.low.off sl) (subst (λ l. is_small_off l.off ≡ true) (sym is) high) (ea (over_base e.at.base v) (end_alike (bounds_of t) e cuts v ends))
+    er (small_off t.low.off sl) (subst (λ l. is_small_off l.off ≡ true) (sym is) high) (ea (over_base e.at.base v) (end_alike t e cuts v ends))
     (cut_near cuts t.low among.0 (over_of_bound t.low k.low) sl) (subst (IsCutOf cuts) (sym is) (cut_next cuts t.high among.1.0 (over_of_bound t.high k.high) sh))
 
-pub meeting_fits : (range : NRange) (cuts : List Lin) (e mover : CoreEnd) (t : Turns) (by : Lin) (a r : Area) → is_moving e ≡ false → is_moving mover ≡ true → is_small e.at.off ≡ true → is_small mover.at.off ≡ true → IsBounded t →
-    AreAmong (end_cuts (Some (bounds_of t)) e) cuts → AreAmong (end_cuts (Some (bounds_of t)) mover) cuts →
+pub meeting_fits : (range : NRange) (cuts : List Lin) (e mover : CoreEnd) (t : Bounds) (by : Lin) (a r : Area) → is_moving e ≡ false → is_moving mover ≡ true → is_small e.at.off ≡ true → is_small mover.at.off ≡ true → IsBounded t →
+    AreAmong (end_cuts (Some t) e) cuts → AreAmong (end_cuts (Some t) mover) cuts →
     (is_small_off (t.low.off +ℤ mover.at.off) ≡ true → by ≡ shifted t.low mover.at.off) → is_small_off by.off ≡ true → Fits range cuts a →
     (is_small_off e.at.off ≡ true → is_small_off by.off ≡ true → Fits range cuts a → IsCutOf cuts e.at → IsCutOf cuts by → Fits range cuts r) → Fits range cuts r
 meeting_fits range cuts e mover t by a r u v he hm k ea em is small fa er =
     let sl : is_small t.low.off ≡ true = small_of_bound t.low k.low in
     let moved : by ≡ shifted t.low mover.at.off = is (small_sum t.low.off mover.at.off sl hm) in
-    er (small_off e.at.off he) small fa (cut_near cuts e.at (end_still (Some (bounds_of t)) e cuts u ea).0 (over_base e.at.base u) he)
-    (subst (IsCutOf cuts) (sym moved) (cut_moved cuts t.low mover.at.off (end_moving (bounds_of t) mover cuts v em).0 (over_of_bound t.low k.low) sl hm))
+    er (small_off e.at.off he) small fa (cut_near cuts e.at (end_still (Some t) e cuts u ea).0 (over_base e.at.base u) he)
+    (subst (IsCutOf cuts) (sym moved) (cut_moved cuts t.low mover.at.off (end_moving t mover cuts v em).0 (over_of_bound t.low k.low) sl hm))
 
-pub passed_fits : (range : NRange) (cuts : List Lin) (e : CoreEnd) (t : Turns) (low high next : Lin) → is_small e.at.off ≡ true → IsBounded t → AreAmong (moving (Some (bounds_of t)) e.at.off) cuts →
+pub passed_fits : (range : NRange) (cuts : List Lin) (e : CoreEnd) (t : Bounds) (low high next : Lin) → is_small e.at.off ≡ true → IsBounded t → AreAmong (moving (Some t) e.at.off) cuts →
     (is_small_off (t.low.off +ℤ e.at.off) ≡ true → low ≡ shifted t.low e.at.off) → (is_small_off (t.high.off +ℤ e.at.off) ≡ true → high ≡ shifted t.high e.at.off) →
     (is_small_off (high.off +ℤ pos 1) ≡ true → next ≡ shifted high (pos 1)) →
     Fits range cuts (record { role = e.role; low = low; end = next; from = 0; until = None })
@@ -143,8 +143,8 @@ visits_among h cuts (more m s rest) a =
     visits_both h cuts (visits_of s) (visits rest) (visits_of_among h cuts s (among_left (stmt_cuts (Some h) s) (block_cuts (Some h) rest) cuts a))
     (visits_among h cuts rest (among_right (stmt_cuts (Some h) s) (block_cuts (Some h) rest) cuts a))
 
-pub each_among : (t : Turns) (cuts : List Lin) (items : BlockTree) (vs : List S.Visit) → vs ≡ visits items → AreAmong (edges t.low t.high ++ block_cuts (Some (bounds_of t)) items) cuts → VisitsAmong (bounds_of t) cuts vs
-each_among t cuts items vs e a = subst (VisitsAmong (bounds_of t) cuts) (sym e) (visits_among (bounds_of t) cuts items (among_right (edges t.low t.high) (block_cuts (Some (bounds_of t)) items) cuts a))
+pub each_among : (t : Bounds) (cuts : List Lin) (items : BlockTree) (vs : List S.Visit) → vs ≡ visits items → AreAmong (edges t.low t.high ++ block_cuts (Some t) items) cuts → VisitsAmong t cuts vs
+each_among t cuts items vs e a = subst (VisitsAmong t cuts) (sym e) (visits_among t cuts items (among_right (edges t.low t.high) (block_cuts (Some t) items) cuts a))
 
-pub each_edges : (t : Turns) (cuts : List Lin) (items : BlockTree) → AreAmong (edges t.low t.high ++ block_cuts (Some (bounds_of t)) items) cuts → AreAmong (edges t.low t.high) cuts
-each_edges t cuts items a = among_left (edges t.low t.high) (block_cuts (Some (bounds_of t)) items) cuts a
+pub each_edges : (t : Bounds) (cuts : List Lin) (items : BlockTree) → AreAmong (edges t.low t.high ++ block_cuts (Some t) items) cuts → AreAmong (edges t.low t.high) cuts
+each_edges t cuts items a = among_left (edges t.low t.high) (block_cuts (Some t) items) cuts a

@@ -1,6 +1,5 @@
 pub mod Meets
 pub mod Narrowed
-pub mod Plains
 pub mod Outcomes
 pub mod VisitLists
 pub mod EndAreas

@@ -2,6 +2,7 @@
 use Rattle.std.proofs.Common.{◌≡◌, ◌<◌, ◌≤◌, ◌+◌, ℕ, ℤ, List, [], ◌∷◌, ◌++◌, Bool, true, false, not, ◌||◌, ◌&&◌, drop, length, get_or, refl, ap, sym, ◌∙◌, arith, if◌then◌else◌, drop_of_length-le, subst}
 use Rattle.std.proofs.lemmas.Bool.{and_parts, and_from}
 use Rattle.std.proofs.lemmas.Bool.Decides.{nat_tests}
+use Rattle.std.proofs.Math.Bool.{and-true, or_assoc, or-false}
 use Rattle.pb_affine.specs.declared.lin.Lin.{Lin}
 use Rattle.pb_affine.specs.declared.range.NRange.{NRange}
 use Rattle.pb_core_language.specs.declared.protocol.CoreRole.{CoreRole}
@@ -22,19 +23,11 @@ use Rattle.pb_part_firsts.specs.declared.firsts.Kind.TheVariants.{Receive, Other
 use Rattle.pb_part_firsts.specs.Firsts.{finds, outcome_of, Gives, is_small_kind, are_small}
 use Rattle.pb_part_firsts.specs.Stopping.{Stops}
 
-or_false : (b : Bool) → b ≡ b || false
-or_false true = refl
-or_false false = refl
-
-or_assoc : (a b c : Bool) → a || (b || c) ≡ (a || b) || c
-or_assoc true b c = refl
-or_assoc false b c = refl
-
 pub finds_append : (roles : List CoreRole) (xs ys : List Entry) (n : ℤ) (role : ℕ) (x : ℤ) (o : Outcome) → finds roles (xs ++ ys) n role x o ≡ finds roles xs n role x o || finds roles ys n role x o
 finds_append roles [] ys n role x o = refl
 finds_append roles (f ∷ xs) ys n role x o =
     ap (λ z. (has f.area n role x && outcome_eq (outcome_of roles f.kind n x) o) || z) (finds_append roles xs ys n role x o)
-    ∙ or_assoc (has f.area n role x && outcome_eq (outcome_of roles f.kind n x) o) (finds roles xs n role x o) (finds roles ys n role x o)
+    ∙ sym (or_assoc (has f.area n role x && outcome_eq (outcome_of roles f.kind n x) o) (finds roles xs n role x o) (finds roles ys n role x o))
 
 pub emit_step : (roles : List CoreRole) (xs : List Area) (i : ℕ) (old new : List Entry) (kind : Kind) (n : ℤ) (role : ℕ) (x : ℤ) (o : Outcome) (l : Bool) → i < length xs →
     new ≡ old ++ record { area = get_or xs i blank; kind = kind } ∷ [] →
@@ -42,7 +35,7 @@ pub emit_step : (roles : List CoreRole) (xs : List Area) (i : ℕ) (old new : Li
     finds roles new n role x o || (have (drop (i + 1) xs) n role x && outcome_eq (outcome_of roles kind n x) o) ≡ l
 emit_step roles xs i old new kind n role x o l lt e h =
     common_step xs i (finds roles old n role x o) (finds roles new n role x o) (outcome_eq (outcome_of roles kind n x) o) l n role x lt
-    (ap (λ z. finds roles z n role x o) e ∙ finds_append roles old _ n role x o ∙ ap (λ z. finds roles old n role x o || z) (sym (or_false _))) h
+    (ap (λ z. finds roles z n role x o) e ∙ finds_append roles old _ n role x o ∙ ap (λ z. finds roles old n role x o || z) (or-false _)) h
 
 small_append : (xs ys : List Entry) → are_small xs ≡ true → are_small ys ≡ true → are_small (xs ++ ys) ≡ true
 small_append [] ys h k = k
@@ -101,21 +94,17 @@ given_set {roles = roles} {reach = reach} {old = old} outs outs2 same g = record
 none_out : (w r e : Bool) → e ≡ false → w ≡ w || (r && (e || false))
 none_out w r e h = grind (arith, nat_tests)
 
-and_true : (r : Bool) → r ≡ r && true
-and_true true = refl
-and_true false = refl
-
 -- nobody stops
 pub none_stops : {range : NRange} {roles : List CoreRole} {reach : List Area} {old : List Entry} → Gives range roles reach reach old old (λ n role x. nothing_first ∷ [])
 none_stops {roles = roles} {reach = reach} {old = old} = record {
   out = λ n role x o w r e. none_out (finds roles old n role x o) (have reach n role x) (outcome_eq nothing_first o) (not_nothing o e);
-  rest = λ n role x w r. and_true _;
+  rest = λ n role x w r. sym (and-true _);
 }
 
 -- nobody comes
 pub nobody_comes : {range : NRange} {roles : List CoreRole} {reach : List Area} {old : List Entry} (outs : ℤ → ℕ → ℤ → List Outcome) → reach ≡ [] → Gives range roles reach reach old old outs
 nobody_comes {roles = roles} {reach = reach} {old = old} outs e = record {
-  out = λ n role x o w r h. or_false (finds roles old n role x o) ∙ ap (λ z. finds roles old n role x o || (have z n role x && is_outcome o (outs n role x))) (sym e);
+  out = λ n role x o w r h. sym (or-false (finds roles old n role x o)) ∙ ap (λ z. finds roles old n role x o || (have z n role x && is_outcome o (outs n role x))) (sym e);
   rest = λ n role x w r. ap (λ z. have z n role x) e ∙ ap (λ z. have z n role x && is_outcome nothing_first (outs n role x)) (sym e);
 }
 
@@ -123,8 +112,8 @@ nobody_comes {roles = roles} {reach = reach} {old = old} outs e = record {
 
 kind_out : (r a : Bool) (k o : Outcome) → is_nothing o ≡ false → (r && a) && outcome_eq k o ≡ r && is_outcome o (if a then k ∷ [] else nothing_first ∷ [])
 kind_out false a k o e = refl
-kind_out true true k o e = or_false _
-kind_out true false k o e = or_false _ ∙ ap (λ z. z || false) (sym (not_nothing o e))
+kind_out true true k o e = sym (or-false _)
+kind_out true false k o e = sym (or-false _) ∙ ap (λ z. z || false) (sym (not_nothing o e))
 
 nothing_is : (k : Outcome) → is_nothing k ≡ false → outcome_eq k nothing_first ≡ false
 nothing_is nothing_first e = absurd cc
@@ -134,7 +123,7 @@ nothing_is again_first e = refl
 
 kind_rest : (r a : Bool) (k : Outcome) → is_nothing k ≡ false → r && not a ≡ r && is_outcome nothing_first (if a then k ∷ [] else nothing_first ∷ [])
 kind_rest false a k e = refl
-kind_rest true true k e = or_false false ∙ ap (λ z. z || false) (sym (nothing_is k e))
+kind_rest true true k e = sym (or-false false) ∙ ap (λ z. z || false) (sym (nothing_is k e))
 kind_rest true false k e = refl
 
 pub stopped : {range : NRange} {roles : List CoreRole} {reach at left : List Area} {old new : List Entry} (kind : Kind) (p : ℤ → ℕ → ℤ → Bool) (o : ℤ → ℕ → ℤ → Outcome) →
@@ -153,7 +142,7 @@ stopped {roles = roles} {reach = reach} {old = old} kind p o same is s = record 
 pub emit_end : (roles : List CoreRole) (xs : List Area) (i : ℕ) (new : List Entry) (kind : Kind) (n : ℤ) (role : ℕ) (x : ℤ) (o : Outcome) (l : Bool) → length xs ≤ i →
     finds roles new n role x o || (have (drop i xs) n role x && outcome_eq (outcome_of roles kind n x) o) ≡ l → finds roles new n role x o ≡ l
 emit_end roles xs i new kind n role x o l le h =
-    or_false _ ∙ sym (ap (λ z. finds roles new n role x o || (have z n role x && outcome_eq (outcome_of roles kind n x) o)) (drop_of_length-le xs le)) ∙ h
+    sym (or-false _) ∙ sym (ap (λ z. finds roles new n role x o || (have z n role x && outcome_eq (outcome_of roles kind n x) o)) (drop_of_length-le xs le)) ∙ h
 
 stops_bools : (w w1 h r a e : Bool) → h ≡ r && a → w1 ≡ w || (h && e) → w1 ≡ w || ((r && a) && e)
 stops_bools w w1 h r a e k l = l ∙ ap (λ z. w || (z && e)) k

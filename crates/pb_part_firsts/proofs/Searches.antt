@@ -1,7 +1,8 @@
 -- What the ranks find first in the blocks with a number, a step at a time.
-use Rattle.std.proofs.Common.{◌≡◌, ◌<◌, ◌≤◌, ◌+◌, ℕ, nat_eq, ℤ, pos, List, [], ◌∷◌, ◌++◌, Bool, true, false, ◌||◌, ◌&&◌, drop, length, get_or, refl, ap, ap₂, sym, ◌∙◌, if◌then◌else◌, arith, drop_of_length-le}
+use Rattle.std.proofs.Common.{◌≡◌, ◌<◌, ◌≤◌, ◌+◌, ℕ, nat_eq, ℤ, pos, List, [], ◌∷◌, ◌++◌, Bool, true, false, ◌||◌, ◌&&◌, drop, length, get_or, ap, ap₂, sym, ◌∙◌, if◌then◌else◌, arith, drop_of_length-le}
 use Rattle.std.proofs.lemmas.Bool.Decides.{nat_tests}
 use Rattle.std.proofs.lemmas.List.{at_drop_more}
+use Rattle.std.proofs.Math.Bool.{or-false}
 use Rattle.pb_affine.specs.declared.range.NRange.{NRange}
 use Rattle.pb_core_language.specs.declared.protocol.CoreRole.{CoreRole}
 use Rattle.pb_core_language.specs.declared.tree.CoreBlock.{CoreBlock, fold_out-CoreBlock, out-CoreBlock}
@@ -26,10 +27,6 @@ use Rattle.pb_part_firsts.specs.Firsts.{finds, Gives, first_in}
 use Rattle.pb_part_firsts.specs.Answers.{Answers, numbered, below_of, within_of, across_of}
 use Rattle.pb_part_firsts.proofs.Steps.{tree_of, trees_of, tree_is}
 
-or_false : (b : Bool) → b ≡ b || false
-or_false true = refl
-or_false false = refl
-
 twice : (a b d p q : Bool) → b ≡ a || p → d ≡ b || q → d ≡ a || (p || q)
 twice a b d p q e f = grind (arith, nat_tests)
 
@@ -41,7 +38,7 @@ answers_as {roles = roles} {passed = passed} {old = old} outs outs2 same a = rec
 }
 
 pub answers_none : {range : NRange} {roles : List CoreRole} {passed : List Area} {old : List Entry} → Answers range roles passed passed old old (λ n role x. [])
-answers_none = record { out = λ n role x o w r e. or_false _; rest = λ n role x w r. or_false _ }
+answers_none = record { out = λ n role x o w r e. sym (or-false _); rest = λ n role x w r. sym (or-false _) }
 
 pub answers_both : {range : NRange} {roles : List CoreRole} {passed mid all : List Area} {old now new : List Entry} (outs outs2 : ℤ → ℕ → ℤ → List Outcome) →
     Answers range roles passed mid old now outs → Answers range roles mid all now new outs2 → Answers range roles passed all old new (λ n role x. outs n role x ++ outs2 n role x)

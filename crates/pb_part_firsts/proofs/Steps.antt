@@ -1,6 +1,6 @@
 -- What a rank finds first in blocks, branches and loops, a step at a time.
 use Rattle.std.proofs.Common.{◌≡◌, ◌<◌, ◌≤◌, ◌+◌, ◌==◌, ℕ, nat_lt, ℤ, pos, cond, List, [], ◌∷◌, ◌++◌, Bool, true, false, ◌||◌, ◌&&◌, drop, map, length, get_or, refl, ap, ap₂, sym, ◌∙◌, if◌then◌else◌, arith, subst, None, drop_of_length-le}
-use Rattle.std.proofs.lemmas.Bool.{and_parts, false≢true}
+use Rattle.std.proofs.lemmas.Bool.{and_parts, false≢true, cond-true, cond-false}
 use Rattle.std.proofs.lemmas.Bool.Decides.{nat_tests}
 use Rattle.std.proofs.lemmas.List.{at_drop_more}
 use Rattle.pb_affine.specs.declared.range.NRange.{NRange}
@@ -17,11 +17,10 @@ use Rattle.pb_core_language.specs.FlatOf.{rank_of, flat_block, flat_branches, fr
 use Rattle.pb_core_language.specs.Outcomes.{Outcome, nothing_first, other_first, or_then, firsts}
 use Rattle.pb_core_language.specs.Plain.{plain_block, plain_stmt, block_of, branches_of}
 use Rattle.pb_core_language.specs.Sound.{Rows, is_small, is_end, is_stmt, is_block, are_branches, has_branch}
-use Rattle.pb_core_language.specs.Tree.{Mark, StmtTree, loop, choice, run, BlockTree, more, BranchTrees, no_branch, branch}
+use Rattle.pb_core_language.specs.Tree.{Mark, StmtTree, loop, choice, run, BlockTree, more, BranchTrees, no_branch, branch, is_again}
 use Rattle.pb_part_areas.specs.declared.area.Area.{Area}
 use Rattle.pb_part_areas.specs.Areas.{have}
 use Rattle.pb_core_flat.specs.Seated.{rank, is_at}
-use Rattle.pb_core_flat.specs.GoesOn.{is_again}
 use Rattle.pb_core_flat.specs.OutcomeSets.{is_outcome}
 use Rattle.pb_core_flat.proofs.Choices.{choice_finds}
 use Rattle.pb_core_flat.proofs.OutcomeSets.{or_then_left, or_then_right, is_append}
@@ -34,7 +33,7 @@ use Rattle.pb_part_firsts.specs.Takers.{Adds, part_in}
 use Rattle.pb_part_firsts.specs.Firsts.{finds, Gives, first_in}
 use Rattle.pb_part_firsts.specs.Stopping.{first_at, first_among, AmongGives}
 use Rattle.pb_part_firsts.proofs.Outcomes.{in_turn, given_as, given_set, none_stops}
-use Rattle.pb_part_firsts.proofs.Plains.{plain_list}
+use Rattle.pb_core_language.proofs.Plains.{plain_list}
 use Rattle.pb_part_firsts.proofs.Singles.{end_small}
 
 abbrev pub tree_of : List CoreStmt → BlockTree
@@ -79,14 +78,6 @@ others_sound rows ids items i b lt is h = (and_parts (is_block rows false ids (p
 
 -- ---- a block
 
-if_no : {A : Type 0} (b : Bool) (x y : A) → b ≡ false → y ≡ (if b then x else y)
-if_no true x y e = absurd (false≢true (sym e))
-if_no false x y e = refl
-
-if_yes : {A : Type 0} (b : Bool) (x y : A) → b ≡ true → x ≡ (if b then x else y)
-if_yes true x y e = refl
-if_yes false x y e = absurd (false≢true e)
-
 at_first : (roles : List CoreRole) (held : List Held) (items : List CoreStmt) (i : ℕ) (s : CoreStmt) (n : ℤ) (role : ℕ) (x : ℤ) → i < length items → s ≡ get_or items i s →
     first_in roles held (more (plain_stmt s).mark (plain_stmt s).stmt (tree_of (drop (i + 1) items))) n role x ≡ first_in roles held (tree_of (drop i items)) n role x
 at_first roles held items i s n role x lt is =
@@ -103,7 +94,7 @@ pub block_step : {range : NRange} {roles : List CoreRole} {reach mid left : List
     Gives range roles mid left now new (first_in roles held (tree_of (drop (i + 1) items))) →
     Gives range roles reach left old new (first_in roles held (tree_of (drop i items)))
 block_step {roles = roles} rows held items i s lt is h e a b = given_as _ _ (λ n role x w r.
-    ap (or_then (first_at roles held (plain_stmt s).mark (plain_stmt s).stmt n role x)) (if_no (is_again (plain_stmt s).stmt) (nothing_first ∷ []) (first_in roles held (tree_of (drop (i + 1) items)) n role x) e)
+    ap (or_then (first_at roles held (plain_stmt s).mark (plain_stmt s).stmt n role x)) (sym (cond-false (is_again (plain_stmt s).stmt) (nothing_first ∷ []) (first_in roles held (tree_of (drop (i + 1) items)) n role x) e))
     ∙ split_first rows roles held (plain_stmt s).mark (plain_stmt s).stmt (tree_of (drop (i + 1) items)) n role x (stmt_sound rows (ids_of held) items i s lt is h)
     ∙ at_first roles held items i s n role x lt is)
     (in_turn _ _ a b)
@@ -114,7 +105,7 @@ pub block_cut : {range : NRange} {roles : List CoreRole} {reach mid : List Area}
     Gives range roles reach mid old now (first_in roles held (tree_of (drop i items)))
 block_cut {roles = roles} rows held items i s lt is h e a = given_as _ _ (λ n role x w r.
     sym (or_then_right (first_at roles held (plain_stmt s).mark (plain_stmt s).stmt n role x))
-    ∙ ap (or_then (first_at roles held (plain_stmt s).mark (plain_stmt s).stmt n role x)) (if_yes (is_again (plain_stmt s).stmt) (nothing_first ∷ []) (first_in roles held (tree_of (drop (i + 1) items)) n role x) e)
+    ∙ ap (or_then (first_at roles held (plain_stmt s).mark (plain_stmt s).stmt n role x)) (sym (cond-true (is_again (plain_stmt s).stmt) (nothing_first ∷ []) (first_in roles held (tree_of (drop (i + 1) items)) n role x) e))
     ∙ split_first rows roles held (plain_stmt s).mark (plain_stmt s).stmt (tree_of (drop (i + 1) items)) n role x (stmt_sound rows (ids_of held) items i s lt is h)
     ∙ at_first roles held items i s n role x lt is)
     a

@@ -13,7 +13,7 @@ use Rattle.pb_core_flat.specs.Stops.{visits, visits_of, moving, put_behind, off_
 use Rattle.pb_core_flat.proofs.Behind.{put_behind_sorts}
 use Rattle.pb_part_firsts.specs.declared.visit.Visit.{Visit}
 use Rattle.pb_part_firsts.specs.Visits.{visit_of, is_narrow, are_narrow}
-use Rattle.pb_part_firsts.proofs.Plains.{plain_list}
+use Rattle.pb_core_language.proofs.Plains.{plain_list}
 
 pub pushed : (old new : List Visit) (v : Visit) → new ≡ old ++ v ∷ [] → map visit_of new ≡ map visit_of old ++ visit_of v ∷ []
 pushed old new v e = ap (map visit_of) e ∙ map-append visit_of old (v ∷ [])

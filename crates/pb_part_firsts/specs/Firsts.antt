@@ -1,5 +1,6 @@
 -- What a list of areas with outcomes has to do with the first outcomes of a rank.
 use Rattle.std.specs.Prelude.{◌≡◌, ℕ, ℤ, pos, negsuc, int_le, Bool, true, false, ◌&&◌, ◌||◌, List, [], ◌∷◌}
+use Rattle.pb_text.specs.declared.limits.TheConstants.{LEAST_OFFSET, MOST_OFFSET}
 use Rattle.pb_affine.specs.declared.range.NRange.{NRange}
 use Rattle.pb_affine.specs.Values.{value}
 use Rattle.pb_core_language.specs.declared.protocol.CoreRole.{CoreRole}
@@ -41,7 +42,7 @@ pub record Gives (range : NRange) (roles : List CoreRole) (reach left : List Are
 
 -- sources whose offsets are within 1,000,000 of zero
 abbrev pub is_small_off : ℤ → Bool
-is_small_off x = int_le (negsuc 999999) x && int_le x (pos 1000000)
+is_small_off x = int_le LEAST_OFFSET x && int_le x MOST_OFFSET
 
 abbrev pub is_small_kind : Kind → Bool
 is_small_kind (Receive s l) = is_small_off s.at.off

@@ -4,7 +4,8 @@ use Rattle.pb_affine.specs.declared.range.NRange.{NRange}
 use Rattle.pb_core_language.specs.declared.protocol.CoreRole.{CoreRole}
 use Rattle.pb_core_language.specs.Tree.{Mark, StmtTree, BranchTrees}
 use Rattle.pb_core_language.specs.Verdict.{IsIn}
-use Rattle.pb_core_language.specs.Flat.{nth, stop}
+use Rattle.pb_core_language.specs.Lists.{nth}
+use Rattle.pb_core_language.specs.Flat.{stop}
 use Rattle.pb_core_language.specs.FlatOf.{between, flat_stmt, flat_branches}
 use Rattle.pb_core_language.specs.Outcomes.{Outcome, nothing_first, firsts, firsts_among}
 use Rattle.pb_part_areas.specs.declared.area.Area.{Area}

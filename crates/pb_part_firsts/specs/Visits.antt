@@ -3,10 +3,9 @@ use Rattle.std.specs.Prelude.{◌≡◌, Bool, true, ◌&&◌, Some, List, [], �
 use Rattle.pb_affine.specs.declared.lin.Lin.{Lin}
 use Rattle.pb_core_language.specs.Cuts.{end_cuts, moving}
 use Rattle.pb_core_language.specs.Sound.{is_small, is_bound}
-use Rattle.pb_core_language.specs.Tree.{Bounds}
+use Rattle.pb_core_language.specs.declared.tree.Bounds.{Bounds}
 use Rattle.pb_core_flat.specs.Stops as S
 use Rattle.pb_part_takers.specs.Pieces.{AreAmong}
-use Rattle.pb_part_firsts.specs.declared.ends.Turns.{Turns}
 use Rattle.pb_part_firsts.specs.declared.visit.Finding.{Finding}
 use Rattle.pb_part_firsts.specs.declared.visit.Finding.TheVariants.{Acts, Gets}
 use Rattle.pb_part_firsts.specs.declared.visit.Visit.{Visit}
@@ -30,12 +29,9 @@ abbrev pub are_narrow : List S.Visit → Bool
 are_narrow [] = true
 are_narrow (v ∷ vs) = is_narrow v && are_narrow vs
 
-pub record IsBounded (t : Turns) : Type 0 where
+pub record IsBounded (t : Bounds) : Type 0 where
   pub low : is_bound t.low ≡ true
   pub high : is_bound t.high ≡ true
-
-abbrev pub bounds_of : Turns → Bounds
-bounds_of t = record { low = t.low; high = t.high }
 
 -- the cuts of each end are among these
 abbrev pub VisitsAmong : Bounds → List Lin → List S.Visit → Type 0

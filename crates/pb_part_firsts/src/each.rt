@@ -18,15 +18,15 @@ ghost use Rattle.pb_part_takers.specs.declared.held.Held.{Held};
 ghost use Rattle.pb_part_takers.specs.Loops.{ids_of};
 ghost use Rattle.pb_part_firsts.specs.Firsts.{Gives, outcome_of, is_small_kind, are_small};
 ghost use Rattle.pb_part_firsts.specs.Stopping.{first_at};
-ghost use Rattle.pb_part_firsts.specs.Visits.{visit_of, finding_of, is_narrow_finding, are_narrow, bounds_of, IsBounded, VisitsAmong, MoversAmong};
+ghost use Rattle.pb_part_firsts.specs.Visits.{visit_of, finding_of, is_narrow_finding, are_narrow, IsBounded, VisitsAmong, MoversAmong};
 
-use crate::ends::{Turns, first_areas, passed_area};
+use crate::ends::{first_areas, passed_area};
 use crate::firsts::{Entry, Kind, Source};
 use crate::lins::{back, put};
 use crate::stop::{is_nobody, stop};
 use crate::visit::{Finding, Visit, moving_in, visits_in};
 use pb_affine::Lin;
-use pb_core_language::CoreBlock;
+use pb_core_language::{Bounds, CoreBlock};
 use pb_part_areas::{Area, NoMemory, one};
 use std::alloc::Global;
 
@@ -51,14 +51,14 @@ fn kind_of(finding: Finding, by: Lin) -> Kind
 fn first_stops(
     alloc: Global,
     visits: &[Visit],
-    turns: Turns,
+    over: Bounds,
     reach: Vec<Area>,
     out: &mut Vec<Entry>,
 ) -> Result<Vec<Area>, NoMemory>
-    ensures gives { IfOk result (λ left. (range : NRange) (roles : List CoreRole) → are_narrow (map visit_of visits.now) ≡ true → IsBounded turns →
-        Gives range roles reach.items left.items out.old.items out.new.items (λ n role x. found (first_of (map (at_fixed roles n (at turns.low n) (at turns.high n) (map visit_of visits.now)) (map visit_of visits.now)) role x) ∷ [])) }
+    ensures gives { IfOk result (λ left. (range : NRange) (roles : List CoreRole) → are_narrow (map visit_of visits.now) ≡ true → IsBounded over →
+        Gives range roles reach.items left.items out.old.items out.new.items (λ n role x. found (first_of (map (at_fixed roles n (at over.low n) (at over.high n) (map visit_of visits.now)) (map visit_of visits.now)) role x) ∷ [])) }
     ensures small { IfOk result (λ left. are_narrow (map visit_of visits.now) ≡ true → are_small out.old.items ≡ true → are_small out.new.items ≡ true) }
-    ensures fits { IfOk result (λ left. (range : NRange) (cuts : List Lin) → are_narrow (map visit_of visits.now) ≡ true → IsBounded turns → AreAmong (edges turns.low turns.high) cuts → VisitsAmong (bounds_of turns) cuts (map visit_of visits.now) →
+    ensures fits { IfOk result (λ left. (range : NRange) (cuts : List Lin) → are_narrow (map visit_of visits.now) ≡ true → IsBounded over → AreAmong (edges over.low over.high) cuts → VisitsAmong over cuts (map visit_of visits.now) →
         All (Fits range cuts) reach.items → EntriesFit range cuts out.old.items → AllFit range cuts left.items out.new.items) }
 {
     let mut left = reach;
@@ -66,8 +66,8 @@ fn first_stops(
         if is_nobody(&left) {
             return Ok(left);
         }
-        let here = first_areas(alloc, *visit, visits, turns)?;
-        let kind = kind_of(visit.finding, turns.low);
+        let here = first_areas(alloc, *visit, visits, over)?;
+        let kind = kind_of(visit.finding, over.low);
         left = stop(alloc, left, &here, kind, out)?;
     }
     Ok(left)
@@ -77,14 +77,14 @@ fn first_stops(
 fn moving_stops(
     alloc: Global,
     visits: &[Visit],
-    turns: Turns,
+    over: Bounds,
     reach: Vec<Area>,
     out: &mut Vec<Entry>,
 ) -> Result<Vec<Area>, NoMemory>
-    ensures gives { IfOk result (λ left. (range : NRange) (roles : List CoreRole) → are_narrow (map visit_of visits.now) ≡ true → IsBounded turns →
-        Gives range roles reach.items left.items out.old.items out.new.items (λ n role x. found (first_of (map (at_some roles n (at turns.low n) (at turns.high n)) (map visit_of visits.now)) role x) ∷ [])) }
+    ensures gives { IfOk result (λ left. (range : NRange) (roles : List CoreRole) → are_narrow (map visit_of visits.now) ≡ true → IsBounded over →
+        Gives range roles reach.items left.items out.old.items out.new.items (λ n role x. found (first_of (map (at_some roles n (at over.low n) (at over.high n)) (map visit_of visits.now)) role x) ∷ [])) }
     ensures small { IfOk result (λ left. are_narrow (map visit_of visits.now) ≡ true → are_small out.old.items ≡ true → are_small out.new.items ≡ true) }
-    ensures fits { IfOk result (λ left. (range : NRange) (cuts : List Lin) → are_narrow (map visit_of visits.now) ≡ true → IsBounded turns → MoversAmong (bounds_of turns) cuts (map visit_of visits.now) →
+    ensures fits { IfOk result (λ left. (range : NRange) (cuts : List Lin) → are_narrow (map visit_of visits.now) ≡ true → IsBounded over → MoversAmong over cuts (map visit_of visits.now) →
         All (Fits range cuts) reach.items → EntriesFit range cuts out.old.items → AllFit range cuts left.items out.new.items) }
 {
     let mut left = reach;
@@ -92,7 +92,7 @@ fn moving_stops(
         if is_nobody(&left) {
             return Ok(left);
         }
-        let here = one(alloc, passed_area(visit.end, turns))?;
+        let here = one(alloc, passed_area(visit.end, over))?;
         let kind = kind_of(visit.finding, back(visit.end.at));
         left = stop(alloc, left, &here, kind, out)?;
     }
@@ -103,24 +103,24 @@ fn moving_stops(
 pub(crate) fn each_firsts(
     items: &CoreBlock,
     alloc: Global,
-    turns: Turns,
+    over: Bounds,
     reach: Vec<Area>,
     out: &mut Vec<Entry>,
 ) -> Result<Vec<Area>, NoMemory>
     ensures gives { IfOk result (λ left. (range : NRange) (roles : List CoreRole) (rows : Rows) (held : List Held) (m k : Mark) →
-        is_stmt rows false (ids_of held) (foreach (record { low = turns.low; high = turns.high }) k (plain_block items.now).block) ≡ true →
-        Gives range roles reach.items left.items out.old.items out.new.items (first_at roles held m (foreach (record { low = turns.low; high = turns.high }) k (plain_block items.now).block))) }
+        is_stmt rows false (ids_of held) (foreach (record { low = over.low; high = over.high }) k (plain_block items.now).block) ≡ true →
+        Gives range roles reach.items left.items out.old.items out.new.items (first_at roles held m (foreach (record { low = over.low; high = over.high }) k (plain_block items.now).block))) }
     ensures small { IfOk result (λ left. (rows : Rows) (ids : List ℕ) (k : Mark) →
-        is_stmt rows false ids (foreach (record { low = turns.low; high = turns.high }) k (plain_block items.now).block) ≡ true →
+        is_stmt rows false ids (foreach (record { low = over.low; high = over.high }) k (plain_block items.now).block) ≡ true →
         are_small out.old.items ≡ true → are_small out.new.items ≡ true) }
     ensures fits { IfOk result (λ left. (range : NRange) (cuts : List Lin) (rows : Rows) (ids : List ℕ) (k : Mark) →
-        is_stmt rows false ids (foreach (bounds_of turns) k (plain_block items.now).block) ≡ true →
-        AreAmong (stmt_cuts None (foreach (bounds_of turns) k (plain_block items.now).block)) cuts →
+        is_stmt rows false ids (foreach over k (plain_block items.now).block) ≡ true →
+        AreAmong (stmt_cuts None (foreach over k (plain_block items.now).block)) cuts →
         All (Fits range cuts) reach.items → EntriesFit range cuts out.old.items → AllFit range cuts left.items out.new.items) }
 {
     let visits = visits_in(items, alloc)?;
     let sorted = moving_in(alloc, &visits)?;
-    let others = first_stops(alloc, &visits, turns, reach, out)?;
-    let left = moving_stops(alloc, &sorted, turns, others, out)?;
+    let others = first_stops(alloc, &visits, over, reach, out)?;
+    let left = moving_stops(alloc, &sorted, over, others, out)?;
     Ok(left)
 }

@@ -1,4 +1,9 @@
 //! What a rank finds first in a block, for every N at once.
+//!
+//! `whole`, `held` and `over` are told at the head of `pb_part_takers`. `reach`: the areas of the ranks that come to a part
+//! of the block, since they found nothing before it; those that find nothing in it either are left, and come to the next
+//! part. `told`: the areas of the ranks that come to a branch, which are those that come to the choice without its chooser;
+//! or those that come to the block that is asked for, which are all.
 #![tactic(auto)]
 
 mod each;

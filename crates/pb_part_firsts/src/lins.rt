@@ -4,6 +4,7 @@ ghost use Rattle.pb_affine.specs.Values.{shifted, put};
 ghost use Rattle.pb_part_firsts.specs.Firsts.{is_small_off};
 
 use pb_affine::{Base, Lin};
+use pb_text::{LEAST_OFFSET, MOST_OFFSET};
 
 /// A lin whose offset may be out of bounds.
 #[derive(Clone, Copy)]
@@ -19,7 +20,7 @@ fn narrow(wide: Wide) -> Lin
     ensures off { is_small_off wide.off ≡ true → result.off ≡ wide.off }
     ensures small { is_small_off result.off ≡ true }
 {
-    if -1_000_000 <= wide.off && wide.off <= 1_000_000 {
+    if i64::from(LEAST_OFFSET) <= wide.off && wide.off <= i64::from(MOST_OFFSET) {
         Lin {
             base: wide.base,
             off: wide.off as i32,

@@ -2,7 +2,8 @@ ghost use Rattle.std.specs.Prelude.{◌≡◌, ◌≤◌, ◌++◌, [], ◌∷�
 ghost use Rattle.pb_affine.specs.declared.lin.Lin.{Lin};
 ghost use Rattle.std.specs.List.{prefix_len};
 ghost use Rattle.pb_core_language.specs.Plain.{plain_block, plain_stmt};
-ghost use Rattle.pb_core_language.specs.Tree.{Bounds, message};
+ghost use Rattle.pb_core_language.specs.Tree.{message};
+ghost use Rattle.pb_core_language.specs.declared.tree.Bounds.{Bounds};
 ghost use Rattle.pb_core_flat.specs.Meets.{is_moving};
 ghost use Rattle.pb_core_flat.specs.Stops.{moving, visits, visits_of, IsByFalling, put_behind};
 ghost use Rattle.pb_part_firsts.specs.Visits.{visit_of, finding_of, are_narrow, VisitsAmong, MoversAmong};

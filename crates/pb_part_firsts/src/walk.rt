@@ -9,7 +9,6 @@ ghost use Rattle.pb_core_language.specs.declared.protocol.CoreRole.{CoreRole};
 ghost use Rattle.pb_core_language.specs.Plain.{plain_block, plain_stmt, branches_of};
 ghost use Rattle.pb_core_language.specs.Sound.{Rows, is_block, is_stmt, are_branches};
 ghost use Rattle.pb_core_language.specs.Tree.{Mark, loop, choice};
-ghost use Rattle.pb_core_flat.specs.GoesOn.{is_again};
 ghost use Rattle.pb_part_takers.specs.Loops.{ids_of, HeldFit};
 ghost use Rattle.pb_part_takers.specs.Pieces.{AreAmong};
 ghost use Rattle.pb_part_firsts.specs.Takers.{IsWhole};
@@ -17,11 +16,10 @@ ghost use Rattle.pb_part_firsts.specs.Firsts.{Gives, first_in, are_small};
 ghost use Rattle.pb_part_firsts.specs.Stopping.{first_at, first_among};
 
 use crate::each::each_firsts;
-use crate::ends::Turns;
 use crate::firsts::Entry;
 use crate::single::{again_firsts, all_firsts, message_firsts, run_firsts};
 use crate::stop::is_nobody;
-use pb_core_language::{CoreBlock, CoreEnd, CoreKind, CoreStmt};
+use pb_core_language::{Bounds, CoreBlock, CoreEnd, CoreKind, CoreStmt};
 use pb_part_areas::{Area, NoMemory, absorb, copied};
 use pb_part_takers::{Held, takers_in, with_loop};
 use std::alloc::Global;
@@ -50,28 +48,11 @@ pub fn firsts_in(
             return Ok(left);
         }
         left = firsts_at(stmt, alloc, whole, held, left, out)?;
-        if is_again(stmt) {
+        if stmt.is_again() {
             return Ok(left);
         }
     }
     Ok(left)
-}
-
-fn is_again(stmt: &CoreStmt) -> bool
-    ensures { result ≡ is_again (plain_stmt stmt.now).stmt }
-{
-    match &stmt.what {
-        CoreKind::Again { .. } => true,
-        CoreKind::Message { .. }
-        | CoreKind::Foreach { .. }
-        | CoreKind::Loop { .. }
-        | CoreKind::Choice { .. }
-        | CoreKind::Run { .. }
-        | CoreKind::Barrier
-        | CoreKind::Broadcast { .. }
-        | CoreKind::Reduce { .. }
-        | CoreKind::Allreduce { .. } => false,
-    }
 }
 
 #[cycle(firsts)]
@@ -96,11 +77,11 @@ fn firsts_at(
             message_firsts(alloc, *label, *from, *to, reach, out)
         }
         CoreKind::Foreach { low, high, items } => {
-            let turns = Turns {
+            let over = Bounds {
                 low: *low,
                 high: *high,
             };
-            each_firsts(items, alloc, turns, reach, out)
+            each_firsts(items, alloc, over, reach, out)
         }
         CoreKind::Loop { id, body } => loop_firsts(body, alloc, *id, whole, held, reach, out),
         CoreKind::Again { id } => again_firsts(alloc, *id, held, reach, out),

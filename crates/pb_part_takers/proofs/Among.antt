@@ -12,7 +12,7 @@ use Rattle.pb_part_areas.specs.Fits.{IsCutOf}
 use Rattle.pb_core_language.specs.declared.tree.CoreEnd.{CoreEnd}
 use Rattle.pb_core_language.specs.Cuts.{end_cuts, lin_cuts}
 use Rattle.pb_core_language.specs.Sound.{is_small, is_bound, is_over_n}
-use Rattle.pb_core_language.specs.Tree.{Bounds}
+use Rattle.pb_core_language.specs.declared.tree.Bounds.{Bounds}
 use Rattle.pb_core_flat.specs.Meets.{is_var}
 use Rattle.pb_part_takers.specs.Pieces.{AreAmong}
 

@@ -13,7 +13,7 @@ use Rattle.pb_part_areas.proofs.Meets.{zero_edge, meeting_edge, apart}
 use Rattle.pb_core_language.specs.declared.tree.CoreEnd.{CoreEnd}
 use Rattle.pb_core_language.specs.Cuts.{edges, end_cuts}
 use Rattle.pb_core_language.specs.Sound.{is_small, is_bound}
-use Rattle.pb_core_language.specs.Tree.{Bounds}
+use Rattle.pb_core_language.specs.declared.tree.Bounds.{Bounds}
 use Rattle.pb_core_flat.specs.Meets.{is_met, is_var, is_passed}
 use Rattle.pb_part_takers.specs.Ends.{IsEndArea, IsMetArea}
 use Rattle.pb_part_takers.specs.Sums.{IsSum}

@@ -5,6 +5,7 @@ use Rattle.std.proofs.lemmas.Int.{ints}
 use Rattle.std.proofs.lemmas.Bool.{and_parts}
 use Rattle.std.proofs.lemmas.Bool.Decides.{nat_tests}
 use Rattle.std.proofs.lemmas.List.Elements.{All-weaker, All-nil}
+use Rattle.std.proofs.Math.Bool.{or_assoc}
 use Rattle.pb_affine.specs.declared.lin.Lin.{Lin}
 use Rattle.pb_affine.specs.declared.range.NRange.{NRange}
 use Rattle.pb_affine.specs.Values.{is_up_to}
@@ -43,10 +44,6 @@ is_number a b e = grind (arith, nat_tests)
 
 no_number : (a b : ℕ) → (a ≡ b → ⊥) → nat_eq a b ≡ false
 no_number a b e = grind (arith, nat_tests)
-
-or_assoc : (a b c : Bool) → (a || b) || c ≡ a || (b || c)
-or_assoc true b c = refl
-or_assoc false b c = refl
 
 module _ (whole : List Area) (held : List Held) (k : ℕ) where
   abbrev takes_of : MarkedStmt → List CoreRole → ℤ → ℕ → ℤ → Bool

@@ -4,12 +4,13 @@ use Rattle.std.specs.List.{All}
 use Rattle.std.specs.declared.alloc.Global.{Global}
 use Rattle.std.proofs.lemmas.List.{at_drop_more}
 use Rattle.std.proofs.lemmas.Bool.Decides.{nat_tests}
+use Rattle.std.proofs.Math.Bool.{or-false}
 use Rattle.pb_affine.specs.declared.lin.Lin.{Lin}
 use Rattle.pb_affine.specs.declared.range.NRange.{NRange}
 use Rattle.pb_part_areas.specs.declared.area.Area.{Area}
 use Rattle.pb_part_areas.specs.Areas.{have}
 use Rattle.pb_part_areas.specs.Fits.{Fits}
-use Rattle.pb_core_language.specs.Flat.{nth}
+use Rattle.pb_core_language.specs.Lists.{nth}
 use Rattle.pb_core_language.specs.FlatOf.{between}
 use Rattle.pb_part_takers.specs.declared.held.Held.{Held}
 use Rattle.pb_part_takers.specs.Loops.{ids_of, held_of, HeldFit}
@@ -98,9 +99,5 @@ id_later xs i id h n role x lt is e =
 pub id_nowhere : (xs : List Held) (i id : ℕ) (n : ℤ) (role : ℕ) (x : ℤ) → length xs ≤ i → holds_id id (drop i xs) n role x ≡ false
 id_nowhere xs i id n role x le = ap (λ z. holds_id id z n role x) (drop_of_length-le xs le)
 
-or_false : (o : Bool) → o ≡ o || false
-or_false true = refl
-or_false false = refl
-
 pub or_none : (o b : Bool) → b ≡ false → o ≡ o || b
-or_none o b e = or_false o ∙ ap (λ z. o || z) (sym e)
+or_none o b e = sym (or-false o) ∙ ap (λ z. o || z) (sym e)

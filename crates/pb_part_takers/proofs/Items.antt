@@ -13,7 +13,8 @@ use Rattle.pb_core_language.specs.declared.tree.CoreStmt.{CoreStmt}
 use Rattle.pb_core_language.specs.Cuts.{end_cuts, stmt_cuts, block_cuts}
 use Rattle.pb_core_language.specs.Plain.{MarkedStmt, plain_stmt}
 use Rattle.pb_core_language.specs.Sound.{is_small, is_bound, is_end, is_item, is_stmt, is_block}
-use Rattle.pb_core_language.specs.Tree.{Bounds, StmtTree, message, run, BlockTree, nothing, more}
+use Rattle.pb_core_language.specs.Tree.{StmtTree, message, run, BlockTree, nothing, more}
+use Rattle.pb_core_language.specs.declared.tree.Bounds.{Bounds}
 use Rattle.pb_core_flat.specs.Meets.{meets}
 use Rattle.pb_part_takers.specs.declared.held.Held.{Held}
 use Rattle.pb_part_takers.specs.Ends.{IsMetArea}

@@ -1,4 +1,3 @@
-pub mod Plains
 pub mod Among
 pub mod EndAreas
 pub mod Steps

@@ -1,6 +1,6 @@
 -- Who takes part where a number doesn't stand.
 use Rattle.std.proofs.Common.{◌≡◌, ◌<◌, ◌≤◌, ◌+◌, ℕ, ℤ, pos, nat_eq, Bool, true, false, ◌&&◌, ◌||◌, List, ◌∷◌, length, get_or, map, drop, drop_of_length-le, refl, sym, ap, ap₂, ◌∙◌}
-use Rattle.std.proofs.lemmas.Bool.{false≢true}
+use Rattle.std.proofs.lemmas.Bool.{or_left, or_from, or_parts}
 use Rattle.pb_core_language.specs.declared.protocol.CoreRole.{CoreRole}
 use Rattle.pb_core_language.specs.declared.tree.CoreBlock.{CoreBlock}
 use Rattle.pb_core_language.specs.declared.tree.CoreStmt.{CoreStmt}
@@ -12,19 +12,8 @@ use Rattle.pb_core_language.specs.Tree.{StmtTree, message, foreach, loop, again,
 use Rattle.pb_part_takers.specs.Numbered.{is_below, is_within, is_across}
 use Rattle.pb_part_takers.proofs.HeldLoops.{from_place}
 
-first_false : (a b : Bool) → a || b ≡ false → a ≡ false
-first_false true b h = h
-first_false false b h = refl
-
-second_false : (a b : Bool) → a || b ≡ false → b ≡ false
-second_false true b h = absurd (false≢true (sym h))
-second_false false b h = h
-
 both_false : (a b c p : Bool) → a ≡ false → b ≡ false → c ≡ false → (a && p) || (b || c) ≡ false
 both_false a b c p ea eb ec = ap (λ z. (z && p) || (b || c)) ea ∙ ap₂ (λ y z. y || z) eb ec
-
-two_false : (a b : Bool) → a ≡ false → b ≡ false → a || b ≡ false
-two_false a b ea eb = ap₂ (λ y z. y || z) ea eb
 
 module _ (roles : List CoreRole) (n : ℤ) (r k : ℕ) where
   mutual
@@ -43,15 +32,15 @@ module _ (roles : List CoreRole) (n : ℤ) (r k : ℕ) where
     quiet_block : (opens : List ℕ) (held : List Bool) (b : BlockTree) → is_within k b ≡ false → takes_part_within roles n r k opens held b ≡ false
     quiet_block opens held nothing h = refl
     quiet_block opens held (more m s rest) h =
-        let it = first_false (nat_eq k m.number || is_below k s) (is_within k rest) h in
+        let it = (or_parts (nat_eq k m.number || is_below k s) (is_within k rest) h).0 in
         both_false (nat_eq k m.number) (takes_part_below roles n r k opens held s) (takes_part_within roles n r k opens held rest) (takes_part held r (flat_stmt roles n opens (pos 0) m s stop))
-        (first_false (nat_eq k m.number) (is_below k s) it) (quiet_below opens held s (second_false (nat_eq k m.number) (is_below k s) it))
-        (quiet_block opens held rest (second_false (nat_eq k m.number || is_below k s) (is_within k rest) h))
+        (or_parts (nat_eq k m.number) (is_below k s) it).0 (quiet_below opens held s (or_parts (nat_eq k m.number) (is_below k s) it).1)
+        (quiet_block opens held rest (or_parts (nat_eq k m.number || is_below k s) (is_within k rest) h).1)
 
     quiet_across : (opens : List ℕ) (held : List Bool) (bs : BranchTrees) → is_across k bs ≡ false → takes_part_across roles n r k opens held bs ≡ false
     quiet_across opens held no_branch h = refl
     quiet_across opens held (branch m b bs) h =
-        two_false (takes_part_within roles n r k opens held b) (takes_part_across roles n r k opens held bs) (quiet_block opens held b (first_false (is_within k b) (is_across k bs) h)) (quiet_across opens held bs (second_false (is_within k b) (is_across k bs) h))
+        or_from (takes_part_within roles n r k opens held b) (takes_part_across roles n r k opens held bs) (quiet_block opens held b (or_parts (is_within k b) (is_across k bs) h).0) (quiet_across opens held bs (or_parts (is_within k b) (is_across k bs) h).1)
 
 -- nobody, where the number doesn't stand in the block
 pub quiet_within : (roles : List CoreRole) (n : ℤ) (r k : ℕ) (opens : List ℕ) (held : List Bool) (b : BlockTree) → is_within k b ≡ false → takes_part_within roles n r k opens held b ≡ false
@@ -61,9 +50,6 @@ quiet_within roles n r k opens held b h = quiet_block roles n r k opens held b h
 
 rest_of : (a b : Bool) → a ≡ false → a || b ≡ b
 rest_of a b e = ap (λ z. z || b) e
-
-found_of : (a b : Bool) → a ≡ true → a || b ≡ true
-found_of a b e = ap (λ z. z || b) e
 
 abbrev pub stands_in : ℕ → List CoreStmt → Bool
 stands_in k items = is_within k (block_of (map plain_stmt items))
@@ -78,7 +64,7 @@ pub it_later : (k : ℕ) (items : List CoreStmt) (i : ℕ) (s : CoreStmt) (b : B
 it_later k items i s b lt is e h = sym (rest_of (is_it k s) (stands_in k (drop (i + 1) items)) e) ∙ ap (stands_in k) (sym (from_place items i s lt is)) ∙ h
 
 pub it_here : (k : ℕ) (items : List CoreStmt) (i : ℕ) (s : CoreStmt) (b : Bool) → i < length items → s ≡ get_or items i s → is_it k s ≡ true → stands_in k (drop i items) ≡ b → true ≡ b
-it_here k items i s b lt is e h = sym (found_of (is_it k s) (stands_in k (drop (i + 1) items)) e) ∙ ap (stands_in k) (sym (from_place items i s lt is)) ∙ h
+it_here k items i s b lt is e h = sym (or_left (is_it k s) (stands_in k (drop (i + 1) items)) e) ∙ ap (stands_in k) (sym (from_place items i s lt is)) ∙ h
 
 pub it_nowhere : (k : ℕ) (items : List CoreStmt) (i : ℕ) (b : Bool) → length items ≤ i → stands_in k (drop i items) ≡ b → false ≡ b
 it_nowhere k items i b le h = sym (ap (stands_in k) (drop_of_length-le items le)) ∙ h
@@ -87,7 +73,7 @@ pub branch_later : (k : ℕ) (items : List CoreBlock) (i : ℕ) (s : CoreBlock) 
 branch_later k items i s b lt is e h = sym (rest_of (is_within k (plain_block s).block) (stands_across k (drop (i + 1) items)) e) ∙ ap (stands_across k) (sym (from_place items i s lt is)) ∙ h
 
 pub branch_here : (k : ℕ) (items : List CoreBlock) (i : ℕ) (s : CoreBlock) (b : Bool) → i < length items → s ≡ get_or items i s → is_within k (plain_block s).block ≡ true → stands_across k (drop i items) ≡ b → true ≡ b
-branch_here k items i s b lt is e h = sym (found_of (is_within k (plain_block s).block) (stands_across k (drop (i + 1) items)) e) ∙ ap (stands_across k) (sym (from_place items i s lt is)) ∙ h
+branch_here k items i s b lt is e h = sym (or_left (is_within k (plain_block s).block) (stands_across k (drop (i + 1) items)) e) ∙ ap (stands_across k) (sym (from_place items i s lt is)) ∙ h
 
 pub branch_nowhere : (k : ℕ) (items : List CoreBlock) (i : ℕ) (b : Bool) → length items ≤ i → stands_across k (drop i items) ≡ b → false ≡ b
 branch_nowhere k items i b le h = sym (ap (stands_across k) (drop_of_length-le items le)) ∙ h

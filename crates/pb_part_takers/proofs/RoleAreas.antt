@@ -1,8 +1,9 @@
 -- The areas of all ranks.
-use Rattle.std.proofs.Common.{◌≡◌, ◌<◌, ◌≤◌, ◌+◌, inr, ℕ, zero, suc, ℤ, pos, ◌+ℤ◌, ◌≤ℤ◌, int_le, int_lt, nat_eq, Bool, true, false, ◌&&◌, ◌||◌, List, [], ◌∷◌, length, get_or, drop, drop_of_length-le, Option, Some, refl, sym, ap, subst, ◌∙◌, arith}
+use Rattle.std.proofs.Common.{◌≡◌, ◌<◌, ◌≤◌, ◌+◌, inr, ℕ, zero, suc, ℤ, pos, ◌+ℤ◌, ◌≤ℤ◌, int_le, int_lt, nat_eq, Bool, true, false, ◌&&◌, ◌||◌, List, [], ◌∷◌, length, get_or, drop, drop_of_length-le, Option, Some, sym, ap, subst, ◌∙◌, arith}
 use Rattle.std.proofs.lemmas.Int.{ints}
 use Rattle.std.proofs.lemmas.Bool.{and_parts}
 use Rattle.std.proofs.lemmas.Bool.Decides.{nat_tests}
+use Rattle.std.proofs.Math.Bool.{or-false}
 use Rattle.pb_affine.specs.declared.lin.Lin.{Lin}
 use Rattle.pb_affine.specs.declared.range.NRange.{NRange}
 use Rattle.pb_affine.specs.Values.{value, shifted, is_up_to}
@@ -17,7 +18,7 @@ use Rattle.pb_core_language.specs.Ranks.{seats_from}
 use Rattle.pb_core_language.specs.Rules.{is_seat}
 use Rattle.pb_core_language.specs.Sound.{is_bound, are_roles}
 use Rattle.pb_core_flat.proofs.Seats.{seat_in_role}
-use Rattle.pb_part_takers.specs.declared.each.Over.{Over}
+use Rattle.pb_core_language.specs.declared.tree.Bounds.{Bounds}
 use Rattle.pb_part_takers.specs.Pieces.{AreAmong}
 use Rattle.pb_part_takers.specs.Sums.{IsSum}
 use Rattle.pb_part_takers.proofs.Among.{near, cut_of, bound_parts, among_left}
@@ -36,7 +37,7 @@ value_next l n = omega (arith, ints)
 behind : (l end : Lin) → IsSum l (pos 1) end → is_bound l ≡ true → end ≡ shifted l (pos 1)
 behind l end s b = let z = near l.off (bound_parts l b).1 in next_is l end s (omega (arith, ints, z.low)) (omega (arith, ints, z.high))
 
-pub role_is : (number : ℕ) (over : Over) (range : NRange) (end : Lin) (until : Option ℕ) → IsSum over.high (pos 1) end → ((n : ℤ) → IsInRange range n → is_before n until ≡ true) →
+pub role_is : (number : ℕ) (over : Bounds) (range : NRange) (end : Lin) (until : Option ℕ) → IsSum over.high (pos 1) end → ((n : ℤ) → IsInRange range n → is_before n until ≡ true) →
     (n : ℤ) (role : ℕ) (x : ℤ) → is_bound over.high ≡ true → IsInRange range n →
     has (record { role = number; low = over.low; end = end; from = range.low; until = until }) n role x ≡ nat_eq role number && (int_le (value over.low n (pos 0)) x && int_le x (value over.high n (pos 0)))
 role_is number over range end until s until_is n role x b within =
@@ -45,7 +46,7 @@ role_is number over range end until s until_is n role x b within =
 itself : (a : ℕ) → pos a ≤ℤ pos a
 itself a = omega (arith, ints)
 
-pub role_fits : (number : ℕ) (over : Over) (range : NRange) (end : Lin) (until : Option ℕ) → IsSum over.high (pos 1) end → ((cuts : List Lin) → IsEdgeOfIf range cuts until) →
+pub role_fits : (number : ℕ) (over : Bounds) (range : NRange) (end : Lin) (until : Option ℕ) → IsSum over.high (pos 1) end → ((cuts : List Lin) → IsEdgeOfIf range cuts until) →
     (cuts : List Lin) → is_bound over.low ≡ true → is_bound over.high ≡ true → AreAmong (edges over.low over.high) cuts → Fits range cuts (record { role = number; low = over.low; end = end; from = range.low; until = until })
 role_fits number over range end until s edge cuts bl bh among =
     let hl = bound_parts over.low bl in
@@ -113,9 +114,5 @@ role_step roles i r n role x old new a l lt is e ea h =
     ∙ ap (λ z. have old n role x || z) (sym (seat_in_role i r (drop (i + 1) roles) n role x) ∙ ap (λ z. seated i z n role x) (sym (from_place roles i r lt is)))
     ∙ h)
 
-or_false : (o : Bool) → o ≡ o || false
-or_false true = refl
-or_false false = refl
-
 pub role_end : (roles : List CoreRole) (i : ℕ) (n : ℤ) (role : ℕ) (x : ℤ) (o l : Bool) → length roles ≤ i → o || seated i (drop i roles) n role x ≡ l → o ≡ l
-role_end roles i n role x o l le h = or_false o ∙ sym (ap (λ z. o || seated i z n role x) (drop_of_length-le roles le)) ∙ h
+role_end roles i n role x o l le h = sym (or-false o) ∙ sym (ap (λ z. o || seated i z n role x) (drop_of_length-le roles le)) ∙ h

@@ -4,6 +4,7 @@ use Rattle.std.specs.Prelude.{OnOk}
 use Rattle.std.specs.List.{All}
 use Rattle.std.proofs.lemmas.Bool.{and_parts, false≢true}
 use Rattle.std.proofs.lemmas.Bool.Decides.{nat_tests}
+use Rattle.std.proofs.Math.Bool.{or-false}
 use Rattle.pb_affine.specs.declared.lin.Lin.{Lin}
 use Rattle.pb_affine.specs.declared.range.NRange.{NRange}
 use Rattle.pb_part_areas.specs.declared.area.Area.{Area}
@@ -13,12 +14,13 @@ use Rattle.pb_core_language.specs.declared.protocol.CoreRole.{CoreRole}
 use Rattle.pb_core_language.specs.declared.tree.CoreEnd.{CoreEnd}
 use Rattle.pb_core_language.specs.declared.tree.CoreStmt.{CoreStmt}
 use Rattle.pb_core_language.specs.Cuts.{end_cuts, stmt_cuts, block_cuts, branches_cuts}
-use Rattle.pb_core_language.specs.Flat.{stop, nth, takes_part, takes_part_among}
+use Rattle.pb_core_language.specs.Lists.{nth}
+use Rattle.pb_core_language.specs.Flat.{stop, takes_part, takes_part_among}
 use Rattle.pb_core_language.specs.FlatOf.{between, rank_of, flat_stmt, flat_block, flat_branches}
 use Rattle.pb_core_language.specs.Plain.{MarkedStmt, plain_stmt}
 use Rattle.pb_core_language.specs.Sound.{Rows, is_small, is_bound, is_over_n, is_end, has_branch, is_stmt, is_block, are_branches}
-use Rattle.pb_core_language.specs.Tree.{Mark, Bounds, StmtTree, message, foreach, loop, again, choice, run, BlockTree, more, BranchTrees, branch}
-use Rattle.pb_core_flat.specs.GoesOn.{is_again}
+use Rattle.pb_core_language.specs.Tree.{Mark, StmtTree, message, foreach, loop, again, choice, run, BlockTree, more, BranchTrees, branch, is_again}
+use Rattle.pb_core_language.specs.declared.tree.Bounds.{Bounds}
 use Rattle.pb_core_flat.specs.Seated.{rank, is_rank}
 use Rattle.pb_core_flat.proofs.Seats.{end_is_at}
 use Rattle.pb_core_flat.proofs.TakersAdd.{takes_first}
@@ -46,10 +48,6 @@ have_from_zero (a ∷ xs) n role x h = from_zero_by (has a n role x) a n role x 
 
 -- ---- equations of tests
 
-or_false : (a : Bool) → a ≡ a || false
-or_false true = refl
-or_false false = refl
-
 pub chain_bools : (o m w p q : Bool) → m ≡ o || p → w ≡ m || q → w ≡ o || (p || q)
 chain_bools o m w p q e f = grind (arith, nat_tests)
 
@@ -58,7 +56,7 @@ chain_bools o m w p q e f = grind (arith, nat_tests)
 module _ (whole : List Area) (held : List Held) where
   pub nothing_added : (piece : Piece) (old : List Area) → ((rows : Rows) (roles : List CoreRole) (n : ℤ) (role : ℕ) (x : ℤ) → piece.sound rows ≡ true → piece.part roles n role x ≡ false) → IsAdded whole held piece old old
   nothing_added piece old h = record {
-    is = λ rows roles n role x s r w. or_false (have old n role x) ∙ ap (λ z. have old n role x || z) (sym (h rows roles n role x s));
+    is = λ rows roles n role x s r w. sym (or-false (have old n role x)) ∙ ap (λ z. have old n role x || z) (sym (h rows roles n role x s));
     fits = λ rows range cuts s k a b f. f;
   }
 
@@ -108,10 +106,7 @@ module _ (whole : List Area) (held : List Held) where
   -- ---- statements
 
   two_or : (p q : Bool) → p || q ≡ p || (q || false)
-  two_or p q = ap (λ z. p || z) (or_false q)
-
-  or_end : (p : Bool) → p ≡ p || false
-  or_end p = or_false p
+  two_or p q = ap (λ z. p || z) (sym (or-false q))
 
   pub message_added : (label : ℕ) (mark : Mark) (f t : CoreEnd) (old mid new : List Area) → IsAdded whole held (end_piece f) old mid → IsAdded whole held (end_piece t) mid new →
       IsAdded whole held (stmt_piece held (stmt_of mark (message label f t))) old new
@@ -123,10 +118,10 @@ module _ (whole : List Area) (held : List Held) where
   pub run_added : (kernel : ℕ) (mark : Mark) (e : CoreEnd) (old new : List Area) → IsAdded whole held (end_piece e) old new → IsAdded whole held (stmt_piece held (stmt_of mark (run kernel e))) old new
   run_added kernel mark e old new a = same_added (stmt_piece held (stmt_of mark (run kernel e))) (end_piece e) old new
       (λ rows s. (and_parts (nat_lt kernel rows.kernels) (is_end rows false e) s).1)
-      (λ rows roles n role x s r. or_end (rank_of roles n e (pos 0) == rank roles n role x)) (λ cuts k. k) a
+      (λ rows roles n role x s r. sym (or-false (rank_of roles n e (pos 0) == rank roles n role x))) (λ cuts k. k) a
 
   choice_or : (p q : Bool) → p || q ≡ (p || q) || false
-  choice_or p q = or_false (p || q)
+  choice_or p q = sym (or-false (p || q))
 
   pub choice_added : (kernel : ℕ) (mark : Mark) (at : CoreEnd) (bs : BranchTrees) (old mid new : List Area) → IsAdded whole held (end_piece at) old mid → IsAdded whole held (branches_piece held bs) mid new →
       IsAdded whole held (stmt_piece held (stmt_of mark (choice kernel at bs))) old new
@@ -172,7 +167,7 @@ module _ (whole : List Area) (held : List Held) where
   again_rest p q b e = ap (λ z. p || (if z then false else q)) (sym e)
 
   again_last : (p q b : Bool) → b ≡ true → p ≡ p || (if b then false else q)
-  again_last p q b e = or_false p ∙ ap (λ z. p || (if z then false else q)) (sym e)
+  again_last p q b e = sym (or-false p) ∙ ap (λ z. p || (if z then false else q)) (sym e)
 
   more_parts : (rows : Rows) (s : MarkedStmt) (b : BlockTree) → is_block rows false (ids_of held) (more s.mark s.stmt b) ≡ true → (is_stmt rows false (ids_of held) s.stmt ≡ true) × (is_block rows false (ids_of held) b ≡ true)
   more_parts rows s b h = and_parts (is_stmt rows false (ids_of held) s.stmt) (is_block rows false (ids_of held) b) h
@@ -204,9 +199,6 @@ module _ (whole : List Area) (held : List Held) where
 
 -- ---- loops
 
-loop_or : (p : Bool) → p ≡ p || false
-loop_or p = or_false p
-
 -- a block inside one more loop, as it stands in the loops around
 pub block_inside : (whole : List Area) (held inner : List Held) (id : ℕ) (areas : List Area) (body : BlockTree) (old new : List Area) → IsInside held id areas inner → IsAdded whole inner (block_piece inner body) old new →
     (n : ℤ) (role : ℕ) (x : ℤ) (roles : List CoreRole) (rows : Rows) → is_block rows false (id ∷ ids_of held) body ≡ true → is_rank roles n role x ≡ true → have whole n role x ≡ true →
@@ -221,7 +213,7 @@ loop_added whole held inner id mark k body old new i a = record {
   is = λ rows roles n role x s r w.
       let ss = and_parts (nat_lt (length (ids_of held)) 64) (is_block rows false (id ∷ ids_of held) body) s in
       block_inside whole held inner id [] body old new i a n role x roles rows ss.1 r w
-      ∙ ap (λ z. have old n role x || z) (loop_or (takes_part (false ∷ held_of held n role x) (rank roles n role x) (flat_block roles n (id ∷ ids_of held) (pos 0) body stop)));
+      ∙ ap (λ z. have old n role x || z) (sym (or-false (takes_part (false ∷ held_of held n role x) (rank roles n role x) (flat_block roles n (id ∷ ids_of held) (pos 0) body stop))));
   fits = λ rows range cuts s c fw fh f.
       let ss = and_parts (nat_lt (length (ids_of held)) 64) (is_block rows false (id ∷ ids_of held) body) s in
       a.fits rows range cuts (ap (λ ids. is_block rows false ids body) i.ids ∙ ss.1) c fw (i.fits range cuts (λ j d lt. absurd (omega (arith, lt))) fh) f;

@@ -9,14 +9,10 @@ use Rattle.pb_part_areas.specs.Fits.{Fits}
 use Rattle.pb_core_language.specs.declared.tree.CoreEnd.{CoreEnd}
 use Rattle.pb_core_language.specs.Cuts.{edges, end_cuts}
 use Rattle.pb_core_language.specs.Sound.{is_small, is_bound, is_over_n}
-use Rattle.pb_core_language.specs.Tree.{Bounds}
+use Rattle.pb_core_language.specs.declared.tree.Bounds.{Bounds}
 use Rattle.pb_core_flat.specs.Seated.{is_at}
 use Rattle.pb_core_flat.specs.Meets.{is_met}
-use Rattle.pb_part_takers.specs.declared.each.Over.{Over}
 use Rattle.pb_part_takers.specs.Pieces.{AreAmong}
-
-abbrev pub bounds_of : Over → Bounds
-bounds_of over = record { low = over.low; high = over.high }
 
 -- the area holds of the rank of an end, if the end's offset is small
 pub record IsEndArea (e : CoreEnd) (a : Area) : Type 0 where

@@ -15,7 +15,8 @@ use Rattle.pb_core_language.specs.FlatOf.{rank_of, flat_stmt, flat_block, flat_b
 use Rattle.pb_core_language.specs.Parts.{takes_part_below, takes_part_within, takes_part_across}
 use Rattle.pb_core_language.specs.Plain.{MarkedStmt}
 use Rattle.pb_core_language.specs.Sound.{Rows, is_bound, is_end, is_stmt, is_block, are_branches}
-use Rattle.pb_core_language.specs.Tree.{Mark, Bounds, StmtTree, BlockTree, BranchTrees}
+use Rattle.pb_core_language.specs.Tree.{Mark, StmtTree, BlockTree, BranchTrees}
+use Rattle.pb_core_language.specs.declared.tree.Bounds.{Bounds}
 use Rattle.pb_core_flat.specs.Seated.{rank, is_rank}
 use Rattle.pb_core_flat.specs.Meets.{is_met, meets, meet}
 use Rattle.pb_part_takers.specs.declared.held.Held.{Held}

@@ -10,22 +10,15 @@ ghost use Rattle.pb_core_language.specs.Sound.{is_small};
 ghost use Rattle.pb_core_language.specs.Tree.{message};
 ghost use Rattle.pb_core_flat.specs.Meets.{is_var};
 ghost use Rattle.pb_part_takers.specs.declared.held.Held.{Held};
-ghost use Rattle.pb_part_takers.specs.Ends.{bounds_of, IsMetArea};
+ghost use Rattle.pb_part_takers.specs.Ends.{IsMetArea};
 ghost use Rattle.pb_part_takers.specs.Pieces.{IsAdded, met_piece, item_piece, items_piece};
 
 use crate::ends::{end_area, moved_by, next_to};
-use pb_affine::{Base, Lin};
-use pb_core_language::{CoreBlock, CoreEnd, CoreKind, CoreStmt};
+use pb_affine::Base;
+use pb_core_language::{Bounds, CoreBlock, CoreEnd, CoreKind, CoreStmt};
 use pb_part_areas::{Area, add_new, is_param, meet, nowhere, since, until};
 use pb_text::NoMemory;
 use std::alloc::Global;
-
-/// From which to which value a foreach's variable runs.
-#[derive(Clone, Copy, Debug, PartialEq, Eq)]
-pub struct Over {
-    pub low: Lin,
-    pub high: Lin,
-}
 
 fn is_var(base: Base) -> bool
     ensures { result ≡ is_var base }
@@ -38,7 +31,7 @@ fn is_var(base: Base) -> bool
 }
 
 /// The area, for the N at which there is a value from `low` to `high`.
-fn nonempty(a: Area, over: Over) -> Area
+fn nonempty(a: Area, over: Bounds) -> Area
     ensures is { (n : ℤ) (role : ℕ) (x : ℤ) → is_small over.high.off ≡ true → has result n role x ≡ has a n role x && int_le (at over.low n) (at over.high n) }
     ensures fits { (range : NRange) (cuts : List Lin) → is_small over.high.off ≡ true → Fits range cuts a → IsCutOf cuts over.low → IsCutOf cuts (shifted over.high (pos 1)) → Fits range cuts result }
 {
@@ -59,9 +52,9 @@ fn nonempty(a: Area, over: Over) -> Area
 }
 
 /// The ranks that an end with the variable has at some value.
-fn moving_area(end: CoreEnd, over: Over) -> Area
+fn moving_area(end: CoreEnd, over: Bounds) -> Area
     requires { is_var end.at.base ≡ true }
-    ensures { IsMetArea (bounds_of over) end result }
+    ensures { IsMetArea over end result }
 {
     let low = moved_by(over.low, end.at);
     let high = moved_by(over.high, end.at);
@@ -75,17 +68,17 @@ fn moving_area(end: CoreEnd, over: Over) -> Area
 }
 
 /// The ranks that an end without the variable has where there is some value.
-fn still_area(end: CoreEnd, over: Over) -> Area
+fn still_area(end: CoreEnd, over: Bounds) -> Area
     requires { is_var end.at.base ≡ false }
-    ensures { IsMetArea (bounds_of over) end result }
+    ensures { IsMetArea over end result }
 {
     let area = end_area(end);
     nonempty(area, over)
 }
 
 /// The ranks that an end has at some value of a foreach's variable. Takes no memory.
-pub fn met_area(end: CoreEnd, over: Over) -> Area
-    ensures { IsMetArea (bounds_of over) end result }
+pub fn met_area(end: CoreEnd, over: Bounds) -> Area
+    ensures { IsMetArea over end result }
 {
     if is_var(end.at.base) {
         moving_area(end, over)
@@ -94,8 +87,8 @@ pub fn met_area(end: CoreEnd, over: Over) -> Area
     }
 }
 
-fn add_met(alloc: Global, out: &mut Vec<Area>, end: CoreEnd, over: Over) -> Result<(), NoMemory>
-    ensures { OnOk result ((whole : List Area) (held : List Held) → IsAdded whole held (met_piece (bounds_of over) end) out.old.items out.new.items) }
+fn add_met(alloc: Global, out: &mut Vec<Area>, end: CoreEnd, over: Bounds) -> Result<(), NoMemory>
+    ensures { OnOk result ((whole : List Area) (held : List Held) → IsAdded whole held (met_piece over end) out.old.items out.new.items) }
 {
     let area = met_area(end, over);
     add_new(alloc, out, area)?;
@@ -107,9 +100,9 @@ fn add_two_met(
     out: &mut Vec<Area>,
     from: CoreEnd,
     to: CoreEnd,
-    over: Over,
+    over: Bounds,
 ) -> Result<(), NoMemory>
-    ensures { OnOk result ((whole : List Area) (held : List Held) (label : ℕ) (ids : List ℕ) → IsAdded whole held (item_piece (bounds_of over) ids (message label from to)) out.old.items out.new.items) }
+    ensures { OnOk result ((whole : List Area) (held : List Held) (label : ℕ) (ids : List ℕ) → IsAdded whole held (item_piece over ids (message label from to)) out.old.items out.new.items) }
 {
     add_met(alloc, out, from, over)?;
     add_met(alloc, out, to, over)?;
@@ -120,10 +113,10 @@ fn add_two_met(
 fn takers_of_item(
     stmt: &CoreStmt,
     alloc: Global,
-    over: Over,
+    over: Bounds,
     out: &mut Vec<Area>,
 ) -> Result<(), NoMemory>
-    ensures { OnOk result ((whole : List Area) (held : List Held) (ids : List ℕ) → IsAdded whole held (item_piece (bounds_of over) ids (plain_stmt stmt.now).stmt) out.old.items out.new.items) }
+    ensures { OnOk result ((whole : List Area) (held : List Held) (ids : List ℕ) → IsAdded whole held (item_piece over ids (plain_stmt stmt.now).stmt) out.old.items out.new.items) }
 {
     match &stmt.what {
         CoreKind::Message { from, to, .. } => add_two_met(alloc, out, *from, *to, over),
@@ -143,10 +136,10 @@ fn takers_of_item(
 pub fn takers_each(
     items: &CoreBlock,
     alloc: Global,
-    over: Over,
+    over: Bounds,
     out: &mut Vec<Area>,
 ) -> Result<(), NoMemory>
-    ensures { OnOk result ((whole : List Area) (held : List Held) (ids : List ℕ) → IsAdded whole held (items_piece (bounds_of over) ids (plain_block items.now).block) out.old.items out.new.items) }
+    ensures { OnOk result ((whole : List Area) (held : List Held) (ids : List ℕ) → IsAdded whole held (items_piece over ids (plain_block items.now).block) out.old.items out.new.items) }
 {
     for stmt in &items.list {
         takers_of_item(stmt, alloc, over, out)?;

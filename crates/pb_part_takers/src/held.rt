@@ -4,7 +4,7 @@ ghost use Rattle.pb_affine.specs.declared.lin.Lin.{Lin};
 ghost use Rattle.pb_affine.specs.declared.range.NRange.{NRange};
 ghost use Rattle.pb_part_areas.specs.Areas.{have};
 ghost use Rattle.pb_part_areas.specs.Fits.{Fits};
-ghost use Rattle.pb_core_language.specs.Flat.{nth};
+ghost use Rattle.pb_core_language.specs.Lists.{nth};
 ghost use Rattle.pb_core_language.specs.FlatOf.{between};
 ghost use Rattle.pb_part_takers.specs.Loops.{ids_of, held_of, HeldFit, IsInside};
 

@@ -2,35 +2,16 @@ ghost use Rattle.std.specs.Prelude.{◌≡◌, ℕ, map, List, OnOk};
 ghost use Rattle.pb_part_areas.specs.declared.area.Area.{Area};
 ghost use Rattle.pb_core_language.specs.Plain.{plain_block, plain_stmt, branches_of};
 ghost use Rattle.pb_core_language.specs.Tree.{Mark, message, foreach, loop, again, choice, run, barrier, broadcast, reduce, allreduce};
-ghost use Rattle.pb_core_flat.specs.GoesOn.{is_again};
 ghost use Rattle.pb_part_takers.specs.declared.held.Held.{Held};
-ghost use Rattle.pb_part_takers.specs.Ends.{bounds_of};
 ghost use Rattle.pb_part_takers.specs.Pieces.{IsAdded, joint_piece, stmt_piece, block_piece, branches_piece, stmt_of};
 
-use crate::each::{Over, takers_each};
+use crate::each::takers_each;
 use crate::ends::add_end;
 use crate::held::{Held, add_held, with_loop};
-use pb_core_language::{CoreBlock, CoreEnd, CoreKind, CoreStmt};
+use pb_core_language::{Bounds, CoreBlock, CoreEnd, CoreKind, CoreStmt};
 use pb_part_areas::{Area, absorb};
 use pb_text::NoMemory;
 use std::alloc::Global;
-
-fn is_again(stmt: &CoreStmt) -> bool
-    ensures { result ≡ is_again (plain_stmt stmt.now).stmt }
-{
-    match &stmt.what {
-        CoreKind::Again { .. } => true,
-        CoreKind::Message { .. }
-        | CoreKind::Foreach { .. }
-        | CoreKind::Loop { .. }
-        | CoreKind::Choice { .. }
-        | CoreKind::Run { .. }
-        | CoreKind::Barrier
-        | CoreKind::Broadcast { .. }
-        | CoreKind::Reduce { .. }
-        | CoreKind::Allreduce { .. } => false,
-    }
-}
 
 fn takers_of_message(
     alloc: Global,
@@ -47,11 +28,11 @@ fn takers_of_message(
 
 fn takers_of_each(
     items: &CoreBlock,
-    over: Over,
+    over: Bounds,
     alloc: Global,
     out: &mut Vec<Area>,
 ) -> Result<(), NoMemory>
-    ensures { OnOk result ((whole : List Area) (held : List Held) (mark : Mark) → IsAdded whole held (stmt_piece held (stmt_of mark (foreach (bounds_of over) (plain_block items.now).mark (plain_block items.now).block))) out.old.items out.new.items) }
+    ensures { OnOk result ((whole : List Area) (held : List Held) (mark : Mark) → IsAdded whole held (stmt_piece held (stmt_of mark (foreach over (plain_block items.now).mark (plain_block items.now).block))) out.old.items out.new.items) }
 {
     takers_each(items, alloc, over, out)?;
     Ok(())
@@ -90,7 +71,7 @@ pub fn takers_in(
 {
     for stmt in &block.list {
         takers_at(stmt, alloc, whole, held, out)?;
-        if is_again(stmt) {
+        if stmt.is_again() {
             return Ok(());
         }
     }
@@ -162,7 +143,7 @@ pub fn takers_at(
     match &stmt.what {
         CoreKind::Message { from, to, .. } => takers_of_message(alloc, *from, *to, out),
         CoreKind::Foreach { low, high, items } => {
-            let over = Over {
+            let over = Bounds {
                 low: *low,
                 high: *high,
             };

@@ -10,10 +10,9 @@ ghost use Rattle.pb_core_language.specs.Sound.{is_bound, are_roles};
 ghost use Rattle.pb_core_flat.specs.Seated.{is_rank};
 ghost use Rattle.pb_part_takers.specs.Pieces.{AreAmong};
 
-use crate::each::Over;
 use crate::ends::next_to;
 use pb_affine::NRange;
-use pb_core_language::CoreRole;
+use pb_core_language::{Bounds, CoreRole};
 use pb_part_areas::{Area, push};
 use pb_text::NoMemory;
 use std::alloc::Global;
@@ -36,7 +35,7 @@ fn after(range: NRange) -> Option<u32>
 }
 
 /// The area of the ranks of a role, at each N of the range.
-fn role_area(number: u32, over: Over, range: NRange) -> Area
+fn role_area(number: u32, over: Bounds, range: NRange) -> Area
     ensures is { (n : ℤ) (role : ℕ) (x : ℤ) → is_bound over.high ≡ true → IsInRange range n → has result n role x ≡ nat_eq role number && (int_le (value over.low n (pos 0)) x && int_le x (value over.high n (pos 0))) }
     ensures fits { (cuts : List Lin) → is_bound over.low ≡ true → is_bound over.high ≡ true → AreAmong (edges over.low over.high) cuts → Fits range cuts result }
 {
@@ -63,7 +62,7 @@ pub fn areas_of_roles(
 {
     let mut out = Vec::new(alloc);
     for (i, role) in roles.iter().enumerate() {
-        let over = Over {
+        let over = Bounds {
             low: role.low,
             high: role.high,
         };

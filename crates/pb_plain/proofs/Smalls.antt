@@ -7,41 +7,18 @@ use Rattle.std.specs.declared.alloc.Global.{Global}
 use Rattle.pb_affine.specs.declared.lin.Lin.{Lin}
 use Rattle.pb_core_language.specs.declared.protocol.Core.{Core}
 use Rattle.pb_core_language.specs.declared.tree.CoreEnd.{CoreEnd}
-use Rattle.pb_core_language.specs.declared.tree.CoreBlock.{CoreBlock, out-CoreBlock, fold_out-CoreBlock}
-use Rattle.pb_core_language.specs.declared.tree.CoreStmt.{CoreStmt, fold_out-CoreStmt}
-use Rattle.pb_core_language.specs.declared.tree.CoreKind.{CoreKind, fold-roll-CoreKind}
-use Rattle.pb_core_language.specs.declared.tree.CoreKind.TheVariants.{Foreach, Loop, Again, Choice, rolls-Foreach, rolls-Loop, rolls-Again}
-use Rattle.pb_core_language.specs.declared.tree.CoreKind.TheOpen as Layer
+use Rattle.pb_core_language.specs.declared.tree.CoreBlock.{CoreBlock, out-CoreBlock}
+use Rattle.pb_core_language.specs.declared.tree.CoreStmt.{CoreStmt}
+use Rattle.pb_core_language.specs.declared.tree.CoreKind.TheVariants.{Foreach, Loop, Again, Choice}
 use Rattle.pb_core_language.specs.Tree.{StmtTree, message, foreach, loop, again, choice, run, barrier, broadcast, reduce, allreduce, BlockTree, nothing, more, BranchTrees, no_branch, branch}
-use Rattle.pb_core_language.specs.Plain.{MarkedBlock, MarkedStmt, plain, plain_block, plain_stmt, plain_kind, block_of, branches_of, kind_layer, block_layer, stmt_layer}
+use Rattle.pb_core_language.specs.Plain.{plain, plain_block, plain_stmt, block_of, branches_of}
 use Rattle.pb_core_language.specs.Sound.{Rows, rows_of, is_small, is_over_n, is_bound, is_end, is_item, has_branch, is_stmt, is_block, are_branches, is_range, are_roles, is_sound}
 use Rattle.pb_plain.specs.declared.opens.Opens.{Opens, fold-roll-Opens}
 use Rattle.pb_plain.specs.declared.opens.Opens.TheVariants as V
 use Rattle.pb_plain.specs.declared.opens.Opens.TheOpen as O
 use Rattle.pb_plain.specs.Loops.{ids_of, ids_layer}
 use Rattle.pb_plain.specs.Small.{is_small_stmt, is_small_block, are_small_branches}
-use Rattle.pb_plain.proofs.Plains.{plain_choice}
-
--- ---- the plain tree of a statement
-
-plain_is : (s : CoreStmt) → (plain_stmt s).stmt ≡ plain_kind s.what
-plain_is s = ap (λ a. a.stmt) (fold_out-CoreStmt StmtTree MarkedBlock MarkedStmt kind_layer block_layer stmt_layer s)
-
-plain_foreach : (s : CoreStmt) (low high : Lin) (b : CoreBlock) → s.what ≡ Foreach low high b →
-    (plain_stmt s).stmt ≡ foreach (record { low = low; high = high }) (plain_block b).mark (plain_block b).block
-plain_foreach s low high b e =
-    plain_is s ∙ ap plain_kind (e ∙ sym (rolls-Foreach low high b)) ∙ fold-roll-CoreKind StmtTree MarkedBlock MarkedStmt kind_layer block_layer stmt_layer (Layer.Foreach low high b)
-
-plain_loop : (s : CoreStmt) (id : ℕ) (b : CoreBlock) → s.what ≡ Loop id b → (plain_stmt s).stmt ≡ loop id (plain_block b).mark (plain_block b).block
-plain_loop s id b e =
-    plain_is s ∙ ap plain_kind (e ∙ sym (rolls-Loop id b)) ∙ fold-roll-CoreKind StmtTree MarkedBlock MarkedStmt kind_layer block_layer stmt_layer (Layer.Loop id b)
-
-plain_again : (s : CoreStmt) (id : ℕ) → s.what ≡ Again id → (plain_stmt s).stmt ≡ again id
-plain_again s id e =
-    plain_is s ∙ ap plain_kind (e ∙ sym (rolls-Again id)) ∙ fold-roll-CoreKind StmtTree MarkedBlock MarkedStmt kind_layer block_layer stmt_layer (Layer.Again id)
-
-pub block_is : (b : CoreBlock) → (plain_block b).block ≡ block_of (map plain_stmt (out-CoreBlock b).list.items)
-block_is b = ap (λ a. a.block) (fold_out-CoreBlock StmtTree MarkedBlock MarkedStmt kind_layer block_layer stmt_layer b)
+use Rattle.pb_core_language.proofs.Plains.{plain_foreach, plain_loop, plain_again, plain_choice, plain_list}
 
 -- ---- loops around
 
@@ -100,7 +77,7 @@ element (s ∷ ss) zero depth z lt h = (and_parts _ _ h).0
 element (s ∷ ss) (suc k) depth z lt h = element ss k depth z (omega arith) ((and_parts _ _ h).1)
 
 pub statements_small : (b : CoreBlock) (depth : ℕ) → is_small_block depth (plain_block b).block ≡ true → is_small_block depth (block_of (map plain_stmt (out-CoreBlock b).list.items)) ≡ true
-statements_small b depth h = sym (ap (is_small_block depth) (block_is b)) ∙ h
+statements_small b depth h = sym (ap (is_small_block depth) (plain_list b)) ∙ h
 
 pub small_at : (b : CoreBlock) (k depth : ℕ) (z : CoreStmt) → k < length (out-CoreBlock b).list.items → is_small_block depth (plain_block b).block ≡ true →
     is_small_stmt depth (plain_stmt (slice_index_or (out-CoreBlock b).list.items k z)).stmt ≡ true

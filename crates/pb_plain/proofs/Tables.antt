@@ -1,6 +1,6 @@
 -- Entries of a table.
 use Rattle.std.proofs.Common.{◌≡◌, ℕ, zero, suc, ◌-◌, ◌<◌, ◌≤◌, Bool, false, List, [], ◌∷◌, length, slice_index_or, refl, arith, ap, sym, ◌∙◌, Bor}
-use Rattle.pb_core_language.specs.Flat.{nth}
+use Rattle.pb_core_language.specs.Lists.{nth}
 use Rattle.pb_plain.specs.declared.held.Held.{Held, fold-roll-Held}
 use Rattle.pb_plain.specs.declared.held.Held.TheVariants.{Just, Each, rolls-Just, rolls-Each}
 use Rattle.pb_plain.specs.declared.held.Held.TheOpen as L

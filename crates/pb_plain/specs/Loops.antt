@@ -1,6 +1,6 @@
 -- What a program knows of the loops around: for one rank, whether it takes part in them, and their ids.
 use Rattle.std.specs.Prelude.{ℕ, Bool, List, [], ◌∷◌}
-use Rattle.pb_core_language.specs.Flat.{nth}
+use Rattle.pb_core_language.specs.Lists.{nth}
 use Rattle.pb_plain.specs.declared.held.Held.{Held, Held-F, fold-Held}
 use Rattle.pb_plain.specs.declared.held.Held.TheOpen as L
 use Rattle.pb_plain.specs.declared.opens.Opens.{Opens, Opens-F, fold-Opens}

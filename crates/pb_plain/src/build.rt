@@ -45,7 +45,7 @@ pub fn flat_block(
 
 /// The statement before the rest.
 #[cycle(flat)]
-#[tactic(auto, using(crate::proofs::Plains::plain_choice, crate::proofs::Smalls::small_low, crate::proofs::Smalls::small_high, crate::proofs::Smalls::small_items, crate::proofs::Smalls::small_body, crate::proofs::Smalls::few_loops, crate::proofs::Smalls::all_small_branches))]
+#[tactic(auto, using(pb_core_language::proofs::Plains::plain_choice, crate::proofs::Smalls::small_low, crate::proofs::Smalls::small_high, crate::proofs::Smalls::small_items, crate::proofs::Smalls::small_body, crate::proofs::Smalls::few_loops, crate::proofs::Smalls::all_small_branches))]
 pub fn flat_stmt(
     alloc: Global,
     stmt: &CoreStmt,
@@ -62,7 +62,10 @@ pub fn flat_stmt(
 {
     match &stmt.what {
         CoreKind::Message { label, from, to } => {
-            message(alloc, stmt, *label, from, to, site, *i, rest)
+            let origin = from_two(stmt, from, to, site.n, *i);
+            let sender = rank_of(from, site, *i);
+            let receiver = rank_of(to, site, *i);
+            message(alloc, origin, sender, receiver, *label, rest)
         }
         CoreKind::Foreach { low, high, items } => {
             let numbers = turns(alloc, *low, *high, site.n, *i)?;
@@ -94,9 +97,20 @@ pub fn flat_stmt(
                 let first = flat_block(alloc, block, opens, site, i, Flat::Stop)?;
                 built = branch(alloc, block, first, built)?;
             }
-            choice(alloc, stmt, *kernel, at, built, site, i, rest)
+            let chooser = rank_of(at, site, *i);
+            choice(
+                alloc,
+                from_one(stmt, at, site.n, *i),
+                chooser,
+                *kernel,
+                built,
+                rest,
+            )
         }
-        CoreKind::Run { kernel, at } => compute(alloc, stmt, *kernel, at, site, *i, rest),
+        CoreKind::Run { kernel, at } => {
+            let rank = rank_of(at, site, *i);
+            compute(alloc, from_one(stmt, at, site.n, *i), rank, *kernel, rest)
+        }
         CoreKind::Barrier => together(alloc, none(stmt), Collective::Barrier, rest),
         CoreKind::Broadcast { label, root } => {
             let joint = Collective::Broadcast {
@@ -140,26 +154,18 @@ fn none(stmt: &CoreStmt) -> Origin
 
 fn message(
     alloc: Global,
-    stmt: &CoreStmt,
+    origin: Origin,
+    from: u64,
+    to: u64,
     label: u32,
-    from: &CoreEnd,
-    to: &CoreEnd,
-    site: &Site,
-    i: i64,
     rest: Flat,
 ) -> Result<Flat, NoMemory>
-    requires seats { map seat_of site.now.seats.now ≡ seats site.now.roles.now site.now.n }
-    requires n { IsNear site.now.n }
-    requires i { IsTurn i }
-    ensures { IfOk result (λ v. view v ≡ B.message (F.from_two (plain_stmt stmt.now).mark from.now to.now site.now.n i) (F.rank_of site.now.roles.now site.now.n from.now i) (F.rank_of site.now.roles.now site.now.n to.now i) label (view rest)) }
+    ensures { IfOk result (λ v. view v ≡ B.message (origin_of origin) from to label (view rest)) }
 {
-    let origin = from_two(stmt, from, to, site.n, i);
-    let sender = rank_of(from, site, i);
-    let receiver = rank_of(to, site, i);
     Ok(Flat::Message {
         origin,
-        from: sender,
-        to: receiver,
+        from,
+        to,
         label,
         rest: Box::new(alloc, rest)?,
     })
@@ -167,23 +173,16 @@ fn message(
 
 fn compute(
     alloc: Global,
-    stmt: &CoreStmt,
+    origin: Origin,
+    at: u64,
     kernel: u32,
-    at: &CoreEnd,
-    site: &Site,
-    i: i64,
     rest: Flat,
 ) -> Result<Flat, NoMemory>
-    requires seats { map seat_of site.now.seats.now ≡ seats site.now.roles.now site.now.n }
-    requires n { IsNear site.now.n }
-    requires i { IsTurn i }
-    ensures { IfOk result (λ v. view v ≡ B.compute (F.from_one (plain_stmt stmt.now).mark at.now site.now.n i) (F.rank_of site.now.roles.now site.now.n at.now i) kernel (view rest)) }
+    ensures { IfOk result (λ v. view v ≡ B.compute (origin_of origin) at kernel (view rest)) }
 {
-    let origin = from_one(stmt, at, site.n, i);
-    let rank = rank_of(at, site, i);
     Ok(Flat::Compute {
         origin,
-        at: rank,
+        at,
         kernel,
         rest: Box::new(alloc, rest)?,
     })
@@ -229,24 +228,17 @@ fn branch(
 
 fn choice(
     alloc: Global,
-    stmt: &CoreStmt,
+    origin: Origin,
+    at: u64,
     kernel: u32,
-    at: &CoreEnd,
     branches: Branches,
-    site: &Site,
-    i: &i64,
     rest: Flat,
 ) -> Result<Flat, NoMemory>
-    requires seats { map seat_of site.now.seats.now ≡ seats site.now.roles.now site.now.n }
-    requires n { IsNear site.now.n }
-    requires i { IsTurn i.now }
-    ensures { IfOk result (λ v. view v ≡ B.choice (F.from_one (plain_stmt stmt.now).mark at.now site.now.n i.now) (F.rank_of site.now.roles.now site.now.n at.now i.now) kernel (view_branches branches) (view rest)) }
+    ensures { IfOk result (λ v. view v ≡ B.choice (origin_of origin) at kernel (view_branches branches) (view rest)) }
 {
-    let origin = from_one(stmt, at, site.n, *i);
-    let rank = rank_of(at, site, *i);
     Ok(Flat::Choice {
         origin,
-        at: rank,
+        at,
         kernel,
         branches: Box::new(alloc, branches)?,
         rest: Box::new(alloc, rest)?,

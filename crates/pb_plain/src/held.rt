@@ -1,5 +1,5 @@
 ghost use Rattle.std.specs.Prelude.{◌≡◌};
-ghost use Rattle.pb_core_language.specs.Flat.{nth};
+ghost use Rattle.pb_core_language.specs.Lists.{nth};
 
 /// What is known of the loops around, the innermost first: whether a rank takes part in the body for a reason other than the
 /// loop's continue.

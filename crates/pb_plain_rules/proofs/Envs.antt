@@ -1,9 +1,10 @@
 -- What is known of the loops around, for one rank and for all.
 use Rattle.std.proofs.Common.{◌≡◌, ℕ, zero, suc, ◌+◌, ◌<◌, ◌⊎◌, inl, inr, Result, Ok, Err, OnOk, Bool, true, false, ◌||◌, ◌&&◌, not, if◌then◌else◌, List, [], ◌∷◌, ◌++◌, length, length-append, refl, ap, ap₂, sym, ◌∙◌, subst, arith, Bor}
 use Rattle.pb_core_language.specs.Tree.{Mark}
-use Rattle.pb_core_language.specs.Flat.{Block, stop, message, compute, together, choice, looped, again, Branches, no_branch, branch, nth, takes_part}
+use Rattle.pb_core_language.specs.Lists.{nth, some_below, over_below}
+use Rattle.pb_core_language.specs.Flat.{Block, stop, message, compute, together, choice, looped, again, Branches, no_branch, branch, takes_part}
 use Rattle.pb_core_language.specs.Run.{Env, at_rank}
-use Rattle.pb_core_language.specs.Rules.{some_below, over_below, holds_again, deserted, deserted_among}
+use Rattle.pb_core_language.specs.Rules.{holds_again, deserted, deserted_among}
 use Rattle.pb_plain.specs.declared.held.Held.{Held, Held-F, fold-roll-Held, map-Held, ind-Held}
 use Rattle.pb_plain.specs.declared.held.Held.TheVariants.{Just, Each, rolls-Each}
 use Rattle.pb_plain.specs.declared.held.Held.TheOpen as L

@@ -5,7 +5,8 @@ use Rattle.pb_core_language.specs.Ranks as R
 use Rattle.pb_core_language.specs.Ranks.{seat_at}
 use Rattle.pb_core_language.specs.Tree.{Mark}
 use Rattle.pb_core_language.specs.Flat.{Block}
-use Rattle.pb_core_language.specs.Rules.{Breach, nobody, somebody, ranked, each_origin, strays, loners, deserted, over_below, misfits, receives_only, keeps_source, keeps_labels}
+use Rattle.pb_core_language.specs.Lists.{over_below}
+use Rattle.pb_core_language.specs.Rules.{Breach, nobody, somebody, ranked, each_origin, strays, loners, deserted, misfits, receives_only, keeps_source, keeps_labels}
 use Rattle.pb_plain.specs.declared.flat.Seat.{Seat}
 use Rattle.pb_plain.specs.View.{seat_of}
 use Rattle.pb_plain_rules.specs.Breaches.{all_broken}

@@ -5,7 +5,8 @@ use Rattle.pb_core_language.specs.Ranks.{seat_at}
 use Rattle.pb_core_language.specs.Tree.{Mark}
 use Rattle.pb_core_language.specs.Flat.{Block}
 use Rattle.pb_core_language.specs.Outcomes.{Outcome}
-use Rattle.pb_core_language.specs.Rules.{Breach, over_below, ranked, misfits}
+use Rattle.pb_core_language.specs.Lists.{over_below}
+use Rattle.pb_core_language.specs.Rules.{Breach, ranked, misfits}
 use Rattle.pb_plain.specs.declared.flat.Seat.{Seat}
 use Rattle.pb_plain.specs.declared.held.Held.{fold-roll-Held}
 use Rattle.pb_plain.specs.declared.held.Held.TheVariants.{Top, rolls-Top}

@@ -6,7 +6,8 @@ use Rattle.pb_core_language.specs.Tree.{Mark}
 use Rattle.pb_core_language.specs.Flat.{Block}
 use Rattle.pb_core_language.specs.Outcomes.{Outcome}
 use Rattle.pb_core_language.specs.Rules as B
-use Rattle.pb_core_language.specs.Rules.{nobody, somebody, ranked, each_origin, strays, loners, deserted, over_below, misfits, receives_only, keeps_source, keeps_labels}
+use Rattle.pb_core_language.specs.Lists.{over_below}
+use Rattle.pb_core_language.specs.Rules.{nobody, somebody, ranked, each_origin, strays, loners, deserted, misfits, receives_only, keeps_source, keeps_labels}
 use Rattle.pb_plain.specs.declared.flat.Seat.{Seat}
 use Rattle.pb_plain.specs.View.{mark_of, seat_of}
 use Rattle.pb_plain_rules.specs.declared.breach.Breach.{Breach}

@@ -1,6 +1,6 @@
 -- How many loops stand between a statement and a loop around it, and what is known of the loops around for every rank.
 use Rattle.std.specs.Prelude.{ℕ, suc, [], ◌∷◌}
-use Rattle.pb_core_language.specs.Flat.{nth}
+use Rattle.pb_core_language.specs.Lists.{nth}
 use Rattle.pb_core_language.specs.Run.{Env}
 use Rattle.pb_plain.specs.declared.held.Held.{Held, Held-F, fold-Held}
 use Rattle.pb_plain.specs.declared.held.Held.TheOpen as L

@@ -4,7 +4,7 @@ use Rattle.pb_text.specs.declared.place.Place.{Place}
 use Rattle.pb_affine.specs.Values.{value, range}
 use Rattle.pb_core_language.specs.declared.protocol.CoreRole.{CoreRole}
 use Rattle.pb_core_language.specs.Tree.{Mark}
-use Rattle.pb_core_language.specs.Rules.{is_empty}
+use Rattle.pb_core_language.specs.Lists.{is_empty}
 
 -- the role's number and place, where its indices are none
 abbrev pub if_none : ℕ → Place → List ℤ → List Mark

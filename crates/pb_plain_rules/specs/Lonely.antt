@@ -3,7 +3,8 @@ use Rattle.std.specs.Prelude.{ℕ, Bool, false, ◌&&◌, not, if◌then◌else�
 use Rattle.pb_core_language.specs.Tree.{Mark}
 use Rattle.pb_core_language.specs.Flat.{Block, takes_part}
 use Rattle.pb_core_language.specs.Run.{Env, at_rank}
-use Rattle.pb_core_language.specs.Rules.{some_below, holds_again, deserted}
+use Rattle.pb_core_language.specs.Lists.{some_below}
+use Rattle.pb_core_language.specs.Rules.{holds_again, deserted}
 
 -- its body holds its continue, and no rank takes part
 abbrev pub is_lonely : ℕ → Env → Block → Bool

@@ -1,7 +1,8 @@
 ghost use Rattle.std.specs.Prelude.{◌≡◌, [], ◌∷◌, ◌++◌, false, map, OnOk, IfOk};
 ghost use Rattle.pb_core_language.specs.Flat.{takes_part};
 ghost use Rattle.pb_core_language.specs.Run.{at_rank};
-ghost use Rattle.pb_core_language.specs.Rules.{over_below, some_below, deserted, deserted_among};
+ghost use Rattle.pb_core_language.specs.Lists.{some_below, over_below};
+ghost use Rattle.pb_core_language.specs.Rules.{deserted, deserted_among};
 ghost use Rattle.pb_plain.specs.Loops.{held_at};
 ghost use Rattle.pb_plain.specs.View.{view, view_branches, mark_of};
 ghost use Rattle.pb_plain_rules.specs.Depth.{env_of};

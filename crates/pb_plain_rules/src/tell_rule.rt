@@ -1,5 +1,6 @@
 ghost use Rattle.std.specs.Prelude.{◌≡◌, ◌++◌, map, IfOk};
-ghost use Rattle.pb_core_language.specs.Outcomes.{only_receives, only_from, source_of, comes_from_one, labels_of, is_among, none_shared};
+ghost use Rattle.pb_core_language.specs.Lists.{is_among, none_shared};
+ghost use Rattle.pb_core_language.specs.Outcomes.{only_receives, only_from, source_of, comes_from_one, labels_of};
 ghost use Rattle.pb_plain.specs.Finds.{outcome_of};
 
 use crate::{NoMemory, Outcome};

@@ -1,22 +1,11 @@
 -- Without answers a block that can end is passed within a bound of its own.
-use Rattle.std.proofs.Common.{◌≡◌, ℕ, zero, suc, ◌+◌, ◌<◌, ◌≤◌, ◌&&◌, ◌||◌, cond, Bool, true, false, List, [], ◌∷◌, ◌⊎◌, inl, inr, refl, sym, ap, ◌∙◌, subst, nat_lt, lt-ltb, arith}
+use Rattle.std.proofs.Common.{◌≡◌, ℕ, zero, suc, ◌+◌, ◌<◌, ◌≤◌, cond, Bool, true, false, List, [], ◌∷◌, inl, inr, refl, sym, ap, ◌∙◌, subst, nat_lt, lt-ltb, arith}
+use Rattle.std.proofs.lemmas.Bool.{or_cases, and_parts}
 use Rattle.pb_world.specs.Actions.{Action, Choose, Run, Send, Recv, Enter, Leave, Answers, AnswerTable, of_rank}
 use Rattle.pb_world.specs.Sequencer.{answers_after, answers_after_all, first_or, state_after}
 use Rattle.pb_core_language.specs.Flat.{Block, stop, message, compute, together, choice, looped, again, Branches, no_branch, branch, count, branch_at, can_end, some_can_end, ending, first_ending}
 use Rattle.pb_core_language.specs.Run.{Setting, Opener, Chosen, Body, Frame, State, emit, next, branch_now}
 use Rattle.pb_plain_run.specs.Passing.{followed_by, IsEmpty, standing, Passed}
-
-and_left : (a b : Bool) → (a && b) ≡ true → a ≡ true
-and_left true b e = refl
-and_left false b e = e
-
-and_right : (a b : Bool) → (a && b) ≡ true → b ≡ true
-and_right true b e = e
-and_right false b e = absurd (let h : false ≡ true = e in cc)
-
-or_one : (a b : Bool) → (a || b) ≡ true → (a ≡ true) ⊎ (b ≡ true)
-or_one true b e = inl refl
-or_one false b e = inr e
 
 -- ---- the branch that is taken by default
 
@@ -27,7 +16,7 @@ ending_at (branch mark b bs) h = go (can_end b) refl (ending_at bs)
     go : (c : Bool) → can_end b ≡ c → (some_can_end bs ≡ true → (ending bs < count bs) × (can_end (branch_at (ending bs) bs) ≡ true)) → (cond c 0 (suc (ending bs)) < suc (count bs)) × (can_end (branch_at (cond c 0 (suc (ending bs))) (branch mark b bs)) ≡ true)
     go true e more = (omega arith, e)
     go false e more =
-        let it = more (elim (or_one (can_end b) (some_can_end bs) h) [ inl y ↦ (let z = e in cc) | inr y ↦ y ]) in
+        let it = more (elim (or_cases (can_end b) (some_can_end bs) h) [ inl y ↦ (let z = e in cc) | inr y ↦ y ]) in
         ((let lt = it.0 in omega arith), it.1)
 
 first_ending_ends : (bs : Branches) → some_can_end bs ≡ true → can_end (branch_at (first_ending bs) bs) ≡ true
@@ -127,19 +116,19 @@ module _ (w : Setting) where
     passes (choice a p k bs g) h o rest K A e =
         let s = standing o (choice a p k bs (followed_by g rest)) K A in
         let f = frame o (followed_by g rest) in
-        let ends = first_ending_ends bs (and_left (some_can_end bs) (can_end g) h) in
+        let ends = first_ending_ends bs (and_parts (some_can_end bs) (can_end g) h).0 in
         one_more w (most_among bs + suc (most g)) s o rest K
         (subst (λ c. Comes w (most_among bs + suc (most g)) (standing (Chosen p bs) (branch_at c bs) (f ∷ K) (next w s).left) o rest K) (sym (default_taken w A p k bs e))
         (then_comes w (most_among bs) (suc (most g)) (standing (Chosen p bs) (branch_at (first_ending bs) bs) (f ∷ K) (next w s).left) (Chosen p bs) o stop rest (f ∷ K) K
         (passes_at bs (first_ending bs) ends (Chosen p bs) (f ∷ K) (next w s).left (still_empty w s e))
-        (λ B e'. one_more w (most g) (standing (Chosen p bs) stop (f ∷ K) B) o rest K (passes g (and_right (some_can_end bs) (can_end g) h) o rest K B e'))))
+        (λ B e'. one_more w (most g) (standing (Chosen p bs) stop (f ∷ K) B) o rest K (passes g (and_parts (some_can_end bs) (can_end g) h).1 o rest K B e'))))
     passes (looped a b g) h o rest K A e =
         let s = standing o (looped a b (followed_by g rest)) K A in
         let f = frame o (followed_by g rest) in
         one_more w (most b + suc (most g)) s o rest K
         (then_comes w (most b) (suc (most g)) (standing (Body b) b (f ∷ K) (next w s).left) (Body b) o stop rest (f ∷ K) K
-        (subst (λ c. Comes w (most b) (standing (Body b) c (f ∷ K) (next w s).left) (Body b) stop (f ∷ K)) (followed_by_nothing b) (passes b (and_left (can_end b) (can_end g) h) (Body b) stop (f ∷ K) (next w s).left (still_empty w s e)))
-        (λ B e'. one_more w (most g) (standing (Body b) stop (f ∷ K) B) o rest K (passes g (and_right (can_end b) (can_end g) h) o rest K B e')))
+        (subst (λ c. Comes w (most b) (standing (Body b) c (f ∷ K) (next w s).left) (Body b) stop (f ∷ K)) (followed_by_nothing b) (passes b (and_parts (can_end b) (can_end g) h).0 (Body b) stop (f ∷ K) (next w s).left (still_empty w s e)))
+        (λ B e'. one_more w (most g) (standing (Body b) stop (f ∷ K) B) o rest K (passes g (and_parts (can_end b) (can_end g) h).1 o rest K B e')))
     passes (again n) h o rest K A e = absurd (let n : false ≡ true = h in cc)
 
     passes_at : (bs : Branches) (x : ℕ) → can_end (branch_at x bs) ≡ true → (o : Opener) (K : List Frame) (A : AnswerTable) → IsEmpty A → Comes w (most_among bs) (standing o (branch_at x bs) K A) o stop K

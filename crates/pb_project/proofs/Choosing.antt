@@ -13,7 +13,8 @@ use Rattle.pb_part_areas.specs.Fits.{Fits}
 use Rattle.pb_core_language.specs.declared.tree.CoreEnd.{CoreEnd}
 use Rattle.pb_core_language.specs.Flat.{Branches, no_branch, branch, branch_at, takes_part_among}
 use Rattle.pb_core_language.specs.FlatOf.{rank_of, flat_branches}
-use Rattle.pb_core_language.specs.Outcomes.{firsts, labels_of, is_among}
+use Rattle.pb_core_language.specs.Lists.{is_among}
+use Rattle.pb_core_language.specs.Outcomes.{firsts, labels_of}
 use Rattle.pb_core_language.specs.Plain.{Protocol}
 use Rattle.pb_core_language.specs.Sound.{rows_of, is_end, is_over_n, is_small, are_branches}
 use Rattle.pb_core_language.specs.Tree as T
@@ -32,8 +33,13 @@ use Rattle.pb_project_piece.specs.Ones.{end_guard, only_when}
 use Rattle.pb_project_piece.specs.Ranked.{IsThere}
 use Rattle.pb_project_piece.specs.Standing.{IsOpen}
 use Rattle.pb_project_piece.proofs.Ones.{guard_holds}
+use Rattle.pb_shape.specs.Guards as G
 use Rattle.pb_shape.specs.Shape as S
-use Rattle.pb_shape.specs.Shape.{Scope, Here, Around, Shapes, Nobody, Tests, Relays, alone, everyone, everywhere, takers, scope_of, inside, is_told, peer_of, told_by}
+use Rattle.pb_shape.specs.Places.{Scope, Here, everyone, everywhere, scope_of, inside, peer_of}
+use Rattle.pb_shape.specs.Guards.{Nobody, alone}
+use Rattle.pb_shape.specs.Loops.{Around, takers}
+use Rattle.pb_shape.specs.Choices.{Tests, Relays, is_told, told_by}
+use Rattle.pb_shape.specs.Shape.{Shapes}
 use Rattle.pb_shape.specs.Sizes.{braces, braces_all}
 use Rattle.pb_shape.specs.Tabled.{count}
 use Rattle.pb_syntax.specs.declared.core_label.CoreKernel.{CoreKernel}
@@ -173,7 +179,7 @@ module _ (k : Known) (before after : ℕ) (m : Mark) (kernel : ℕ) (at : CoreEn
     shape = λ p l cuts a h place fair free rest tail others.
         let who = takers (scope_of p) a m (T.choice kernel at bs) in
         S.choice {parts = made.parts} (end_guard at) made.relays made.tests
-        (S.there (names k p l cuts a place m (T.choice kernel at bs) fair areas taken gs of h) (somebody k p l cuts a place m (T.choice kernel at bs) fair areas taken h free ranked))
+        (G.there (names k p l cuts a place m (T.choice kernel at bs) fair areas taken gs of h) (somebody k p l cuts a place m (T.choice kernel at bs) fair areas taken h free ranked))
         (λ n i role x within r here. guard_holds at n i role x)
         (tests_are p l cuts a place fair h free)
         (relays_are p l cuts a place fair h free)
@@ -223,7 +229,7 @@ choice_gone k before m kernel at bs areas none taken = record {
       let s = T.choice kernel at bs in
       let takes : (n i : ℤ) (role : ℕ) (x : ℤ) → IsIn p.range n → is_rank p.roles n role x ≡ true → takers (scope_of p) a m s n i role x ≡ false
       = λ n i role x within r. sym (areas_are k p l cuts a place m s fair areas taken n i role x within r) ∙ none n role x (in_range k p l cuts a place n within) (whole_has k p l cuts a place n role x within ∙ r) in
-      S.choice {parts = blanks bs} (end_guard at) [] [] (S.gone (nobody k p l cuts a place m s fair areas taken none h))
+      S.choice {parts = blanks bs} (end_guard at) [] [] (G.gone (nobody k p l cuts a place m s fair areas taken none h))
       (λ n i role x within r here. guard_holds at n i role x)
       (λ j lab n i role x within r here. sym (nobody_told (scope_of p) a m kernel at bs n i role x j lab (takes n i role x within r)))
       (λ n role x j lab within r other told. absurd (false≢true (sym (nobody_told (scope_of p) a m kernel at bs n (pos 0) role x j lab (takes n (pos 0) role x within r)) ∙ told)))

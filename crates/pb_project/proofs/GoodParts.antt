@@ -15,14 +15,14 @@ use Rattle.pb_core_language.specs.Outcomes.{Outcome, firsts}
 use Rattle.pb_core_language.specs.Plain.{Protocol}
 use Rattle.pb_core_language.specs.Rules.{misfits, misfits_among}
 use Rattle.pb_core_language.specs.Sound.{rows_of, is_item, is_end, is_stmt, is_block}
-use Rattle.pb_core_language.specs.Tree.{Mark, StmtTree, message, foreach, loop, again, choice, run, barrier, broadcast, reduce, allreduce, BlockTree, more, BranchTrees, no_branch, branch}
+use Rattle.pb_core_language.specs.Tree.{Mark, StmtTree, message, foreach, loop, again, choice, run, barrier, broadcast, reduce, allreduce, BlockTree, more, BranchTrees, no_branch, branch, is_again}
 use Rattle.pb_core_language.specs.Verdict.{IsIn}
-use Rattle.pb_core_flat.specs.GoesOn.{is_again}
 use Rattle.pb_core_flat.specs.Seated.{rank, is_rank}
 use Rattle.pb_core_flat.proofs.BreachesAdd.{misfits_one_by_one}
 use Rattle.pb_part_takers.specs.Pieces.{AreAmong}
 use Rattle.pb_part_takers.proofs.Among.{among_left, among_right}
-use Rattle.pb_shape.specs.Shape.{Around, scope_of, in_loop}
+use Rattle.pb_shape.specs.Places.{scope_of}
+use Rattle.pb_shape.specs.Loops.{Around, in_loop}
 use Rattle.pb_shape.specs.Tabled.{GoAmong}
 use Rattle.pb_project.specs.Places.{IsGoodStmt, IsGood, AreGood}
 use Rattle.pb_project.specs.Takers.{back_to}

@@ -22,7 +22,9 @@ use Rattle.pb_affine.specs.declared.range.NRange.{NRange}
 use Rattle.pb_part_takers.specs.Loops.{ids_of, held_of}
 use Rattle.pb_project_piece.specs.Ranked.{Ranked, IsThere}
 use Rattle.pb_project_piece.specs.Standing.{IsOpen}
-use Rattle.pb_shape.specs.Shape.{Here, Around, Names, Somebody, Nobody, takers, scope_of, inside, everyone}
+use Rattle.pb_shape.specs.Places.{Here, scope_of, inside, everyone}
+use Rattle.pb_shape.specs.Guards.{Names, Somebody, Nobody}
+use Rattle.pb_shape.specs.Loops.{Around, takers}
 use Rattle.pb_project_choice.specs.Sayable.{AreSayable}
 use Rattle.pb_project.specs.Places.{Known, IsPlace, IsGoodStmt}
 use Rattle.pb_project.specs.Takers.{AreTakers}

@@ -1,5 +1,6 @@
 -- A loop, and a loop that nobody takes part in.
-use Rattle.std.proofs.Common.{◌≡◌, ◌≤◌, ◌+◌, ◌*◌, ℕ, suc, ℤ, pos, max, Bool, true, false, ◌||◌, List, [], ◌∷◌, refl, sym, ap, ◌∙◌, subst, arith}
+use Rattle.std.proofs.Common.{◌≡◌, ◌≤◌, ◌+◌, ◌*◌, ℕ, suc, ℤ, pos, max, Bool, true, false, List, [], ◌∷◌, refl, sym, ap, ◌∙◌, subst, arith}
+use Rattle.std.proofs.Math.Bool.{or-false}
 use Rattle.pb_affine.specs.declared.guard.Guard.{Guard}
 use Rattle.pb_affine.specs.declared.lin.Lin.{Lin}
 use Rattle.pb_part_areas.specs.declared.area.Area.{Area}
@@ -15,8 +16,12 @@ use Rattle.pb_part_takers.specs.Loops.{IsInside, held_of}
 use Rattle.pb_project_piece.specs.Ones.{only_when}
 use Rattle.pb_project_piece.specs.Ranked.{IsThere}
 use Rattle.pb_project_piece.specs.Standing.{IsOpen}
+use Rattle.pb_shape.specs.Guards as G
 use Rattle.pb_shape.specs.Shape as S
-use Rattle.pb_shape.specs.Shape.{Here, Around, Shape, One, alone, takers, scope_of, inside, in_loop}
+use Rattle.pb_shape.specs.Places.{Here, scope_of, inside}
+use Rattle.pb_shape.specs.Guards.{One, alone}
+use Rattle.pb_shape.specs.Loops.{Around, takers, in_loop}
+use Rattle.pb_shape.specs.Shape.{Shape}
 use Rattle.pb_project.specs.Blocks.{behind, entered, IsStmtOf, IsLoopOf}
 use Rattle.pb_project.specs.Places.{Known, IsPlace, IsGoodStmt}
 use Rattle.pb_project.specs.Takers.{AreTakers}
@@ -24,10 +29,6 @@ use Rattle.pb_project.proofs.GoodParts.{good_body}
 use Rattle.pb_project.proofs.Guarding.{AreGuardsOf, areas_are, areas_fit, names, somebody, nobody, guards_made, nobody_inside}
 
 -- ---- inside the loop
-
-or_none : (b : Bool) → b || false ≡ b
-or_none true = refl
-or_none false = refl
 
 pub entered_place : (k : Known) (p : Protocol) (l : Program) (cuts : List Lin) (a : Around) (m mark : Mark) (id number : ℕ) (body : BlockTree) (areas : List Area) (inner : List Held) → IsPlace k p l cuts a →
     IsGoodStmt p cuts a m (T.loop id mark body) → AreTakers k.whole k.held m (T.loop id mark body) areas → IsInside k.held id areas inner → IsPlace (entered k inner number) p l cuts (in_loop (scope_of p) a id number body)
@@ -37,7 +38,7 @@ entered_place k p l cuts a m mark id number body areas inner place fair taken wi
     opens = ap (λ o. id ∷ o) place.around.opens ∙ sym within_loop.ids;
     within = λ n role x within r.
         within_loop.held n role x
-        ∙ ap (λ b. b ∷ held_of k.held n role x) (areas_are k p l cuts a place m (T.loop id mark body) fair areas taken n (pos 0) role x within r ∙ or_none (is_in_body p.roles n (rank p.roles n role x) a.opens (a.held n role x) id body))
+        ∙ ap (λ b. b ∷ held_of k.held n role x) (areas_are k p l cuts a place m (T.loop id mark body) fair areas taken n (pos 0) role x within r ∙ or-false (is_in_body p.roles n (rank p.roles n role x) a.opens (a.held n role x) id body))
         ∙ ap (λ h. is_in_body p.roles n (rank p.roles n role x) a.opens (a.held n role x) id body ∷ h) (place.around.within n role x within r);
   };
   numbers_are = ap (λ ns. number ∷ ns) place.numbers_are;
@@ -77,7 +78,7 @@ loop_there k before after m mark id body areas gs c ranked of made taken =
     subst (λ d. IsStmtOf k before after m (T.loop id mark body) (only_when gs (alone d) ∷ [])) (sym made.is) (record {
       shape = λ p l cuts a h place fair free rest tail others.
           let who = takers (scope_of p) a m (T.loop id mark body) in
-          S.loop {inner = made.codes} (S.there (names k p l cuts a place m (T.loop id mark body) fair areas taken gs of h) (somebody k p l cuts a place m (T.loop id mark body) fair areas taken h free ranked))
+          S.loop {inner = made.codes} (G.there (names k p l cuts a place m (T.loop id mark body) fair areas taken gs of h) (somebody k p l cuts a place m (T.loop id mark body) fair areas taken h free ranked))
           (made.block.shape p l cuts (in_loop (scope_of p) a id before body) (inside h who) (entered_place k p l cuts a m mark id before body areas made.inner place fair taken made.inside)
           (good_body p cuts a m mark id before body fair) (inside_free h who free)) others;
       made = λ p l cuts a place fair tail others. (
@@ -110,7 +111,7 @@ no_deeper d t = omega arith
 pub loop_gone : (k : Known) (before : ℕ) (m mark : Mark) (id : ℕ) (body : BlockTree) (areas : List Area) → IsThere k.range k.whole areas false → AreTakers k.whole k.held m (T.loop id mark body) areas → IsStmtOf k before before m (T.loop id mark body) []
 loop_gone k before m mark id body areas none taken = record {
   shape = λ p l cuts a h place fair free rest tail others.
-      S.loop {number = 0} {inner = nothing} (S.gone (nobody k p l cuts a place m (T.loop id mark body) fair areas taken none h)) (S.unreached (nobody_inside k p l cuts a place m (T.loop id mark body) fair areas taken none h)) others;
+      S.loop {number = 0} {inner = nothing} (G.gone (nobody k p l cuts a place m (T.loop id mark body) fair areas taken none h)) (S.unreached (nobody_inside k p l cuts a place m (T.loop id mark body) fair areas taken none h)) others;
   made = λ p l cuts a place fair tail others. others;
   loops = λ tail. refl;
   size = λ tail. no_less _ _;

@@ -15,12 +15,14 @@ use Rattle.pb_local.specs.WellMade.{ArePartsMade}
 use Rattle.pb_local.specs.Tree.{Code, Codes, Parts, part, no_part, nothing, more, plain, plain_all}
 use Rattle.pb_part_takers.specs.Loops.{ids_of}
 use Rattle.pb_part_takers.proofs.HeldLoops.{from_place}
-use Rattle.pb_part_takers.proofs.Plains.{plain_list}
+use Rattle.pb_core_language.proofs.Plains.{plain_list}
 use Rattle.pb_project_piece.specs.Adding.{onto, Added}
 use Rattle.pb_project_piece.proofs.Added.{onto_append, onto_nothing}
 use Rattle.pb_rules.proofs.Lists.{Has, contains}
 use Rattle.pb_shape.specs.Shape as S
-use Rattle.pb_shape.specs.Shape.{alone, number_at, Around, scope_of}
+use Rattle.pb_shape.specs.Places.{scope_of}
+use Rattle.pb_shape.specs.Guards.{alone}
+use Rattle.pb_shape.specs.Loops.{number_at, Around}
 use Rattle.pb_project.specs.Blocks.{behind, IsStmtOf, IsBlockOf, ArePartsOf, parts_now}
 use Rattle.pb_project.specs.Places.{Known}
 use Rattle.pb_project.specs.Takers.{back_to}

@@ -13,7 +13,8 @@ use Rattle.pb_core_language.specs.Rules.{misfits, misfits_among}
 use Rattle.pb_core_language.specs.Tree.{Mark, choice, BranchTrees}
 use Rattle.pb_core_flat.specs.Seated.{rank, is_rank, is_at}
 use Rattle.pb_core_flat.proofs.Seats.{end_is_at}
-use Rattle.pb_shape.specs.Shape.{Around, scope_of}
+use Rattle.pb_shape.specs.Places.{scope_of}
+use Rattle.pb_shape.specs.Loops.{Around}
 use Rattle.pb_project_choice.specs.Sources.{OneSource}
 use Rattle.pb_project.specs.Places.{IsGoodStmt}
 use Rattle.pb_project.proofs.GoodParts.{is_told_at, choice_keeps, good_choice}

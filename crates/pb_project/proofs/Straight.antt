@@ -7,7 +7,7 @@ use Rattle.pb_core_language.specs.declared.tree.CoreEnd.{CoreEnd}
 use Rattle.pb_core_language.specs.declared.tree.CoreStmt.{CoreStmt}
 use Rattle.pb_core_language.specs.declared.tree.CoreKind.TheVariants.{Message, Foreach, Again, Run, Barrier, Broadcast, Reduce, Allreduce}
 use Rattle.pb_core_language.specs.Plain.{plain_stmt}
-use Rattle.pb_part_takers.proofs.Plains.{plain_message, plain_foreach, plain_again, plain_run, plain_barrier, plain_broadcast, plain_reduce, plain_allreduce}
+use Rattle.pb_core_language.proofs.Plains.{plain_message, plain_foreach, plain_again, plain_run, plain_barrier, plain_broadcast, plain_reduce, plain_allreduce}
 use Rattle.pb_project.specs.Takers.{back_to}
 use Rattle.pb_core_language.specs.Sound.{rows_of}
 use Rattle.pb_core_language.specs.Tree.{Mark, StmtTree, again}
@@ -16,7 +16,7 @@ use Rattle.pb_local.specs.Tree.{Code}
 use Rattle.pb_project_piece.specs.Adding.{Added}
 use Rattle.pb_project_piece.specs.Pieces.{IsPieceOf, is_straight}
 use Rattle.pb_shape.specs.Shape as S
-use Rattle.pb_shape.specs.Shape.{scope_of}
+use Rattle.pb_shape.specs.Places.{scope_of}
 use Rattle.pb_project.specs.Blocks.{behind, IsStmtOf}
 use Rattle.pb_project.specs.Places.{Known}
 use Rattle.pb_project.proofs.Guarding.{roles_are}

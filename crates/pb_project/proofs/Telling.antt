@@ -4,7 +4,8 @@ use Rattle.std.proofs.lemmas.Bool.Decides.{nat_tests}
 use Rattle.pb_local.specs.declared.stmt.Relay.{Relay}
 use Rattle.pb_local.specs.Tree as L
 use Rattle.pb_local.specs.Tree.{Code, Codes}
-use Rattle.pb_shape.specs.Shape.{alone, told_by}
+use Rattle.pb_shape.specs.Guards.{alone}
+use Rattle.pb_shape.specs.Choices.{told_by}
 
 more_than_none : (n : ℕ) → (suc n == 0) ≡ false
 more_than_none n = grind (arith, nat_tests)

@@ -22,7 +22,9 @@ use Rattle.pb_part_takers.proofs.Finds.{among_itself}
 use Rattle.pb_rules.proofs.CutSets.{nothing_listed}
 use Rattle.pb_rules.proofs.CutsSound.{are_all}
 use Rattle.pb_rules.proofs.Lists.{Has, contains}
-use Rattle.pb_shape.specs.Shape.{HasShape, Shape, outermost, everywhere, scope_of, role_of}
+use Rattle.pb_shape.specs.Places.{everywhere, scope_of, role_of}
+use Rattle.pb_shape.specs.Loops.{outermost}
+use Rattle.pb_shape.specs.Shape.{HasShape, Shape}
 use Rattle.pb_shape.specs.Tabled.{IsTabled}
 use Rattle.pb_project.specs.Blocks.{known}
 use Rattle.pb_project.specs.Places.{IsPlace, IsGood}

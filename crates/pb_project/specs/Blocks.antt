@@ -18,7 +18,10 @@ use Rattle.pb_part_takers.specs.Loops.{IsInside}
 use Rattle.pb_project_piece.specs.Adding.{onto}
 use Rattle.pb_project_piece.specs.Ones.{end_guard}
 use Rattle.pb_project_piece.specs.Standing.{IsOpen}
-use Rattle.pb_shape.specs.Shape.{Here, Around, scope_of, peer_of, told_by, Shape, Shapes}
+use Rattle.pb_shape.specs.Places.{Here, scope_of, peer_of}
+use Rattle.pb_shape.specs.Loops.{Around}
+use Rattle.pb_shape.specs.Choices.{told_by}
+use Rattle.pb_shape.specs.Shape.{Shape, Shapes}
 use Rattle.pb_shape.specs.Sizes.{room, room_all, room_among, depth, depth_all, depth_among, braces_all, braces_among}
 use Rattle.pb_shape.specs.Tabled.{count}
 use Rattle.pb_local.specs.declared.stmt.Relay.{Relay}

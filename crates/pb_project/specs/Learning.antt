@@ -19,7 +19,9 @@ use Rattle.pb_part_takers.specs.declared.held.Held.{Held}
 use Rattle.pb_part_takers.specs.Loops.{ids_of, HeldFit}
 use Rattle.pb_part_takers.specs.Pieces.{AreAmong}
 use Rattle.pb_project_piece.specs.Standing.{Stands, IsOpen}
-use Rattle.pb_shape.specs.Shape.{Scope, Here, Around, Tests, Relays}
+use Rattle.pb_shape.specs.Places.{Scope, Here}
+use Rattle.pb_shape.specs.Loops.{Around}
+use Rattle.pb_shape.specs.Choices.{Tests, Relays}
 use Rattle.pb_project_choice.specs.declared.entries.Branch.{Branch}
 use Rattle.pb_project_choice.specs.Found.{IsAround, IsFoundIn}
 use Rattle.pb_project_choice.specs.Sources.{OneSource}

@@ -25,7 +25,8 @@ use Rattle.pb_part_takers.specs.Loops.{HeldFit}
 use Rattle.pb_part_takers.specs.Pieces.{AreAmong}
 use Rattle.pb_project_piece.specs.Pieces.{IsTabledAs}
 use Rattle.pb_project_piece.specs.Standing.{Stands}
-use Rattle.pb_shape.specs.Shape.{Around, scope_of}
+use Rattle.pb_shape.specs.Places.{scope_of}
+use Rattle.pb_shape.specs.Loops.{Around}
 use Rattle.pb_shape.specs.Tabled.{Goes, GoAll}
 use Rattle.pb_project_choice.specs.Found.{IsAround}
 

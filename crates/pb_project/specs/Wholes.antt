@@ -12,7 +12,7 @@ use Rattle.pb_core_language.specs.Sound.{are_roles}
 use Rattle.pb_core_flat.specs.Seated.{is_rank}
 use Rattle.pb_local.specs.Tree.{Codes, Program}
 use Rattle.pb_part_takers.specs.Pieces.{AreAmong}
-use Rattle.pb_shape.specs.Shape.{role_of}
+use Rattle.pb_shape.specs.Places.{role_of}
 use Rattle.pb_project.specs.Blocks.{known, IsBlockOf}
 
 -- the statements of the body, which stands in no loop, for the areas of all ranks

@@ -4,7 +4,7 @@ ghost use Rattle.pb_core_language.specs.Plain.{plain_stmt};
 ghost use Rattle.pb_local.specs.Tree as L;
 ghost use Rattle.pb_local.specs.Tree.{plain};
 ghost use Rattle.pb_part_takers.specs.Loops.{ids_of};
-ghost use Rattle.pb_shape.specs.Shape.{number_at};
+ghost use Rattle.pb_shape.specs.Loops.{number_at};
 ghost use Rattle.pb_project.specs.Takers.{back_to};
 
 use crate::around::Around;

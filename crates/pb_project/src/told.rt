@@ -2,7 +2,9 @@ ghost use Rattle.std.specs.Prelude.{◌≡◌, ◌==◌, Bool, not, pos, length,
 ghost use Rattle.pb_local.specs.Tree as L;
 ghost use Rattle.pb_local.specs.Tree.{Code, plain, plain_all};
 ghost use Rattle.pb_project_piece.specs.Ones.{end_guard};
-ghost use Rattle.pb_shape.specs.Shape.{alone, peer_of, told_by};
+ghost use Rattle.pb_shape.specs.Places.{peer_of};
+ghost use Rattle.pb_shape.specs.Guards.{alone};
+ghost use Rattle.pb_shape.specs.Choices.{told_by};
 ghost use Rattle.pb_project.specs.Blocks.{parts_now};
 
 use pb_core_language::CoreEnd;

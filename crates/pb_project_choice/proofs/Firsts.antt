@@ -21,8 +21,9 @@ use Rattle.pb_part_firsts.specs.Firsts.{finds, are_small, Gives, first_in}
 use Rattle.pb_part_firsts.specs.Fitting.{EntriesFit}
 use Rattle.pb_part_firsts.specs.Takers.{IsWhole}
 use Rattle.pb_part_firsts.proofs.Steps.{trees_of}
-use Rattle.pb_choice.proofs.Plains.{drop_is}
-use Rattle.pb_shape.specs.Shape.{Scope, Around}
+use Rattle.pb_choice.proofs.Lists.{drop_is}
+use Rattle.pb_shape.specs.Places.{Scope}
+use Rattle.pb_shape.specs.Loops.{Around}
 use Rattle.pb_shape.specs.Tabled.{count}
 use Rattle.pb_project_choice.specs.declared.entries.Branch.{Branch}
 use Rattle.pb_project_choice.specs.Found.{entries_at, IsAround, IsFirstIn, IsFoundIn}

@@ -7,6 +7,7 @@ use Rattle.std.proofs.lemmas.List.Elements.{All-nil}
 use Rattle.std.proofs.lemmas.Bool.{and_parts, and_from, or_cases, or_left, or_right, true≢false, false≢true, eqb-true, eq-eqb}
 use Rattle.std.proofs.lemmas.Bool.Decides.{nat_tests}
 use Rattle.std.proofs.lemmas.Int.{ints}
+use Rattle.std.proofs.Math.Bool.{or-false, or_assoc}
 use Rattle.pb_affine.specs.declared.lin.Base.{Base}
 use Rattle.pb_affine.specs.declared.lin.Base.TheVariants.{Fixed, Param, Var}
 use Rattle.pb_affine.specs.declared.lin.Lin.{Lin}
@@ -208,16 +209,8 @@ heard_end chooser s es i areas le h = record {
 -- ---- the sources of entries
 
 listed_push : (list : List Source) (t s : Source) → is_listed s (list ++ t ∷ []) ≡ is_listed s list || same_source s t
-listed_push [] t s = or_nothing (same_source s t)
-  where
-    or_nothing : (b : Bool) → b || false ≡ b
-    or_nothing true = refl
-    or_nothing false = refl
-listed_push (u ∷ list) t s = ap (λ z. same_source s u || z) (listed_push list t s) ∙ or_assoc (same_source s u) (is_listed s list) (same_source s t)
-  where
-    or_assoc : (a b c : Bool) → a || (b || c) ≡ (a || b) || c
-    or_assoc true b c = refl
-    or_assoc false b c = refl
+listed_push [] t s = or-false (same_source s t)
+listed_push (u ∷ list) t s = ap (λ z. same_source s u || z) (listed_push list t s) ∙ sym (or_assoc (same_source s u) (is_listed s list) (same_source s t))
 
 pub listed_kept : (list new : List Source) (t s : Source) → new ≡ list ++ t ∷ [] → is_listed s list ≡ true → is_listed s new ≡ true
 listed_kept list new t s e h = ap (is_listed s) e ∙ listed_push list t s ∙ or_left (is_listed s list) (same_source s t) h

@@ -7,7 +7,8 @@ use Rattle.pb_core_language.specs.declared.protocol.CoreRole.{CoreRole}
 use Rattle.pb_core_language.specs.Sound.{Rows, is_end, is_bound, has_branch, is_stmt, is_block, are_branches}
 use Rattle.pb_core_language.specs.Tree as T
 use Rattle.pb_core_language.specs.Tree.{Mark, StmtTree, foreach, loop, run, barrier, broadcast, reduce, allreduce, BlockTree, nothing, more, BranchTrees}
-use Rattle.pb_core_language.specs.Flat.{Block, stop, nth, takes_part, takes_part_among, branch_at}
+use Rattle.pb_core_language.specs.Lists.{nth}
+use Rattle.pb_core_language.specs.Flat.{Block, stop, takes_part, takes_part_among, branch_at}
 use Rattle.pb_core_language.specs.FlatOf.{for_each, between, rank_of, flat_stmt, flat_block, flat_branches}
 use Rattle.pb_core_language.specs.Outcomes.{Outcome, nothing_first, receives, other_first, again_first, or_then, firsts, firsts_among}
 use Rattle.pb_core_flat.specs.OutcomeSets.{outcome_eq, is_outcome}

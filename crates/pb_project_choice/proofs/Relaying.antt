@@ -5,6 +5,7 @@ use Rattle.std.specs.Ordering.{int_eq}
 use Rattle.std.proofs.lemmas.List.Elements.{All-nil, All-push, All-head, All-tail}
 use Rattle.std.proofs.lemmas.Bool.{and_parts, and_from, or_cases, or_left, or_right, true≢false, false≢true, eqb-true, lt-ltb}
 use Rattle.std.proofs.lemmas.Int.{ints}
+use Rattle.std.proofs.Math.Bool.{or_assoc, or-false}
 use Rattle.pb_affine.specs.declared.guard.Guard.{Guard}
 use Rattle.pb_affine.specs.declared.lin.Lin.{Lin}
 use Rattle.pb_affine.specs.declared.range.NRange.{NRange}
@@ -45,7 +46,9 @@ use Rattle.pb_local.specs.Tree.{Program}
 use Rattle.pb_local.specs.WellMade.{IsRange, IsGuard, IsRelay}
 use Rattle.pb_project_piece.specs.Ranked.{Ranked}
 use Rattle.pb_project_piece.specs.Standing.{Stands, IsOpen}
-use Rattle.pb_shape.specs.Shape.{Scope, Here, Around, Tests, Relays, is_told, teller, peer_of}
+use Rattle.pb_shape.specs.Places.{Scope, Here, peer_of}
+use Rattle.pb_shape.specs.Loops.{Around}
+use Rattle.pb_shape.specs.Choices.{Tests, Relays, is_told, teller}
 use Rattle.pb_project_choice.specs.declared.entries.Branch.{Branch}
 use Rattle.pb_project_choice.specs.Found.{entries_at, all_entries, IsFoundIn}
 use Rattle.pb_project_choice.specs.Heard.{IsOther, IsHeard}
@@ -58,17 +61,9 @@ use Rattle.pb_project_choice.proofs.Telling.{Says, finds_here, some_guard, rank_
 
 -- ---- one relay
 
-or_false : (a : Bool) → a ≡ a || false
-or_false true = refl
-or_false false = refl
-
-or_assoc : (a b c : Bool) → a || (b || c) ≡ (a || b) || c
-or_assoc true b c = refl
-or_assoc false b c = refl
-
 relayed_append : (rs : List Relay) (r : Relay) (n : ℤ) (role : ℕ) (x : ℤ) → relayed (rs ++ r ∷ []) n role x ≡ relayed rs n role x || hold r.guards n x role x
-relayed_append [] r n role x = sym (or_false (hold r.guards n x role x))
-relayed_append (q ∷ rs) r n role x = ap (λ z. hold q.guards n x role x || z) (relayed_append rs r n role x) ∙ or_assoc (hold q.guards n x role x) (relayed rs n role x) (hold r.guards n x role x)
+relayed_append [] r n role x = sym (sym (or-false (hold r.guards n x role x)))
+relayed_append (q ∷ rs) r n role x = ap (λ z. hold q.guards n x role x || z) (relayed_append rs r n role x) ∙ sym (or_assoc (hold q.guards n x role x) (relayed rs n role x) (hold r.guards n x role x))
 
 small_off : (x : ℤ) → is_small_off x ≡ true → IsSmall x
 small_off x h = let parts = and_parts (int_le (negsuc 999999) x) (int_le x (pos 1000000)) h in record { low = from_le (negsuc 999999) x parts.0; high = from_le x (pos 1000000) parts.1 }
@@ -196,7 +191,7 @@ are_fit range sc a bs found e h = record {
 
 any_append : {X : Type 0} (p : X → Bool) (xs ys : List X) → list_any p (xs ++ ys) ≡ list_any p xs || list_any p ys
 any_append p [] ys = refl
-any_append p (x ∷ xs) ys = ap (λ z. p x || z) (any_append p xs ys) ∙ or_assoc (p x) (list_any p xs) (list_any p ys)
+any_append p (x ∷ xs) ys = ap (λ z. p x || z) (any_append p xs ys) ∙ sym (or_assoc (p x) (list_any p xs) (list_any p ys))
 
 any_all : (p : Entry → Bool) (k : ℕ) (found : List Branch) → list_any p (entries_at k found) ≡ true → list_any p (all_entries found) ≡ true
 any_all p k [] h = absurd (false≢true h)

@@ -4,6 +4,8 @@ use Rattle.std.specs.List.{All, Contains}
 use Rattle.std.proofs.lemmas.Bool.{and_parts, or_cases, true≢false, false≢true}
 use Rattle.std.proofs.lemmas.Bool.Decides.{nat_tests}
 use Rattle.std.proofs.lemmas.Int.{ints}
+use Rattle.std.proofs.Math.Bool.{or-false, or_assoc}
+use Rattle.pb_text.specs.declared.limits.TheConstants.{MOST_NUMBER}
 use Rattle.pb_affine.specs.declared.lin.Base.{Base}
 use Rattle.pb_affine.specs.declared.lin.Base.TheVariants.{Fixed, Param, Var}
 use Rattle.pb_affine.specs.declared.guard.Guard.{Guard}
@@ -22,7 +24,7 @@ use Rattle.pb_core_language.specs.Rules.{is_seat}
 use Rattle.pb_core_language.specs.Verdict.{IsIn, IsUpTo}
 use Rattle.pb_core_flat.specs.Seated.{is_rank}
 use Rattle.pb_core_flat.proofs.Seats.{seat_in_role}
-use Rattle.pb_local.specs.WellMade.{IsRange, IsBoundIf, most_number}
+use Rattle.pb_local.specs.WellMade.{IsRange, IsBoundIf}
 use Rattle.pb_project_choice.specs.Sayable.{division, IsBeyond, IsGuardOf}
 
 -- ---- edges are small, or past the range
@@ -66,7 +68,7 @@ past : (high : Option ℕ) (t : ℕ) (n : ℤ) → is_up_to (pos t +ℤ pos 1) h
 past None t n e k = absurd (true≢false e)
 past (Some h) t n e k = sym (past_is t h n e k)
 
-too_far : (t : ℕ) (m : ℤ) → most_number < t → m ≡ pos t +ℤ pos 1 → m ≤ℤ pos 2000000000 → ⊥
+too_far : (t : ℕ) (m : ℤ) → MOST_NUMBER < t → m ≡ pos t +ℤ pos 1 → m ≤ℤ pos 2000000000 → ⊥
 too_far t m h e k = omega (arith, ints, h, e, k)
 
 beyond : (range : NRange) (cuts : List Lin) (to : Option ℕ) (n : ℤ) → IsRange range → All IsCut cuts → IsEdgeIf (division range cuts) (pos 1) to → IsIn range n → IsBeyond to → true ≡ is_up_to n to
@@ -148,7 +150,7 @@ from_past : (high : Option ℕ) (f : ℕ) (n : ℤ) → is_up_to (pos f +ℤ pos
 from_past None f n e k = absurd (true≢false e)
 from_past (Some h) f n e k = late f h n e k
 
-far_from : (f : ℕ) (m : ℤ) → most_number < f → m ≡ pos f +ℤ pos 0 → m ≤ℤ pos 2000000000 → ⊥
+far_from : (f : ℕ) (m : ℤ) → MOST_NUMBER < f → m ≡ pos f +ℤ pos 0 → m ≤ℤ pos 2000000000 → ⊥
 far_from f m h e k = omega (arith, ints, h, e, k)
 
 not_yet : (range : NRange) (cuts : List Lin) (from : Option ℕ) (n : ℤ) → IsRange range → All IsCut cuts → IsEdgeIf (division range cuts) (pos 0) from → IsIn range n → IsBeyond from → is_from_on n from ≡ false
@@ -168,24 +170,16 @@ no_guard range a g cuts list roles n i role x same r h f within is_one it (inr f
 
 -- ---- lists of guards
 
-or_assoc : (a b c : Bool) → a || (b || c) ≡ (a || b) || c
-or_assoc true b c = refl
-or_assoc false b c = refl
-
-or_false : (a : Bool) → a ≡ a || false
-or_false true = refl
-or_false false = refl
-
 pub hold_append : (xs ys : List Guard) (n i : ℤ) (role : ℕ) (x : ℤ) → hold (xs ++ ys) n i role x ≡ hold xs n i role x || hold ys n i role x
 hold_append [] ys n i role x = refl
-hold_append (g ∷ xs) ys n i role x = ap (λ z. holds g n i role x || z) (hold_append xs ys n i role x) ∙ or_assoc (holds g n i role x) _ _
+hold_append (g ∷ xs) ys n i role x = ap (λ z. holds g n i role x || z) (hold_append xs ys n i role x) ∙ sym (or_assoc (holds g n i role x) _ _)
 
 pub hold_pushed : (xs ys : List Guard) (g : Guard) (h : Bool) (n i : ℤ) (role : ℕ) (x : ℤ) → ys ≡ xs ++ g ∷ [] → holds g n i role x ≡ h → hold ys n i role x ≡ hold xs n i role x || h
 hold_pushed xs ys g h n i role x e eh =
-    ap (λ z. hold z n i role x) e ∙ hold_append xs (g ∷ []) n i role x ∙ ap (λ z. hold xs n i role x || z) (sym (or_false (holds g n i role x)) ∙ eh)
+    ap (λ z. hold z n i role x) e ∙ hold_append xs (g ∷ []) n i role x ∙ ap (λ z. hold xs n i role x || z) (or-false (holds g n i role x) ∙ eh)
 
 pub unpushed : (o h : Bool) → h ≡ false → o ≡ o || h
-unpushed o h e = or_false o ∙ ap (λ z. o || z) (sym e)
+unpushed o h e = sym (or-false o) ∙ ap (λ z. o || z) (sym e)
 
 -- the guards with an area's, or without it
 pub added : (range : NRange) (a : Area) (g : Guard) (roles : ℕ) (old new : List Guard) → IsGuardOf range a g → (new ≡ old ++ g ∷ []) ⊎ ((new ≡ old) × ((roles ≤ g.role) ⊎ IsBeyond g.from)) →

@@ -5,6 +5,7 @@ use Rattle.std.proofs.lemmas.List.{drop_more}
 use Rattle.std.proofs.lemmas.List.Elements.{All-push, All-nil, All-weaker, All-tail, All-head}
 use Rattle.std.proofs.lemmas.Bool.{and_parts, and_from, or_cases, or_left, or_right, true≢false, false≢true, eqb-true, eq-eqb, lt-ltb}
 use Rattle.std.proofs.lemmas.Bool.Decides.{nat_tests}
+use Rattle.std.proofs.Math.Bool.{and_assoc, or-false, and-false}
 use Rattle.pb_affine.specs.declared.guard.Guard.{Guard}
 use Rattle.pb_affine.specs.declared.lin.Lin.{Lin}
 use Rattle.pb_affine.specs.declared.range.NRange.{NRange}
@@ -36,7 +37,9 @@ use Rattle.pb_local.specs.Tree.{Program}
 use Rattle.pb_local.specs.WellMade.{IsRange, IsGuard, IsTest, Ascend, ComesAfter}
 use Rattle.pb_project_piece.specs.Ranked.{Ranked}
 use Rattle.pb_project_piece.specs.Standing.{Stands}
-use Rattle.pb_shape.specs.Shape.{Scope, Around, guards_of, is_told}
+use Rattle.pb_shape.specs.Places.{Scope}
+use Rattle.pb_shape.specs.Loops.{Around}
+use Rattle.pb_shape.specs.Choices.{guards_of, is_told}
 use Rattle.pb_project_choice.specs.declared.entries.Branch.{Branch}
 use Rattle.pb_project_choice.specs.Found.{entries_at, IsFoundIn, has_label, tells, AreKnown}
 use Rattle.pb_project_choice.specs.Sayable.{AreSayable}
@@ -55,12 +58,8 @@ tells_step l es i e o o2 t n role x lt added h =
     step_bools o o2 (is_label l (get_or es i e).kind && has (get_or es i e).area n role x) (tells l (drop (i + 1) es) n role x) t added
     (ap (λ z. o || tells l z n role x) (sym (drop_more es i e lt)) ∙ h)
 
-or_false : (a : Bool) → a ≡ a || false
-or_false true = refl
-or_false false = refl
-
 pub tells_end : (l : ℕ) (es : List Entry) (i : ℕ) (o t : Bool) (n : ℤ) (role : ℕ) (x : ℤ) → length es ≤ i → o || tells l (drop i es) n role x ≡ t → o ≡ t
-tells_end l es i o t n role x le h = or_false o ∙ sym (ap (λ z. o || tells l z n role x) (drop_of_length-le es le)) ∙ h
+tells_end l es i o t n role x le h = sym (or-false o) ∙ sym (ap (λ z. o || tells l z n role x) (drop_of_length-le es le)) ∙ h
 
 pub fit_at : (range : NRange) (cuts : List Lin) (es : List Entry) (i : ℕ) (e : Entry) → i < length es → EntriesFit range cuts es → Fits range cuts (get_or es i e).area
 fit_at range cuts [] i e lt h = absurd (no_place i lt)
@@ -162,10 +161,6 @@ hold_if : (b : Bool) (gs : List Guard) (n i : ℤ) (role : ℕ) (x : ℤ) → ho
 hold_if true gs n i role x = refl
 hold_if false gs n i role x = refl
 
-and_assoc : (a b c : Bool) → (a && b) && c ≡ a && (b && c)
-and_assoc true b c = refl
-and_assoc false b c = refl
-
 same_label : (l m : ℕ) (f : ℕ → Bool) → nat_eq l m && f m ≡ nat_eq l m && f l
 same_label l m f = by (nat_eq l m) refl
   where
@@ -186,7 +181,7 @@ holds_pushed j l k m gs old new es n i role x e h =
 
 nothing_bools : (o a : Bool) (l m : ℕ) (f : ℕ → Bool) → f m ≡ false → o ≡ o || (a && (nat_eq l m && f l))
 nothing_bools o a l m f h =
-    or_false o ∙ ap (λ z. o || z) (sym (ap (λ z. a && z) (sym (same_label l m f) ∙ ap (λ z. nat_eq l m && z) h) ∙ zero_bools a (nat_eq l m)))
+    sym (or-false o) ∙ ap (λ z. o || z) (sym (ap (λ z. a && z) (sym (same_label l m f) ∙ ap (λ z. nat_eq l m && z) h) ∙ zero_bools a (nat_eq l m)))
   where
     zero_bools : (a b : Bool) → a && (b && false) ≡ false
     zero_bools true true = refl
@@ -354,11 +349,7 @@ all_bools true j i h = by (nat_lt j i) refl
     by : (b : Bool) → nat_lt j i ≡ b → nat_lt j i && true ≡ true
     by true e = ap (λ z. z && true) e
     by false e = absurd (true≢false (h (not_less j i e)))
-all_bools false j i h = none (nat_lt j i)
-  where
-    none : (b : Bool) → b && false ≡ false
-    none true = refl
-    none false = refl
+all_bools false j i h = and-false (nat_lt j i)
 
 pub holds_all : (found : List Branch) (i : ℕ) (o : Bool) (j m : ℕ) (n : ℤ) (role : ℕ) (x : ℤ) → length found ≤ i → o ≡ nat_lt j i && tells m (entries_at j found) n role x → o ≡ tells m (entries_at j found) n role x
 holds_all found i o j m n role x le h =

@@ -17,7 +17,8 @@ use Rattle.pb_part_firsts.specs.declared.firsts.Entry.{Entry}
 use Rattle.pb_part_firsts.specs.Firsts.{finds, are_small}
 use Rattle.pb_part_firsts.specs.Fitting.{EntriesFit}
 use Rattle.pb_choice.specs.Clashes.{is_label}
-use Rattle.pb_shape.specs.Shape.{Scope, Around}
+use Rattle.pb_shape.specs.Places.{Scope}
+use Rattle.pb_shape.specs.Loops.{Around}
 use Rattle.pb_shape.specs.Tabled.{count}
 use Rattle.pb_project_choice.specs.declared.entries.Branch.{Branch}
 

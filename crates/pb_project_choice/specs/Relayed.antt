@@ -18,7 +18,7 @@ use Rattle.pb_local.specs.declared.stmt.Relay.{Relay}
 use Rattle.pb_local.specs.Tree.{Program}
 use Rattle.pb_local.specs.WellMade.{IsRange, IsRelay}
 use Rattle.pb_project_piece.specs.Standing.{Stands}
-use Rattle.pb_shape.specs.Shape.{Scope}
+use Rattle.pb_shape.specs.Places.{Scope}
 use Rattle.pb_project_choice.specs.Heard.{IsOther}
 use Rattle.pb_project_choice.specs.Sources.{is_listed, hears}
 

@@ -1,6 +1,7 @@
 -- Areas that guards can say.
 use Rattle.std.specs.Prelude.{◌≡◌, ◌≢◌, ◌<◌, ◌≤ℤ◌, ℕ, ℤ, pos, negsuc, ◌∷◌, Option, Some, None, [], List}
 use Rattle.std.specs.List.{All}
+use Rattle.pb_text.specs.declared.limits.TheConstants.{MOST_NUMBER, MOST_OFFSET}
 use Rattle.pb_affine.specs.declared.guard.Guard.{Guard}
 use Rattle.pb_affine.specs.declared.lin.Base.TheVariants.{Var}
 use Rattle.pb_affine.specs.declared.lin.Lin.{Lin}
@@ -12,7 +13,7 @@ use Rattle.pb_part_areas.specs.Fits.{Fits}
 use Rattle.pb_cases.specs.Bounds.{IsEdgeIf}
 use Rattle.pb_cases.specs.Breakpoints.{IsCut, Division}
 use Rattle.pb_core_language.specs.Verdict.{IsIn}
-use Rattle.pb_local.specs.WellMade.{IsRange, IsBoundIf, most_number}
+use Rattle.pb_local.specs.WellMade.{IsRange, IsBoundIf}
 
 -- they fit some small cuts
 pub record AreSayable (range : NRange) (list : List Area) : Type 0 where
@@ -23,7 +24,7 @@ pub record AreSayable (range : NRange) (list : List Area) : Type 0 where
 -- a number that no guard may name
 abbrev pub IsBeyond : Option ℕ → Type 0
 IsBeyond None = ⊥
-IsBeyond (Some n) = most_number < n
+IsBeyond (Some n) = MOST_NUMBER < n
 
 abbrev pub division : NRange → List Lin → Division
 division range cuts = record { range = range; cuts = cuts; breakpoints = [] }
@@ -39,7 +40,7 @@ pub record IsGuardOf (range : NRange) (a : Area) (g : Guard) : Type 0 where
 pub record IsPlainLin (l : Lin) : Type 0 where
   pub no_var : l.base ≢ Var
   pub least : negsuc 999998 ≤ℤ l.off
-  pub most : l.off ≤ℤ pos 1000000
+  pub most : l.off ≤ℤ MOST_OFFSET
 
 -- guards can say the area
 pub record IsSayable (a : Area) : Type 0 where

@@ -17,7 +17,8 @@ use Rattle.pb_part_firsts.specs.declared.firsts.Kind.{Kind}
 use Rattle.pb_part_firsts.specs.declared.firsts.Kind.TheVariants.{Receive, Other, Again}
 use Rattle.pb_part_firsts.specs.declared.firsts.Source.{Source}
 use Rattle.pb_core_flat.specs.Seated.{rank, is_rank}
-use Rattle.pb_shape.specs.Shape.{Scope, Around, is_end}
+use Rattle.pb_shape.specs.Places.{Scope, is_end}
+use Rattle.pb_shape.specs.Loops.{Around}
 
 -- each rank but the chooser that takes part in a branch receives first from one rank alone, and all ends in the branches are ranks
 pub record OneSource (sc : Scope) (a : Around) (at : CoreEnd) (bs : BranchTrees) : Type 0 where

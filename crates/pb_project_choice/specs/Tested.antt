@@ -14,7 +14,8 @@ use Rattle.pb_local.specs.declared.stmt.Test.{Test}
 use Rattle.pb_local.specs.Tree.{Program}
 use Rattle.pb_local.specs.WellMade.{IsRange, IsTest, Ascend}
 use Rattle.pb_project_piece.specs.Standing.{Stands}
-use Rattle.pb_shape.specs.Shape.{Scope, guards_of}
+use Rattle.pb_shape.specs.Places.{Scope}
+use Rattle.pb_shape.specs.Choices.{guards_of}
 use Rattle.pb_project_choice.specs.Found.{tells, AreKnown}
 
 -- less than the number, if there is one

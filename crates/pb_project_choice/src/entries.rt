@@ -9,7 +9,8 @@ ghost use Rattle.pb_core_language.specs.Sound.{Rows, is_block, are_branches};
 ghost use Rattle.pb_part_takers.specs.Loops.{ids_of, HeldFit};
 ghost use Rattle.pb_part_takers.specs.Pieces.{AreAmong};
 ghost use Rattle.pb_part_firsts.specs.Takers.{IsWhole};
-ghost use Rattle.pb_shape.specs.Shape.{Scope, Around};
+ghost use Rattle.pb_shape.specs.Places.{Scope};
+ghost use Rattle.pb_shape.specs.Loops.{Around};
 ghost use Rattle.pb_project_choice.specs.Found.{IsAround, IsFirstIn, IsFoundIn};
 
 use pb_core_language::CoreBlock;

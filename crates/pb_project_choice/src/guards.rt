@@ -15,11 +15,8 @@ ghost use Rattle.pb_project_choice.specs.Sayable.{AreSayable, IsBeyond, IsGuardO
 
 use pb_affine::{Guard, Guards, NRange};
 use pb_part_areas::{Area, guard_of};
-use pb_text::NoMemory;
+use pb_text::{LEAST_OFFSET, MOST_NUMBER, MOST_OFFSET, NoMemory};
 use std::alloc::Global;
-
-/// The greatest number that a guard may name.
-const MOST: u32 = 2_000_000_000;
 
 /// Whether a guard may name the number.
 fn is_named(number: Option<u32>) -> bool
@@ -28,7 +25,7 @@ fn is_named(number: Option<u32>) -> bool
 {
     match number {
         None => true,
-        Some(n) => n <= MOST,
+        Some(n) => n <= MOST_NUMBER,
     }
 }
 
@@ -61,7 +58,8 @@ fn is_small(a: Area) -> bool
     ensures small { result ≡ true → IsSmallArea a }
     ensures large { result ≡ false → (range : NRange) (cuts : List Lin) → Fits range cuts a → ⊥ }
 {
-    is_small_off(a.low.off, -1_000_000, 1_000_000) && is_small_off(a.end.off, -999_999, 1_000_000)
+    is_small_off(a.low.off, LEAST_OFFSET, MOST_OFFSET)
+        && is_small_off(a.end.off, LEAST_OFFSET + 1, MOST_OFFSET)
 }
 
 fn is_open(a: Area) -> bool

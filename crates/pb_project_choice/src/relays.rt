@@ -6,7 +6,9 @@ ghost use Rattle.pb_core_language.specs.Tree.{BranchTrees};
 ghost use Rattle.pb_local.specs.Tree.{Program};
 ghost use Rattle.pb_local.specs.WellMade.{IsRange, IsRelay};
 ghost use Rattle.pb_project_piece.specs.Standing.{Stands, IsOpen};
-ghost use Rattle.pb_shape.specs.Shape.{Scope, Here, Around, Tests, Relays};
+ghost use Rattle.pb_shape.specs.Places.{Scope, Here};
+ghost use Rattle.pb_shape.specs.Loops.{Around};
+ghost use Rattle.pb_shape.specs.Choices.{Tests, Relays};
 ghost use Rattle.pb_project_choice.specs.Found.{IsFoundIn, all_entries};
 ghost use Rattle.pb_project_choice.specs.Sayable.{IsPlainLin, IsSayable};
 ghost use Rattle.pb_project_choice.specs.Sources.{OneSource, same_source, is_from, is_listed};
@@ -23,7 +25,7 @@ use pb_part_areas::{Area, absorb, one, without};
 use pb_part_firsts::{Entry, Kind, Source};
 use pb_part_takers::end_area;
 use pb_project_piece::{Setting, is_somebody};
-use pb_text::NoMemory;
+use pb_text::{LEAST_OFFSET, MOST_OFFSET, NoMemory};
 use std::alloc::Global;
 
 fn is_same_base(a: Base, b: Base) -> bool
@@ -109,7 +111,7 @@ fn sources_of(alloc: Global, entries: &[Entry]) -> Result<Vec<Source>, NoMemory>
 fn is_plain_lin(lin: Lin) -> bool
     ensures { result ≡ true → IsPlainLin lin }
 {
-    lin.base != Base::Var && -999_999 <= lin.off && lin.off <= 1_000_000
+    lin.base != Base::Var && LEAST_OFFSET < lin.off && lin.off <= MOST_OFFSET
 }
 
 fn is_plain_until(until: Option<u32>) -> bool

@@ -11,7 +11,9 @@ ghost use Rattle.pb_part_firsts.specs.Fitting.{EntriesFit};
 ghost use Rattle.pb_local.specs.Tree.{Program};
 ghost use Rattle.pb_local.specs.WellMade.{IsRange, IsTest, Ascend};
 ghost use Rattle.pb_project_piece.specs.Standing.{Stands, IsOpen};
-ghost use Rattle.pb_shape.specs.Shape.{Scope, Here, Around, Tests};
+ghost use Rattle.pb_shape.specs.Places.{Scope, Here};
+ghost use Rattle.pb_shape.specs.Loops.{Around};
+ghost use Rattle.pb_shape.specs.Choices.{Tests};
 ghost use Rattle.pb_project_choice.specs.Found.{IsFoundIn, has_label, tells};
 ghost use Rattle.pb_project_choice.specs.Tested.{is_under, IsTested, AscendTo};
 

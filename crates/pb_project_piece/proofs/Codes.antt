@@ -1,14 +1,11 @@
 -- The plain trees of statements that are made.
-use Rattle.std.proofs.Common.{◌≡◌, ℕ, ℤ, List, ap, sym, ◌∙◌, Vec}
-use Rattle.std.specs.declared.alloc.Global.{Global}
-use Rattle.pb_affine.specs.declared.lin.Lin.{Lin}
-use Rattle.pb_affine.specs.declared.guard.Guard.{Guard}
+use Rattle.std.proofs.Common.{◌≡◌, ℕ, ℤ, ap, sym, ◌∙◌}
 use Rattle.pb_syntax.specs.declared.tree.Op.{Op}
 use Rattle.pb_local.specs.declared.stmt.Peer.{Peer}
 use Rattle.pb_local.specs.declared.stmt.Stmt.{Stmt, fold-roll-Stmt}
-use Rattle.pb_local.specs.declared.stmt.Stmt.TheVariants.{If, For, Barrier, Own, Again, Send, Recv, Run, Broadcast, Reduce, Allreduce, rolls-If, rolls-For, rolls-Barrier, rolls-Own, rolls-Again, rolls-Send, rolls-Recv, rolls-Run, rolls-Broadcast, rolls-Reduce, rolls-Allreduce}
+use Rattle.pb_local.specs.declared.stmt.Stmt.TheVariants.{Barrier, Own, Again, Send, Recv, Run, Broadcast, Reduce, Allreduce, rolls-Barrier, rolls-Own, rolls-Again, rolls-Send, rolls-Recv, rolls-Run, rolls-Broadcast, rolls-Reduce, rolls-Allreduce}
 use Rattle.pb_local.specs.declared.stmt.Stmt.TheOpen as Layer
-use Rattle.pb_local.specs.Tree.{Code, when, for_each, barrier, own, again, send, recv, run, broadcast, reduce, allreduce, layer, plain, plain_all}
+use Rattle.pb_local.specs.Tree.{Code, barrier, own, again, send, recv, run, broadcast, reduce, allreduce, layer, plain}
 
 pub own_plain : (off : ℤ) → plain (Own off) ≡ own off
 own_plain off = ap plain (sym (rolls-Own off)) ∙ fold-roll-Stmt Code layer (Layer.Own off)
@@ -36,9 +33,3 @@ allreduce_plain label op = ap plain (sym (rolls-Allreduce label op)) ∙ fold-ro
 
 pub barrier_plain : plain Barrier ≡ barrier
 barrier_plain = ap plain (sym rolls-Barrier) ∙ fold-roll-Stmt Code layer Layer.Barrier
-
-pub when_plain : (guards : List Guard) (first other : Vec Stmt Global) → plain (If guards first other) ≡ when guards (plain_all first.items) (plain_all other.items)
-when_plain guards first other = ap plain (sym (rolls-If guards first other)) ∙ fold-roll-Stmt Code layer (Layer.If guards first other)
-
-pub for_plain : (low high : Lin) (body : Vec Stmt Global) → plain (For low high body) ≡ for_each low high (plain_all body.items)
-for_plain low high body = ap plain (sym (rolls-For low high body)) ∙ fold-roll-Stmt Code layer (Layer.For low high body)

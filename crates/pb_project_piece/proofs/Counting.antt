@@ -12,7 +12,8 @@ use Rattle.pb_local.specs.Tree as L
 use Rattle.pb_local.specs.Tree.{Code, Codes, size, size_all}
 use Rattle.pb_local.specs.WellMade.{loops_at, loops_in}
 use Rattle.pb_shape.specs.Sizes.{braces, braces_all}
-use Rattle.pb_shape.specs.Shape.{is_at_offset, put, put_in, put_end, offsets, offsets_at, segment_code, segment_codes, peer_of}
+use Rattle.pb_shape.specs.Places.{peer_of}
+use Rattle.pb_shape.specs.Segments.{is_at_offset, put, put_in, put_end, offsets, offsets_at, segment_code, segment_codes}
 use Rattle.pb_project_piece.specs.Weights.{each_room, end_count, count_at, count_in, segment_sum}
 
 -- ---- the codes of a segment

@@ -4,10 +4,10 @@ use Rattle.std.proofs.lemmas.Bool.Decides.{nat_tests}
 use Rattle.pb_core_language.specs.declared.tree.CoreBlock.{CoreBlock, out-CoreBlock}
 use Rattle.pb_core_language.specs.declared.tree.CoreStmt.{CoreStmt}
 use Rattle.pb_core_language.specs.Plain.{plain_block, plain_stmt, block_of}
-use Rattle.pb_part_takers.proofs.Plains.{plain_list}
+use Rattle.pb_core_language.proofs.Plains.{plain_list}
 use Rattle.pb_core_language.specs.declared.tree.CoreEnd.{CoreEnd}
 use Rattle.pb_core_flat.specs.Meets.{is_moving}
-use Rattle.pb_shape.specs.Shape.{put_in, put_end, offsets_at, offsets}
+use Rattle.pb_shape.specs.Segments.{put_in, put_end, offsets_at, offsets}
 use Rattle.pb_project_piece.specs.declared.offsets.Off.{Off}
 use Rattle.pb_project_piece.specs.Offsets.{off_of, put_off, rest_of}
 use Rattle.pb_project_piece.proofs.Items.{drop_is}

@@ -13,8 +13,8 @@ use Rattle.pb_core_language.specs.Plain.{Protocol}
 use Rattle.pb_core_language.specs.Sound.{Rows, rows_of, is_small, is_over_n, is_end, is_item, is_stmt, is_block}
 use Rattle.pb_core_language.specs.Tree as T
 use Rattle.pb_core_language.specs.Tree.{StmtTree, BlockTree}
-use Rattle.pb_part_takers.specs.declared.each.Over.{Over}
-use Rattle.pb_part_takers.proofs.Plains.{plain_list}
+use Rattle.pb_core_language.specs.declared.tree.Bounds.{Bounds}
+use Rattle.pb_core_language.proofs.Plains.{plain_list}
 use Rattle.pb_local.specs.declared.stmt.Stmt.{Stmt}
 use Rattle.pb_local.specs.Tree as L
 use Rattle.pb_local.specs.Tree.{Code, Codes, Program, plain, plain_all}
@@ -22,8 +22,10 @@ use Rattle.pb_local.specs.WellMade.{IsMade, AreMade}
 use Rattle.pb_shape.specs.Tabled.{Goes, GoAll}
 use Rattle.pb_project_piece.specs.Weights.{AreFlat, AreWeighed, IsSimple, IsTabledAs, item_room, each_room}
 use Rattle.pb_project_piece.proofs.Weights.{FewSoFar, few_start, few_step, few_done, weighed_codes, weighed_two, weighed_less, weighed_none, made_onto, flat_append, peer_made, guard_made, one_guard, one_weighed, one_flat, weaker_end, label_below, kernel_below, kind_is, send_simple, recv_simple, run_simple}
-use Rattle.pb_shape.specs.Shape as S
-use Rattle.pb_shape.specs.Shape.{Scope, Here, Item, Items, peer_of, alone}
+use Rattle.pb_shape.specs.Places as S
+use Rattle.pb_shape.specs.Places.{Scope, Here, peer_of}
+use Rattle.pb_shape.specs.Guards.{alone}
+use Rattle.pb_shape.specs.Items.{Item, Items}
 use Rattle.pb_project_piece.specs.Adding.{onto, Added}
 use Rattle.pb_project_piece.specs.Ranked.{IsThere}
 use Rattle.pb_project_piece.specs.Comers.{AreComers}
@@ -34,7 +36,7 @@ use Rattle.pb_project_piece.proofs.Ones.{one_there, one_gone}
 
 -- ---- an end
 
-module _ (range : NRange) (roles : ℕ) (whole : List Area) (over : Option Over) (fixed : List Area) where
+module _ (range : NRange) (roles : ℕ) (whole : List Area) (over : Option Bounds) (fixed : List Area) where
   pub put_there : (e : CoreEnd) (c : Code) (areas : List Area) (t : Bool) (old new : List Stmt) (s : Stmt) → AreComers over fixed e areas → IsThere range whole areas t → t ≡ true →
       plain s ≡ only_when (end_guard e ∷ []) (alone c) → new ≡ old ++ s ∷ [] → Added old new (IsAt range roles whole over fixed e c)
   put_there e c areas t old new s comers there is made pushed =
@@ -80,11 +82,11 @@ item_most (T.allreduce l op) = none_four
 one_one : 1 ≤ 1
 one_one = omega arith
 
-pub fair_if : (over : Option Over) (rows : Rows) (e : CoreEnd) → is_end rows (varies over) e ≡ true → is_end_if over e ≡ true
+pub fair_if : (over : Option Bounds) (rows : Rows) (e : CoreEnd) → is_end rows (varies over) e ≡ true → is_end_if over e ≡ true
 fair_if None rows e h = (and_parts (nat_lt e.role rows.roles) (is_over_n e.at.base && is_small e.at.off) h).1
 fair_if (Some over) rows e h = (and_parts (nat_lt e.role rows.roles) (is_small e.at.off) h).1
 
-module _ (range : NRange) (roles : ℕ) (whole : List Area) (over : Option Over) (fixed : List Area) where
+module _ (range : NRange) (roles : ℕ) (whole : List Area) (over : Option Bounds) (fixed : List Area) where
   pub message_put : (l : ℕ) (f t : CoreEnd) (sent received : Code) (old mid new : List Stmt) → sent ≡ L.send l (peer_of t) → received ≡ L.recv l (peer_of f) →
       Added old mid (IsAt range roles whole over fixed f sent) → Added mid new (IsAt range roles whole over fixed t received) → Added old new (IsItemOf range roles whole over fixed (T.message l f t))
   message_put l f t sent received old mid new send_is recv_is first second =
@@ -136,7 +138,7 @@ pub record ItemsNow (sc : Scope) (h : Here) (rows : Rows) (ids : List ℕ) (all 
   pub sound : is_block rows true ids now ≡ true
   pub rest : (codes : Codes) → Items sc h now codes → Items sc h all (onto (map plain list) codes)
 
-pub record ItemsSoFar (range : NRange) (roles : ℕ) (whole : List Area) (over : Over) (fixed : List Area) (items : List CoreStmt) (i : ℕ) (list : List Stmt) : Type 0 where
+pub record ItemsSoFar (range : NRange) (roles : ℕ) (whole : List Area) (over : Bounds) (fixed : List Area) (items : List CoreStmt) (i : ℕ) (list : List Stmt) : Type 0 where
   pub is : (sc : Scope) (h : Here) (rows : Rows) (ids : List ℕ) → Stands range roles whole sc → IsEach over fixed sc h → is_block rows true ids (block_of (map plain_stmt items)) ≡ true →
       ItemsNow sc h rows ids (block_of (map plain_stmt items)) (block_of (map plain_stmt (drop i items))) list
   pub weighed : FewSoFar 4 1 (block_of (map plain_stmt items)) (block_of (map plain_stmt (drop i items))) (map plain list)
@@ -146,7 +148,7 @@ pub record ItemsSoFar (range : NRange) (roles : ℕ) (whole : List Area) (over :
 pub drop_is : {X : Type 0} (items : List X) (i : ℕ) (x : X) → i < length items → x ≡ get_or items i x → drop i items ≡ x ∷ drop (i + 1) items
 drop_is items i x lt is = at_drop_more (λ l. l) items i x lt ∙ ap (λ y. y ∷ drop (i + 1) items) (sym is)
 
-module _ (range : NRange) (roles : ℕ) (whole : List Area) (over : Over) (fixed : List Area) where
+module _ (range : NRange) (roles : ℕ) (whole : List Area) (over : Bounds) (fixed : List Area) where
   pub items_start : (items : List CoreStmt) (list : List Stmt) → list ≡ [] → ItemsSoFar range roles whole over fixed items 0 list
   items_start items list is = record {
     is = λ sc h rows ids stands here sound. record { sound = sound; rest = λ codes z. subst (λ l. Items sc h (block_of (map plain_stmt items)) (onto (map plain l) codes)) (sym is) z };

@@ -1,7 +1,7 @@
 -- A foreach: the loop, and the `If` around it and the segments.
 use Rattle.std.proofs.Common.{◌≡◌, ℕ, suc, ◌+◌, ◌≤◌, max, length, ℤ, pos, int_le, Bool, true, false, ◌&&◌, ◌||◌, not, List, [], ◌∷◌, ◌++◌, map, refl, sym, ap, ◌∙◌, subst, arith}
 use Rattle.std.proofs.lemmas.Int.{ints}
-use Rattle.std.proofs.lemmas.Bool.{and_parts, false≢true}
+use Rattle.std.proofs.lemmas.Bool.{and_parts, false≢true, not-true, or_right, or_left, and_from}
 use Rattle.pb_affine.specs.declared.guard.Guard.{Guard}
 use Rattle.pb_affine.specs.declared.range.NRange.{NRange}
 use Rattle.pb_affine.specs.Values.{value, hold}
@@ -12,8 +12,8 @@ use Rattle.pb_core_language.specs.Plain.{Protocol}
 use Rattle.pb_core_language.specs.Sound.{Rows, rows_of, is_block}
 use Rattle.pb_core_language.specs.Tree as T
 use Rattle.pb_core_language.specs.Tree.{StmtTree, BlockTree}
+use Rattle.pb_core_language.specs.declared.tree.Bounds.{Bounds}
 use Rattle.pb_core_flat.specs.Meets.{is_met, meets, meet}
-use Rattle.pb_part_takers.specs.declared.each.Over.{Over}
 use Rattle.pb_part_takers.specs.declared.held.Held.{Held}
 use Rattle.pb_part_takers.specs.Pieces.{IsAdded, items_piece}
 use Rattle.pb_local.specs.declared.stmt.Stmt.{Stmt}
@@ -27,17 +27,20 @@ use Rattle.pb_local.specs.WellMade.{AreMade, IsGuard, AreGuards, behind, loops_i
 use Rattle.pb_shape.specs.Sizes.{braces_all, room_each}
 use Rattle.pb_project_piece.specs.Weights.{sizes, depths, loop_count, AreFlat, IsWeighed, IsTabledAs, each_room}
 use Rattle.pb_project_piece.proofs.Weights.{weighed_less, weighed_none, sizes_onto, loops_onto, braces_onto, made_onto, small_is, peer_made, guard_made}
-use Rattle.pb_shape.specs.Shape.{Scope, Here, everyone, Nobody, Somebody, is_fixed, is_fixed_at, fixed_in, fixed_here, in_for, but_fixed, Rounds, ForEach, Segments}
+use Rattle.pb_shape.specs.Places.{Scope, Here, everyone}
+use Rattle.pb_shape.specs.Guards.{Nobody, Somebody}
+use Rattle.pb_shape.specs.Segments.{Segments}
+use Rattle.pb_shape.specs.Pieces.{is_fixed, is_fixed_at, fixed_in, fixed_here, in_for, but_fixed, Rounds, ForEach}
 use Rattle.pb_project_piece.specs.Adding.{onto, Added}
 use Rattle.pb_project_piece.specs.Ranked.{Ranked, IsThere}
 use Rattle.pb_project_piece.specs.Comers.{AreBounds}
 use Rattle.pb_project_piece.specs.Standing.{Stands, IsOpen, IsEach}
 use Rattle.pb_project_piece.specs.Ones.{end_guard, AreItemsOf}
 use Rattle.pb_project_piece.specs.Fixed.{at_some, AreFairEnds, AreFixed, AreAreas}
-use Rattle.pb_project_piece.specs.Segments.{bounds_of, IsApart, AreSegments}
+use Rattle.pb_project_piece.specs.Segments.{IsApart, AreSegments}
 use Rattle.pb_project_piece.specs.Looping.{AreStill, Runs, IsRounds, IsBoth, IsForEach}
 use Rattle.pb_project_piece.proofs.Added.{onto_nothing, added_one, added_none, added_as}
-use Rattle.pb_project_piece.proofs.Ones.{both_true, from_zero, inside_range, outside_range, rank_is, met_at}
+use Rattle.pb_project_piece.proofs.Ones.{from_zero, inside_range, outside_range, rank_is, met_at}
 use Rattle.pb_project_piece.proofs.StillEnds.{fixed_at, guards_hold, fair_items}
 
 -- ---- the ranks at ends without the variable
@@ -57,17 +60,6 @@ or_one : (a b c : Bool) → (a ≡ true → c ≡ true) → (b ≡ true → c �
 or_one true b c f g h = f refl
 or_one false b c f g h = g h
 
-or_first : (a b : Bool) → a ≡ true → a || b ≡ true
-or_first a b h = ap (λ z. z || b) h
-
-or_second : (a b : Bool) → b ≡ true → a || b ≡ true
-or_second true b h = refl
-or_second false b h = h
-
-not_at : (b : Bool) → not b ≡ true → b ≡ false
-not_at true h = sym h
-not_at false h = refl
-
 not_empty : (s : Stmt) → s ∷ [] ≡ [] → ⊥
 not_empty s h = cc
 
@@ -78,7 +70,7 @@ module _ (low high n : ℤ) (role : ℕ) (x : ℤ) (some : int_le low high ≡ t
   item_meets : (s : StmtTree) → is_fixed_at s n role x ≡ true → meets s low high n role x ≡ true
   item_meets (T.message l f t) h =
       or_one (is_fixed f n role x) (is_fixed t n role x) (is_met f low high n role x || is_met t low high n role x)
-      (λ a. or_first _ _ (end_meets f a)) (λ a. or_second _ _ (end_meets t a)) h
+      (λ a. or_left _ _ (end_meets f a)) (λ a. or_right _ _ (end_meets t a)) h
   item_meets (T.foreach b m items) h = absurd (false≢true h)
   item_meets (T.loop id m body) h = absurd (false≢true h)
   item_meets (T.again id) h = absurd (false≢true h)
@@ -93,21 +85,21 @@ module _ (low high n : ℤ) (role : ℕ) (x : ℤ) (some : int_le low high ≡ t
   fixed_meets T.nothing h = absurd (false≢true h)
   fixed_meets (T.more m s rest) h =
       or_one (is_fixed_at s n role x) (fixed_in rest n role x) (meets s low high n role x || meet rest low high n role x)
-      (λ a. or_first _ _ (item_meets s a)) (λ a. or_second _ _ (fixed_meets rest a)) h
+      (λ a. or_left _ _ (item_meets s a)) (λ a. or_right _ _ (fixed_meets rest a)) h
 
 -- ---- who runs the loop
 
-pub runs_is : (range : NRange) (whole : List Area) (over : Over) (fixed none met runners : List Area) (b : BlockTree) (t : Bool) → none ≡ [] →
-    ((rest : List Area) (held : List Held) (ids : List ℕ) → IsAdded rest held (items_piece (bounds_of over) ids b) none met) →
+pub runs_is : (range : NRange) (whole : List Area) (over : Bounds) (fixed none met runners : List Area) (b : BlockTree) (t : Bool) → none ≡ [] →
+    ((rest : List Area) (held : List Held) (ids : List ℕ) → IsAdded rest held (items_piece over ids b) none met) →
     ((n : ℤ) (role : ℕ) (x : ℤ) → have runners n role x ≡ have fixed n role x && have met n role x) → IsThere range whole runners t → Runs range whole over fixed b t
 runs_is range whole over fixed none met runners b true empty added common there = tt
 runs_is range whole over fixed none met runners b false empty added common there = λ rows ids roles n role x bounds sound still within rank is_whole at_end some.
     let zero = from_zero range n within in
     let here : have fixed n role x ≡ true = still.is rows n role x (fair_items rows ids b sound) zero ∙ at_end in
     let meets_it : have met n role x ≡ true =
-    (added whole [] ids).is rows roles n role x (both_true _ _ bounds.0 (both_true _ _ bounds.1 sound)) rank is_whole
-    ∙ or_second _ _ (fixed_meets (value over.low n (pos 0)) (value over.high n (pos 0)) n role x some b at_end) in
-    false≢true (sym (there n role x within is_whole) ∙ common n role x ∙ both_true _ _ here meets_it)
+    (added whole [] ids).is rows roles n role x (and_from _ _ bounds.0 (and_from _ _ bounds.1 sound)) rank is_whole
+    ∙ or_right _ _ (fixed_meets (value over.low n (pos 0)) (value over.high n (pos 0)) n role x some b at_end) in
+    false≢true (sym (there n role x within is_whole) ∙ common n role x ∙ and_from _ _ here meets_it)
 
 -- ---- how large it is, and that it is made
 
@@ -189,19 +181,19 @@ some_length (e ∷ es) h = long_enough (length (map end_guard es))
 some_guards : (l : Program) (p : Protocol) (ends : List CoreEnd) (gs : List Guard) → gs ≡ map end_guard ends → IsTabledAs p l → AreFairEnds (rows_of p) ends → HasEnd ends → AreGuards l gs
 some_guards l p ends gs is tabled fair some = subst (AreGuards l) (sym is) (record { some = some_length ends some; each = all_guards p l ends tabled fair })
 
-module _ (range : NRange) (roles : ℕ) (whole : List Area) (over : Over) (fixed : List Area) (b : BlockTree) where
+module _ (range : NRange) (roles : ℕ) (whole : List Area) (over : Bounds) (fixed : List Area) (b : BlockTree) where
   pub loop_rounds : (body list : List Stmt) (s : Stmt) → AreItemsOf range roles whole over fixed b (plain_all body) → plain s ≡ L.for_each over.low over.high (plain_all body) → list ≡ s ∷ [] → IsRounds range roles whole over fixed b list
   loop_rounds body list s items made is = record {
     is = λ sc h rows ids stands bounds sound still.
-        let here : IsEach over fixed sc (in_for h (bounds_of over) b) = record {
+        let here : IsEach over fixed sc (in_for h over b) = record {
           bounds = bounds;
           at = λ n i. refl;
           comes = λ n i role x within rank comes.
               still.is rows n role x (fair_items rows ids b sound) (from_zero range n (inside_range range roles whole sc stands n within))
               ∙ (and_parts (fixed_in b n role x) (h.comes n i role x) comes).0;
         } in
-        subst (λ l. Rounds sc h (bounds_of over) b (plain_all l)) (sym is)
-        (subst (λ c. Rounds sc h (bounds_of over) b (L.more c L.nothing)) (sym made) (Rounds.rounds (items.are sc (in_for h (bounds_of over) b) rows ids stands here sound)));
+        subst (λ l. Rounds sc h over b (plain_all l)) (sym is)
+        (subst (λ c. Rounds sc h over b (L.more c L.nothing)) (sym made) (Rounds.rounds (items.are sc (in_for h over b) rows ids stands here sound)));
     none = λ sc h rows ids stands bounds sound still empty. absurd (not_empty s (sym is ∙ empty));
     weighed = subst (λ l. IsWeighed (1 + each_room 4 b) 2 (map plain l)) (sym is)
         (subst (λ c. IsWeighed (1 + each_room 4 b) 2 (c ∷ [])) (sym made) (record {
@@ -218,14 +210,14 @@ module _ (range : NRange) (roles : ℕ) (whole : List Area) (over : Over) (fixed
   pub no_rounds : (list : List Stmt) (t : Bool) → Runs range whole over fixed b t → t ≡ false → list ≡ [] → IsRounds range roles whole over fixed b list
   no_rounds list t runs is empty =
       let none : Runs range whole over fixed b false = subst (Runs range whole over fixed b) is runs in
-      let nobody : (sc : Scope) (h : Here) (rows : Rows) (ids : List ℕ) → Stands range roles whole sc → AreBounds over → is_block rows true ids b ≡ true → AreStill b fixed → Nobody sc (in_for h (bounds_of over) b) everyone =
+      let nobody : (sc : Scope) (h : Here) (rows : Rows) (ids : List ℕ) → Stands range roles whole sc → AreBounds over → is_block rows true ids b ≡ true → AreStill b fixed → Nobody sc (in_for h over b) everyone =
       λ sc h rows ids stands bounds sound still n i role x within rank at comes.
       let w = inside_range range roles whole sc stands n within in
       absurd (none rows ids sc.roles n role x bounds sound still w rank (rank_is range roles whole sc stands n role x w ∙ rank)
       (and_parts (fixed_in b n role x) (h.comes n i role x) comes).0 (le_over (value over.low n (pos 0)) i (value over.high n (pos 0)) at)) in
       record {
         is = λ sc h rows ids stands bounds sound still.
-            subst (λ l. Rounds sc h (bounds_of over) b (plain_all l)) (sym empty) (Rounds.nowhere (nobody sc h rows ids stands bounds sound still));
+            subst (λ l. Rounds sc h over b (plain_all l)) (sym empty) (Rounds.nowhere (nobody sc h rows ids stands bounds sound still));
         none = λ sc h rows ids stands bounds sound still e. nobody sc h rows ids stands bounds sound still;
         weighed = subst (λ l. IsWeighed (1 + each_room 4 b) 2 (map plain l)) (sym empty) (weighed_none (1 + each_room 4 b) 2);
         made = λ p l ids tabled bounds sound goes. subst (λ z. AreFlat l (map plain z)) (sym empty) tt;
@@ -238,7 +230,7 @@ module _ (range : NRange) (roles : ℕ) (whole : List Area) (over : Over) (fixed
     at = λ n i. open_here.at n i;
     comes = λ n i role x within rank comes.
         still.is rows n role x (fair_items rows ids b sound) (from_zero range n (inside_range range roles whole sc stands n within))
-        ∙ not_at (fixed_in b n role x) (and_parts (not (fixed_in b n role x)) (h.comes n i role x) comes).0;
+        ∙ not-true (fixed_in b n role x) (and_parts (not (fixed_in b n role x)) (h.comes n i role x) comes).0;
   }
 
   some_fixed : (sc : Scope) (h : Here) (rows : Rows) (ids : List ℕ) → Stands range roles whole sc → IsOpen h → is_block rows true ids b ≡ true → AreStill b fixed → Ranked range whole fixed → Somebody sc h (fixed_here b)
@@ -261,7 +253,7 @@ module _ (range : NRange) (roles : ℕ) (whole : List Area) (over : Over) (fixed
         is = λ sc h rows ids stands open_here bounds sound fixed_ends still r tail.
             ForEach.both (λ n i role x within rank at. ap (λ g. hold g n i role x) gs_is ∙ guards_hold ends n i role x ∙ fixed_ends.is n i role x)
             (some_fixed sc h rows ids stands open_here sound still r) (rounds.is sc h rows ids stands bounds sound still)
-            (subst (Segments sc (but_fixed h b) (bounds_of over) b L.nothing 0 sc.roles) (onto_nothing segments.piece ∙ ap codes_of (sym (segments.is ∙ ap (λ l. map plain l ++ segments.piece) empty)))
+            (subst (Segments sc (but_fixed h b) over b L.nothing 0 sc.roles) (onto_nothing segments.piece ∙ ap codes_of (sym (segments.is ∙ ap (λ l. map plain l ++ segments.piece) empty)))
             (segments.has.are sc (but_fixed h b) rows ids stands (apart sc h rows ids stands open_here sound still) bounds sound L.nothing));
         weighed = both_weighed gs first other (each_room 4 b) (each_room 6 b) rounds.weighed (subst (IsWeighed (each_room 6 b) 1) (sym piece_is) segments.has.weighed);
         made = λ p l ids tabled same bounds sound goes fixed_ends still r.
@@ -278,7 +270,7 @@ module _ (range : NRange) (roles : ℕ) (whole : List Area) (over : Over) (fixed
       added_none (IsBoth range roles whole over ends fixed b) old (record {
         is = λ sc h rows ids stands open_here bounds sound fixed_ends still r tail.
             ForEach.neither (rounds.none sc h rows ids stands bounds sound still no_first)
-            (subst (λ p. Segments sc (but_fixed h b) (bounds_of over) b tail 0 sc.roles (onto p tail)) no_piece
+            (subst (λ p. Segments sc (but_fixed h b) over b tail 0 sc.roles (onto p tail)) no_piece
             (segments.has.are sc (but_fixed h b) rows ids stands (apart sc h rows ids stands open_here sound still) bounds sound tail));
         weighed = weighed_none (2 + (each_room 4 b + each_room 6 b)) 3;
         made = λ p l ids tabled same bounds sound goes fixed_ends still r. tt;

@@ -1,8 +1,8 @@
 -- An `If` of the rank at an end.
-use Rattle.std.proofs.Common.{◌≡◌, ℕ, ℤ, pos, ◌+ℤ◌, ◌-ℤ◌, ◌≤ℤ◌, int_le, nat_eq, Bool, true, false, ◌&&◌, ◌||◌, Option, Some, None, List, [], ◌∷◌, refl, sym, ap, subst, ◌∙◌, arith}
+use Rattle.std.proofs.Common.{◌≡◌, ℕ, ℤ, pos, ◌+ℤ◌, ◌-ℤ◌, ◌≤ℤ◌, int_le, nat_eq, true, false, ◌&&◌, ◌||◌, Option, Some, None, List, [], ◌∷◌, sym, ap, subst, ◌∙◌, arith}
 use Rattle.std.specs.Ordering.{int_eq}
 use Rattle.std.proofs.lemmas.Int.{ints}
-use Rattle.std.proofs.lemmas.Bool.{and_parts, false≢true}
+use Rattle.std.proofs.lemmas.Bool.{and_parts, false≢true, and_from, false_from_ne_true}
 use Rattle.std.proofs.lemmas.Bool.Decides.{nat_tests}
 use Rattle.pb_text.specs.declared.place.Place.{Place}
 use Rattle.pb_affine.specs.declared.lin.Base.{Base}
@@ -17,22 +17,16 @@ use Rattle.pb_core_language.specs.Verdict.{IsIn}
 use Rattle.pb_core_flat.specs.Seated.{is_rank, is_at}
 use Rattle.pb_core_flat.specs.Meets.{is_met}
 use Rattle.pb_core_flat.proofs.Sources.{over_n_is}
-use Rattle.pb_part_takers.specs.declared.each.Over.{Over}
+use Rattle.pb_core_language.specs.declared.tree.Bounds.{Bounds}
 use Rattle.pb_local.specs.Tree.{Code}
-use Rattle.pb_shape.specs.Shape.{Scope, Here, Somebody, Nobody, One, is_end, alone}
+use Rattle.pb_shape.specs.Places.{Scope, Here, is_end}
+use Rattle.pb_shape.specs.Guards.{Somebody, Nobody, One, alone}
 use Rattle.pb_project_piece.specs.Ranked.{Ranked, IsThere}
 use Rattle.pb_project_piece.specs.Comers.{AreComers}
 use Rattle.pb_project_piece.specs.Standing.{Stands, IsHere, is_end_if}
 use Rattle.pb_project_piece.specs.Ones.{end_guard, only_when, IsOne}
 
 -- ---- numbers
-
-pub not_true : (b : Bool) → (b ≡ true → ⊥) → b ≡ false
-not_true true h = absurd (h refl)
-not_true false h = refl
-
-pub both_true : (a b : Bool) → a ≡ true → b ≡ true → a && b ≡ true
-both_true a b e f = cc
 
 pub from_zero : (range : NRange) (n : ℤ) → IsIn range n → pos 0 ≤ℤ n
 from_zero range n h = omega (arith, ints, h.low)
@@ -90,7 +84,7 @@ module _ (range : NRange) (roles : ℕ) (whole : List Area) (sc : Scope) (stands
   pub rank_is : (n : ℤ) (role : ℕ) (x : ℤ) → IsIn range n → have whole n role x ≡ is_rank sc.roles n role x
   rank_is n role x h = stands.whole_is.is n role x h
 
-  pub somewhere : (over : Option Over) (fixed areas : List Area) (h : Here) (e : CoreEnd) → IsHere over fixed sc h → is_end_if over e ≡ true → AreComers over fixed e areas → Ranked range whole areas → Somebody sc h (is_end e)
+  pub somewhere : (over : Option Bounds) (fixed areas : List Area) (h : Here) (e : CoreEnd) → IsHere over fixed sc h → is_end_if over e ≡ true → AreComers over fixed e areas → Ranked range whole areas → Somebody sc h (is_end e)
   somewhere None fixed areas h e here fair comers r =
       let k = and_parts (is_over_n e.at.base) (is_small e.at.off) fair in
       record {
@@ -118,7 +112,7 @@ module _ (range : NRange) (roles : ℕ) (whole : List Area) (sc : Scope) (stands
         is = by.is;
       }
 
-  pub nowhere : (over : Option Over) (fixed areas : List Area) (h : Here) (e : CoreEnd) → IsHere over fixed sc h → is_end_if over e ≡ true → AreComers over fixed e areas → IsThere range whole areas false → Nobody sc h (is_end e)
+  pub nowhere : (over : Option Bounds) (fixed areas : List Area) (h : Here) (e : CoreEnd) → IsHere over fixed sc h → is_end_if over e ≡ true → AreComers over fixed e areas → IsThere range whole areas false → Nobody sc h (is_end e)
   nowhere None fixed areas h e here fair comers none = λ n i role x within rank at comes.
       let k = and_parts (is_over_n e.at.base) (is_small e.at.off) fair in
       let w = inside_range n within in
@@ -127,18 +121,18 @@ module _ (range : NRange) (roles : ℕ) (whole : List Area) (sc : Scope) (stands
   nowhere (Some over) fixed areas h e here fair comers none = λ n i role x within rank at comes.
       let w = inside_range n within in
       let is = comers.is n role x (from_zero range n w) fair here.bounds in
-      not_true (is_at e n i role x) (λ k.
+      false_from_ne_true (is_at e n i role x) (λ k.
       let met = met_at e (value over.low n (pos 0)) (value over.high n (pos 0)) n i role x (sym (here.at n i) ∙ at) k in
-      false≢true (sym (none n role x w (rank_is n role x w ∙ rank)) ∙ is ∙ both_true _ _ (here.comes n i role x within rank comes) met))
+      false≢true (sym (none n role x w (rank_is n role x w ∙ rank)) ∙ is ∙ and_from _ _ (here.comes n i role x within rank comes) met))
 
   -- ---- the `If`
 
-  pub one_there : (over : Option Over) (fixed areas : List Area) (h : Here) (e : CoreEnd) (c : Code) → IsHere over fixed sc h → is_end_if over e ≡ true → AreComers over fixed e areas → Ranked range whole areas →
+  pub one_there : (over : Option Bounds) (fixed areas : List Area) (h : Here) (e : CoreEnd) (c : Code) → IsHere over fixed sc h → is_end_if over e ≡ true → AreComers over fixed e areas → Ranked range whole areas →
       IsOne sc h (is_end e) (alone c) (only_when (end_guard e ∷ []) (alone c) ∷ [])
   one_there over fixed areas h e c here fair comers r = record {
     one = λ tail. One.there (λ n i role x within rank at. guard_holds e n i role x) (somewhere over fixed areas h e here fair comers r);
   }
 
-  pub one_gone : (over : Option Over) (fixed areas : List Area) (h : Here) (e : CoreEnd) (c : Code) → IsHere over fixed sc h → is_end_if over e ≡ true → AreComers over fixed e areas → IsThere range whole areas false →
+  pub one_gone : (over : Option Bounds) (fixed areas : List Area) (h : Here) (e : CoreEnd) (c : Code) → IsHere over fixed sc h → is_end_if over e ≡ true → AreComers over fixed e areas → IsThere range whole areas false →
       IsOne sc h (is_end e) (alone c) []
   one_gone over fixed areas h e c here fair comers none = record { one = λ tail. One.gone (nowhere over fixed areas h e here fair comers none) }

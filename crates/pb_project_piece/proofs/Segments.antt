@@ -3,8 +3,9 @@ use Rattle.std.proofs.Common.{◌≡◌, ◌<◌, ◌≤◌, ◌+◌, ◌*◌, m
 use Rattle.std.specs.Ordering.{int_eq}
 use Rattle.std.proofs.lemmas.Int.{ints}
 use Rattle.std.proofs.lemmas.List.{at_drop_more}
-use Rattle.std.proofs.lemmas.Bool.{and_parts, false≢true}
+use Rattle.std.proofs.lemmas.Bool.{and_parts, false≢true, and_from, false_from_ne_true}
 use Rattle.std.proofs.lemmas.Bool.Decides.{nat_tests}
+use Rattle.std.proofs.Math.Bool.{or-false}
 use Rattle.pb_affine.specs.declared.lin.Base.TheVariants.{Var}
 use Rattle.pb_affine.specs.declared.lin.Lin.{Lin}
 use Rattle.pb_affine.specs.declared.guard.Guard.{Guard}
@@ -21,13 +22,13 @@ use Rattle.pb_core_language.specs.Plain.{Protocol}
 use Rattle.pb_core_language.specs.Sound.{Rows, rows_of, is_end, is_small, is_bound, is_item, is_stmt, is_block}
 use Rattle.pb_core_language.specs.Tree as T
 use Rattle.pb_core_language.specs.Tree.{StmtTree, BlockTree}
+use Rattle.pb_core_language.specs.declared.tree.Bounds.{Bounds}
 use Rattle.pb_core_flat.specs.Meets.{is_var, is_passed, is_met}
 use Rattle.pb_core_flat.proofs.Sources.{over_n_is}
-use Rattle.pb_part_takers.specs.declared.each.Over.{Over}
 use Rattle.pb_part_takers.specs.Sums.{IsSum}
 use Rattle.pb_part_takers.proofs.Among.{bound_parts, near}
 use Rattle.pb_part_takers.proofs.EndAreas.{sum_is}
-use Rattle.pb_part_takers.proofs.Plains.{plain_list}
+use Rattle.pb_core_language.proofs.Plains.{plain_list}
 use Rattle.pb_local.specs.declared.stmt.Stmt.{Stmt}
 use Rattle.pb_local.specs.Tree as L
 use Rattle.pb_local.specs.Tree.{Code, Codes, Program, size, size_all, plain, plain_all, codes_of}
@@ -37,7 +38,9 @@ use Rattle.pb_shape.specs.Sizes.{braces, braces_all}
 use Rattle.pb_shape.specs.Tabled.{Goes, GoAll}
 use Rattle.pb_project_piece.specs.Weights.{IsWeighed, IsSimple, IsTabledAs, AreFlat, each_room, count_in, segment_sum}
 use Rattle.pb_project_piece.proofs.Weights.{weighed_two, weighed_less, weighed_none, flat_append, peer_made, one_guard, label_below, kernel_below, kind_is}
-use Rattle.pb_shape.specs.Shape.{Scope, Here, One, is_at_offset, put, put_end, put_in, segment_code, segment_codes, in_segment, offsets, offsets_at, OfRole, Segments, peer_of}
+use Rattle.pb_shape.specs.Places.{Scope, Here, peer_of}
+use Rattle.pb_shape.specs.Guards.{One}
+use Rattle.pb_shape.specs.Segments.{is_at_offset, put, put_end, put_in, segment_code, segment_codes, in_segment, offsets, offsets_at, OfRole, Segments}
 use Rattle.pb_project_piece.specs.declared.offsets.Off.{Off}
 use Rattle.pb_project_piece.specs.Adding.{onto, Added}
 use Rattle.pb_project_piece.specs.Ranked.{Ranked, IsThere}
@@ -45,11 +48,10 @@ use Rattle.pb_project_piece.specs.Comers.{AreBounds}
 use Rattle.pb_project_piece.specs.Standing.{Stands}
 use Rattle.pb_project_piece.specs.Offsets.{off_of}
 use Rattle.pb_project_piece.specs.Ones.{only_when}
-use Rattle.pb_project_piece.specs.Segments.{bounds_of, IsCodes, IsApart, AreOthers, codes_in, IsCodesOf, IsSegmentOf, IsSegment, IsRoleSegments, AreSegments}
+use Rattle.pb_project_piece.specs.Segments.{IsCodes, IsApart, AreOthers, codes_in, IsCodesOf, IsSegmentOf, IsSegment, IsRoleSegments, AreSegments}
 use Rattle.pb_project_piece.proofs.Added.{onto_append, onto_nothing, added_one, added_none, added_as, added_two}
 use Rattle.pb_project_piece.proofs.Items.{drop_is}
-use Rattle.pb_project_piece.proofs.Ones.{not_true, both_true, from_zero, inside_range, outside_range, rank_is}
-use Rattle.pb_project_piece.proofs.StillEnds.{or_false}
+use Rattle.pb_project_piece.proofs.Ones.{from_zero, inside_range, outside_range, rank_is}
 use Rattle.pb_project_piece.proofs.Counting.{spots, sum_at_most, low_in, low_next, low_most, codes_size, codes_braces, codes_loops}
 
 -- ---- what an item is to a segment
@@ -126,8 +128,8 @@ value_moved l m c n i s bound small =
     let z = bound_parts l bound in
     ap (λ y. value y n i) (sum_is l m c s z.1 small) ∙ over_n_is (shifted l c) n i (pos 0) z.0 ∙ adding l c n
 
-pub guard_is : (k : ℕ) (c : ℤ) (over : Over) (low high : Lin) → IsSum over.low c low → IsSum over.high c high → (n i : ℤ) (role : ℕ) (x : ℤ) → AreBounds over → is_small c ≡ true →
-    holds (record { role = k; low = Some low; high = Some high; from = None; to = None }) n i role x ≡ in_segment (bounds_of over) k c n i role x
+pub guard_is : (k : ℕ) (c : ℤ) (over : Bounds) (low high : Lin) → IsSum over.low c low → IsSum over.high c high → (n i : ℤ) (role : ℕ) (x : ℤ) → AreBounds over → is_small c ≡ true →
+    holds (record { role = k; low = Some low; high = Some high; from = None; to = None }) n i role x ≡ in_segment over k c n i role x
 guard_is k c over low high sl sh n i role x bounds small =
     hold_ints k role x (value low n i) (value high n i) (value over.low n (pos 0)) (value over.high n (pos 0)) c (value_moved over.low low c n i sl bounds.0 small) (value_moved over.high high c n i sh bounds.1 small)
 
@@ -148,7 +150,7 @@ small_moved l m c s bound small =
     let z = bound_parts l bound in
     subst (λ y. IsSmall y.off) (sym (sum_is l m c s z.1 small)) (small_sum l.off c z.1 small)
 
-pub guard_is_made : (k : ℕ) (c : ℤ) (over : Over) (low high : Lin) → IsSum over.low c low → IsSum over.high c high → (l : Program) → k < length l.roles → AreBounds over → is_small c ≡ true →
+pub guard_is_made : (k : ℕ) (c : ℤ) (over : Bounds) (low high : Lin) → IsSum over.low c low → IsSum over.high c high → (l : Program) → k < length l.roles → AreBounds over → is_small c ≡ true →
     IsGuard l (record { role = k; low = Some low; high = Some high; from = None; to = None })
 guard_is_made k c over low high sl sh l within bounds small = record {
   role = within;
@@ -157,8 +159,8 @@ guard_is_made k c over low high sl sh l within bounds small = record {
   to = tt;
 }
 
-pub segment_made : (over : Over) (k : ℕ) (c : ℤ) (b : BlockTree) (g : Guard) (gs : List Guard) (first : List Stmt) (s : Stmt) → gs ≡ g ∷ [] →
-    ((n i : ℤ) (role : ℕ) (x : ℤ) → AreBounds over → is_small c ≡ true → holds g n i role x ≡ in_segment (bounds_of over) k c n i role x) →
+pub segment_made : (over : Bounds) (k : ℕ) (c : ℤ) (b : BlockTree) (g : Guard) (gs : List Guard) (first : List Stmt) (s : Stmt) → gs ≡ g ∷ [] →
+    ((n i : ℤ) (role : ℕ) (x : ℤ) → AreBounds over → is_small c ≡ true → holds g n i role x ≡ in_segment over k c n i role x) →
     ((l : Program) → k < length l.roles → AreBounds over → is_small c ≡ true → IsGuard l g) →
     IsCodesOf k c b (plain_all first) → plain s ≡ only_when gs (plain_all first) → IsSegmentOf over b k c (plain s)
 segment_made over k c b g gs first s one holding made codes is = record {
@@ -166,7 +168,7 @@ segment_made over k c b g gs first s one holding made codes is = record {
   codes = plain_all first;
   of = codes;
   is = is;
-  hold_of = λ n i role x bounds small. ap (λ l. hold l n i role x) one ∙ or_false (holds g n i role x) ∙ holding n i role x bounds small;
+  hold_of = λ n i role x bounds small. ap (λ l. hold l n i role x) one ∙ or-false (holds g n i role x) ∙ holding n i role x bounds small;
   made = λ l within bounds small. subst (AreGuards l) (sym one) (one_guard l g (made l within bounds small));
 }
 
@@ -181,7 +183,7 @@ segment_shallow c1 n codes h k e = omega (arith, h, k, e)
 segment_none : (c1 n codes : ℕ) → c1 ≡ 0 → n ≡ 0 → codes ≡ c1 + n → (codes + 0) + 0 ≡ 0
 segment_none c1 n codes h k e = omega (arith, h, k, e)
 
-segment_weighed : (over : Over) (b : BlockTree) (k : ℕ) (c : ℤ) (code : Code) → IsSegmentOf over b k c code → IsWeighed (2 + count_in k c b) 1 (code ∷ [])
+segment_weighed : (over : Bounds) (b : BlockTree) (k : ℕ) (c : ℤ) (code : Code) → IsSegmentOf over b k c code → IsWeighed (2 + count_in k c b) 1 (code ∷ [])
 segment_weighed over b k c code s =
     subst (λ z. IsWeighed (2 + count_in k c b) 1 (z ∷ [])) (sym s.is) (record {
       few = segment_few (size s.of.first) (count_in k c b) (size_all s.codes) s.of.simple.one (ap size_all s.of.is ∙ ap (λ z. size s.of.first + z) (codes_size k c b));
@@ -223,7 +225,7 @@ module _ (p : Protocol) (l : Program) (tabled : IsTabledAs p l) (k : ℕ) (c : �
       let z = and_parts (is_stmt (rows_of p) true ids s) (is_block (rows_of p) true ids rest) a.1 in
       code_made s ids (segment_codes k c rest) a.0 z.0 goes.0 (codes_made rest ids z.1 goes.1) at
 
-  segment_flat : (over : Over) (b : BlockTree) (code : Code) (ids : List ℕ) → IsSegmentOf over b k c code → k < length l.roles → AreBounds over → is_small c ≡ true → is_block (rows_of p) true ids b ≡ true → GoAll p b →
+  segment_flat : (over : Bounds) (b : BlockTree) (code : Code) (ids : List ℕ) → IsSegmentOf over b k c code → k < length l.roles → AreBounds over → is_small c ≡ true → is_block (rows_of p) true ids b ≡ true → GoAll p b →
       AreFlat l (code ∷ [])
   segment_flat over b code ids s within bounds small sound goes =
       subst (λ z. AreFlat l (z ∷ [])) (sym s.is) (
@@ -238,7 +240,7 @@ module _ (p : Protocol) (l : Program) (tabled : IsTabledAs p l) (k : ℕ) (c : �
 
 -- ---- the `If`
 
-module _ (range : NRange) (roles : ℕ) (whole : List Area) (over : Over) (less : List Area) (b : BlockTree) (k : ℕ) (c : ℤ) where
+module _ (range : NRange) (roles : ℕ) (whole : List Area) (over : Bounds) (less : List Area) (b : BlockTree) (k : ℕ) (c : ℤ) where
   pub segment_there : (areas : List Area) (t : Bool) (old new : List Stmt) (s : Stmt) → AreOthers over k c less areas → IsThere range whole areas t → t ≡ true → IsSegmentOf over b k c (plain s) → new ≡ old ++ s ∷ [] →
       Added old new (IsSegment range roles whole over less b k c)
   segment_there areas t old new s others there so made pushed =
@@ -246,9 +248,9 @@ module _ (range : NRange) (roles : ℕ) (whole : List Area) (over : Over) (less 
       added_one (IsSegment range roles whole over less b k c) old new s (plain s) pushed refl (record {
         is = λ sc h stands apart bounds small.
             let is = sym (others.is r.n r.role r.index (from_zero range r.n r.within) bounds small) ∙ r.there in
-            let who = (and_parts (in_segment (bounds_of over) k c r.n (pos 0) r.role r.index) (not (have less r.n r.role r.index)) is).0 in
+            let who = (and_parts (in_segment over k c r.n (pos 0) r.role r.index) (not (have less r.n r.role r.index)) is).0 in
             record {
-              one = λ tail. subst (λ z. One sc h (in_segment (bounds_of over) k c) (codes_in k c b) tail (L.more z tail)) (sym (made.is ∙ ap (only_when made.guards) (made.of.is ∙ ap (λ z. L.more z (segment_codes k c b)) (made.of.exact small))))
+              one = λ tail. subst (λ z. One sc h (in_segment over k c) (codes_in k c b) tail (L.more z tail)) (sym (made.is ∙ ap (only_when made.guards) (made.of.is ∙ ap (λ z. L.more z (segment_codes k c b)) (made.of.exact small))))
                   (One.there (λ n i role x within rank at. made.hold_of n i role x bounds small) (record {
                     n = r.n;
                     i = pos 0;
@@ -271,9 +273,9 @@ module _ (range : NRange) (roles : ℕ) (whole : List Area) (over : Over) (less 
         is = λ sc h stands apart bounds small. record {
           one = λ tail. One.gone (λ n i role x within rank at comes.
               let w = inside_range range roles whole sc stands n within in
-              not_true (in_segment (bounds_of over) k c n i role x) (λ met.
+              false_from_ne_true (in_segment over k c n i role x) (λ met.
               false≢true (sym (none n role x w (rank_is range roles whole sc stands n role x w ∙ rank)) ∙ others.is n role x (from_zero range n w) bounds small
-              ∙ both_true _ _ met (ap not (apart.comes n i role x within rank comes)))));
+              ∙ and_from _ _ met (ap not (apart.comes n i role x within rank comes)))));
         };
         weighed = weighed_none (2 + count_in k c b) 1;
         made = λ p l ids tabled within bounds small sound goes. tt;
@@ -291,11 +293,11 @@ if_small true a b h k = h
 if_small false a b h k = k
 
 small_in : (c : ℤ) (ds : List ℤ) → is_small c ≡ true → are_small ds ≡ true → are_small (put_in c ds) ≡ true
-small_in c [] h k = both_true _ _ h refl
+small_in c [] h k = and_from _ _ h refl
 small_in c (d ∷ ds) h k =
     let z = and_parts (is_small d) (are_small ds) k in
-    if_small (int_lt d c) (c ∷ d ∷ ds) (if int_lt c d then d ∷ put_in c ds else d ∷ ds) (both_true _ _ h k)
-    (if_small (int_lt c d) (d ∷ put_in c ds) (d ∷ ds) (both_true _ _ z.0 (small_in c ds h z.1)) k)
+    if_small (int_lt d c) (c ∷ d ∷ ds) (if int_lt c d then d ∷ put_in c ds else d ∷ ds) (and_from _ _ h k)
+    (if_small (int_lt c d) (d ∷ put_in c ds) (d ∷ ds) (and_from _ _ z.0 (small_in c ds h z.1)) k)
 
 small_end : (k : ℕ) (rows : Rows) (e : CoreEnd) (ds : List ℤ) → is_end rows true e ≡ true → are_small ds ≡ true → are_small (put_end k e ds) ≡ true
 small_end k rows e ds h s =
@@ -352,11 +354,11 @@ one_more_role a s n m h e = omega (arith, h, e)
 no_role : (a : ℕ) → a ≡ 0 → 0 ≤ 3 * a
 no_role a h = omega arith
 
-module _ (range : NRange) (roles : ℕ) (whole : List Area) (over : Over) (less : List Area) (b : BlockTree) where
+module _ (range : NRange) (roles : ℕ) (whole : List Area) (over : Bounds) (less : List Area) (b : BlockTree) where
   -- the piece has the segments of the first i offsets
   pub record OffsSoFar (k : ℕ) (offs : List Off) (i : ℕ) (piece : List Code) : Type 0 where
     pub is : (sc : Scope) (h : Here) → Stands range roles whole sc → IsApart less sc h → AreBounds over → are_small (map off_of offs) ≡ true →
-        (are_small (map off_of (drop i offs)) ≡ true) × ((tail codes : Codes) → OfRole sc h (bounds_of over) b k tail (map off_of (drop i offs)) codes → OfRole sc h (bounds_of over) b k tail (map off_of offs) (onto piece codes))
+        (are_small (map off_of (drop i offs)) ≡ true) × ((tail codes : Codes) → OfRole sc h over b k tail (map off_of (drop i offs)) codes → OfRole sc h over b k tail (map off_of offs) (onto piece codes))
     pub used : ℕ
     pub weighed : IsWeighed used 1 piece
     pub left : used + segment_sum k b (map off_of (drop i offs)) ≤ segment_sum k b (map off_of offs)
@@ -385,8 +387,8 @@ module _ (range : NRange) (roles : ℕ) (whole : List Area) (over : Over) (less 
             let parts = and_parts (is_small (get_or offs i d).off) (are_small (map off_of (drop (i + 1) offs))) (ap (λ l. are_small (map off_of l)) (sym next) ∙ z.0) in
             let segment = y.is sc h stands apart bounds parts.0 in (
               parts.1,
-              λ tail codes w. subst (OfRole sc h (bounds_of over) b k tail (map off_of offs)) (sym (onto_append p q codes))
-                  (z.1 tail (onto q codes) (subst (λ l. OfRole sc h (bounds_of over) b k tail (map off_of l) (onto q codes)) (sym next) (OfRole.segment (segment.one codes) w))),
+              λ tail codes w. subst (OfRole sc h over b k tail (map off_of offs)) (sym (onto_append p q codes))
+                  (z.1 tail (onto q codes) (subst (λ l. OfRole sc h over b k tail (map off_of l) (onto q codes)) (sym next) (OfRole.segment (segment.one codes) w))),
             );
         used = x.used + (2 + count_in k (get_or offs i d).off b);
         weighed = weighed_two x.used (2 + count_in k (get_or offs i d).off b) 1 p q x.weighed y.weighed;
@@ -403,7 +405,7 @@ module _ (range : NRange) (roles : ℕ) (whole : List Area) (over : Over) (less 
       (λ p x. record {
         is = λ sc h rows ids stands apart bounds sound tail.
             let z = x.is sc h stands apart bounds (ap are_small all ∙ small_offsets k rows ids b sound) in
-            subst (λ l. OfRole sc h (bounds_of over) b k tail l (onto p tail)) all (z.1 tail tail (subst (λ l. OfRole sc h (bounds_of over) b k tail (map off_of l) tail) (sym (drop_of_length-le offs le)) OfRole.none));
+            subst (λ l. OfRole sc h over b k tail l (onto p tail)) all (z.1 tail tail (subst (λ l. OfRole sc h over b k tail (map off_of l) tail) (sym (drop_of_length-le offs le)) OfRole.none));
         weighed = subst (λ l. IsWeighed (segment_sum k b l) 1 p) all
             (weighed_less x.used (segment_sum k b (map off_of offs)) 1 1 p (left_over_is x.used (segment_sum k b (map off_of (drop i offs))) (segment_sum k b (map off_of offs)) x.left) one_one x.weighed);
         made = λ pr l ids tabled within bounds sound goes. (x.made pr l ids tabled within bounds sound goes (ap are_small all ∙ small_offsets k (rows_of pr) ids b sound)).0;
@@ -412,7 +414,7 @@ module _ (range : NRange) (roles : ℕ) (whole : List Area) (over : Over) (less 
   -- the piece has the segments of the first k roles
   pub record RolesSoFar (k : ℕ) (piece : List Code) : Type 0 where
     pub is : (sc : Scope) (h : Here) (rows : Rows) (ids : List ℕ) → Stands range roles whole sc → IsApart less sc h → AreBounds over → is_block rows true ids b ≡ true →
-        (tail codes : Codes) → Segments sc h (bounds_of over) b tail k (drop k sc.roles) codes → Segments sc h (bounds_of over) b tail 0 sc.roles (onto piece codes)
+        (tail codes : Codes) → Segments sc h over b tail k (drop k sc.roles) codes → Segments sc h over b tail 0 sc.roles (onto piece codes)
     pub weighed : IsWeighed (3 * low_in k b) 1 piece
     pub made : (p : Protocol) (l : Program) (ids : List ℕ) → IsTabledAs p l → roles ≡ length l.roles → AreBounds over → is_block (rows_of p) true ids b ≡ true → GoAll p b → AreFlat l piece
 
@@ -423,13 +425,13 @@ module _ (range : NRange) (roles : ℕ) (whole : List Area) (over : Over) (less 
     made = λ p l ids tabled same bounds sound goes. tt;
   })
 
-  some_role : (sc : Scope) (h : Here) (tail now codes : Codes) (k : ℕ) (all rest : List CoreRole) → OfRole sc h (bounds_of over) b k codes (offsets k b) now →
-      Segments sc h (bounds_of over) b tail (suc k) rest codes → IsMore all rest → Segments sc h (bounds_of over) b tail k all now
-  some_role sc h tail now codes k all rest first later left = subst (λ l. Segments sc h (bounds_of over) b tail k l now) (sym left.is) (Segments.of_role first later)
+  some_role : (sc : Scope) (h : Here) (tail now codes : Codes) (k : ℕ) (all rest : List CoreRole) → OfRole sc h over b k codes (offsets k b) now →
+      Segments sc h over b tail (suc k) rest codes → IsMore all rest → Segments sc h over b tail k all now
+  some_role sc h tail now codes k all rest first later left = subst (λ l. Segments sc h over b tail k l now) (sym left.is) (Segments.of_role first later)
 
   -- the segments of role k, and those of the roles after it
-  roles_next : (sc : Scope) (h : Here) (tail now codes : Codes) (k : ℕ) → k < length sc.roles → OfRole sc h (bounds_of over) b k codes (offsets k b) now →
-      Segments sc h (bounds_of over) b tail (suc k) (drop (k + 1) sc.roles) codes → Segments sc h (bounds_of over) b tail k (drop k sc.roles) now
+  roles_next : (sc : Scope) (h : Here) (tail now codes : Codes) (k : ℕ) → k < length sc.roles → OfRole sc h over b k codes (offsets k b) now →
+      Segments sc h over b tail (suc k) (drop (k + 1) sc.roles) codes → Segments sc h over b tail k (drop k sc.roles) now
   roles_next sc h tail now codes k lt first rest = some_role sc h tail now codes k (drop k sc.roles) (drop (k + 1) sc.roles) first rest (left_over sc.roles k lt)
 
   one_more : (k : ℕ) → k + 1 ≡ suc k
@@ -441,9 +443,9 @@ module _ (range : NRange) (roles : ℕ) (whole : List Area) (over : Over) (less 
       (λ p q x y. record {
         is = λ sc h rows ids stands apart bounds sound tail codes z.
             let within : k < length sc.roles = subst (λ m. k < m) stands.roles_is lt in
-            subst (Segments sc h (bounds_of over) b tail 0 sc.roles) (sym (onto_append p q codes))
+            subst (Segments sc h over b tail 0 sc.roles) (sym (onto_append p q codes))
             (x.is sc h rows ids stands apart bounds sound tail (onto q codes)
-            (roles_next sc h tail (onto q codes) codes k within (y.is sc h rows ids stands apart bounds sound codes) (subst (λ m. Segments sc h (bounds_of over) b tail m (drop (k + 1) sc.roles) codes) (one_more k) z)));
+            (roles_next sc h tail (onto q codes) codes k within (y.is sc h rows ids stands apart bounds sound codes) (subst (λ m. Segments sc h over b tail m (drop (k + 1) sc.roles) codes) (one_more k) z)));
         weighed = weighed_less (3 * low_in k b + segment_sum k b (offsets k b)) (3 * low_in (k + 1) b) 1 1 (p ++ q)
             (one_more_role (low_in k b) (segment_sum k b (offsets k b)) (length (spots k b)) (low_in (k + 1) b) (sum_at_most k b) (low_next k b)) one_one
             (weighed_two (3 * low_in k b) (segment_sum k b (offsets k b)) 1 p q x.weighed y.weighed);
@@ -456,7 +458,7 @@ module _ (range : NRange) (roles : ℕ) (whole : List Area) (over : Over) (less 
       (λ p x. record {
         are = λ sc h rows ids stands apart bounds sound tail.
             x.is sc h rows ids stands apart bounds sound tail tail
-            (subst (λ l. Segments sc h (bounds_of over) b tail k l tail) (sym (drop_of_length-le sc.roles (subst (λ m. m ≤ k) stands.roles_is le))) Segments.none);
+            (subst (λ l. Segments sc h over b tail k l tail) (sym (drop_of_length-le sc.roles (subst (λ m. m ≤ k) stands.roles_is le))) Segments.none);
         weighed = weighed_less (3 * low_in k b) (each_room 6 b) 1 1 p (low_most k b) one_one x.weighed;
         made = x.made;
       }) a

@@ -2,7 +2,8 @@
 use Rattle.std.proofs.Common.{◌≡◌, ◌<◌, ◌≤◌, ◌+◌, ℕ, ℤ, pos, ◌≤ℤ◌, nat_eq, nat_lt, Bool, true, false, ◌&&◌, ◌||◌, not, List, [], ◌∷◌, ◌++◌, map, drop, get_or, length, refl, sym, ap, ◌∙◌, subst, drop_of_length-le}
 use Rattle.std.specs.Ordering.{int_eq}
 use Rattle.std.proofs.lemmas.List.{at_drop_more}
-use Rattle.std.proofs.lemmas.Bool.{and_parts, false≢true}
+use Rattle.std.proofs.lemmas.Bool.{and_parts, false≢true, and_from, not-true, or_left, or_right}
+use Rattle.std.proofs.Math.Bool.{or-false, or_assoc}
 use Rattle.pb_text.specs.declared.place.Place.{Place}
 use Rattle.pb_affine.specs.declared.lin.Base.{Base}
 use Rattle.pb_affine.specs.declared.lin.Base.TheVariants.{Fixed, Param, Var}
@@ -19,8 +20,8 @@ use Rattle.pb_core_language.specs.Tree.{StmtTree, BlockTree}
 use Rattle.pb_core_flat.specs.Seated.{is_at}
 use Rattle.pb_core_flat.specs.Meets.{is_moving}
 use Rattle.pb_part_takers.specs.Ends.{IsEndArea}
-use Rattle.pb_part_takers.proofs.Plains.{plain_list}
-use Rattle.pb_shape.specs.Shape.{is_fixed, is_fixed_at, fixed_in}
+use Rattle.pb_core_language.proofs.Plains.{plain_list}
+use Rattle.pb_shape.specs.Pieces.{is_fixed, is_fixed_at, fixed_in}
 use Rattle.pb_project_piece.specs.Fixed.{at_some, is_fair_item, are_fair_items, AreFairEnds, AddsEnds, Knows, AreFixed, AreAreas}
 use Rattle.pb_project_piece.specs.Ones.{end_guard}
 use Rattle.pb_project_piece.proofs.Items.{drop_is}
@@ -28,25 +29,10 @@ use Rattle.pb_project_piece.proofs.Ones.{guard_holds}
 
 -- ---- tests
 
-or_true : (a b : Bool) → b ≡ true → a || b ≡ true
-or_true true b h = refl
-or_true false b h = h
-
-or_left : (a b : Bool) → a ≡ true → a || b ≡ true
-or_left a b h = ap (λ z. z || b) h
-
 absorbs : (a t : Bool) → (t ≡ true → a ≡ true) → a ≡ a || t
 absorbs true t h = refl
 absorbs false true h = h refl
 absorbs false false h = refl
-
-pub or_assoc : (a b c : Bool) → (a || b) || c ≡ a || (b || c)
-or_assoc true b c = refl
-or_assoc false b c = refl
-
-pub or_false : (a : Bool) → a || false ≡ a
-or_false true = refl
-or_false false = refl
 
 -- ---- one end
 
@@ -59,12 +45,8 @@ fixed_by r Var c p n i role x h = absurd (false≢true (sym h))
 pub fixed_is : (e : CoreEnd) (n i : ℤ) (role : ℕ) (x : ℤ) → is_moving e ≡ false → is_at e n i role x ≡ is_fixed e n role x
 fixed_is e n i role x h = fixed_by e.role e.at.base e.at.off e.place n i role x h
 
-not_moving : (b : Bool) → not b ≡ true → b ≡ false
-not_moving true h = sym h
-not_moving false h = refl
-
 pub fixed_at : (e : CoreEnd) (n i : ℤ) (role : ℕ) (x : ℤ) → is_fixed e n role x ≡ true → is_at e n i role x ≡ true
-fixed_at e n i role x h = fixed_is e n i role x (not_moving (is_moving e) (and_parts (not (is_moving e)) (is_at e n (pos 0) role x) h).0) ∙ h
+fixed_at e n i role x h = fixed_is e n i role x (not-true (is_moving e) (and_parts (not (is_moving e)) (is_at e n (pos 0) role x) h).0) ∙ h
 
 -- what is known of an end that was found
 pub record Passed (ends : List CoreEnd) (k : ℕ) : Type 0 where
@@ -72,7 +54,7 @@ pub record Passed (ends : List CoreEnd) (k : ℕ) : Type 0 where
 
 pub passed_step : (ends : List CoreEnd) (k : ℕ) (d : CoreEnd) → k < length ends → Passed ends k → Passed ends (k + 1)
 passed_step ends k d lt so_far = record {
-  is = λ n i role x h. so_far.is n i role x (at_drop_more (λ l. at_some l n i role x) ends k d lt ∙ or_true (is_at (get_or ends k d) n i role x) (at_some (drop (k + 1) ends) n i role x) h);
+  is = λ n i role x h. so_far.is n i role x (at_drop_more (λ l. at_some l n i role x) ends k d lt ∙ or_right (is_at (get_or ends k d) n i role x) (at_some (drop (k + 1) ends) n i role x) h);
 }
 
 pub found_knows : (ends : List CoreEnd) (k : ℕ) (e end : CoreEnd) → k < length ends → e ≡ get_or ends k e → Passed ends k → e.role ≡ end.role → e.at ≡ end.at → Knows ends end true
@@ -102,7 +84,7 @@ end_pushed ends new e t h is pushed =
     record {
       is = λ n i role x.
           ap (λ l. at_some l n i role x) pushed ∙ at_append ends (e ∷ []) n i role x
-          ∙ ap (λ z. at_some ends n i role x || z) (or_false (is_at e n i role x) ∙ fixed_is e n i role x k);
+          ∙ ap (λ z. at_some ends n i role x || z) (or-false (is_at e n i role x) ∙ fixed_is e n i role x k);
       sound = λ rows a b. subst (AreFairEnds rows) (sym pushed) (fair_append rows ends e b a);
     }
 
@@ -113,7 +95,7 @@ two_ends p q f g old mid new a b = record {
 }
 
 pub none_added : (p : Rows → Bool) (ends : List CoreEnd) → AddsEnds p (λ n role x. false) ends ends
-none_added p ends = record { is = λ n i role x. sym (or_false (at_some ends n i role x)); sound = λ rows h k. k }
+none_added p ends = record { is = λ n i role x. sym (or-false (at_some ends n i role x)); sound = λ rows h k. k }
 
 -- ---- the ends of a block
 
@@ -146,7 +128,7 @@ pub ends_done : (b : CoreBlock) (items : List CoreStmt) (k : ℕ) (ends : List C
 ends_done b items k ends same le so_far =
     subst (λ z. AreFixed z ends) (ap (λ l. block_of (map plain_stmt l)) same ∙ sym (plain_list b)) (record {
       is = λ n i role x.
-          sym (or_false (at_some ends n i role x)) ∙ ap (λ l. at_some ends n i role x || fixed_in (block_of (map plain_stmt l)) n role x) (sym (drop_of_length-le items le)) ∙ so_far.is n i role x;
+          sym (or-false (at_some ends n i role x)) ∙ ap (λ l. at_some ends n i role x || fixed_in (block_of (map plain_stmt l)) n role x) (sym (drop_of_length-le items le)) ∙ so_far.is n i role x;
       sound = λ rows h. (so_far.sound rows h).0;
     })
 
@@ -154,7 +136,7 @@ ends_done b items k ends same le so_far =
 
 pub guards_hold : (ends : List CoreEnd) (n i : ℤ) (role : ℕ) (x : ℤ) → hold (map end_guard ends) n i role x ≡ at_some ends n i role x
 guards_hold [] n i role x = refl
-guards_hold (e ∷ es) n i role x = ap (λ z. z || hold (map end_guard es) n i role x) (sym (or_false (holds (end_guard e) n i role x)) ∙ guard_holds e n i role x) ∙ ap (λ z. is_at e n i role x || z) (guards_hold es n i role x)
+guards_hold (e ∷ es) n i role x = ap (λ z. z || hold (map end_guard es) n i role x) (sym (or-false (holds (end_guard e) n i role x)) ∙ guard_holds e n i role x) ∙ ap (λ z. is_at e n i role x || z) (guards_hold es n i role x)
 
 pub record AreasSoFar (ends : List CoreEnd) (k : ℕ) (areas : List Area) : Type 0 where
   pub is : (rows : Rows) (n : ℤ) (role : ℕ) (x : ℤ) → AreFairEnds rows ends → pos 0 ≤ℤ n → have areas n role x || at_some (drop k ends) n (pos 0) role x ≡ at_some ends n (pos 0) role x
@@ -181,7 +163,7 @@ areas_step ends k d a old new lt area added so_far =
 pub areas_done : (ends : List CoreEnd) (k : ℕ) (areas : List Area) → length ends ≤ k → AreasSoFar ends k areas → AreAreas ends areas
 areas_done ends k areas le so_far = record {
   is = λ rows n role x fair h.
-      sym (or_false (have areas n role x)) ∙ ap (λ l. have areas n role x || at_some l n (pos 0) role x) (sym (drop_of_length-le ends le)) ∙ so_far.is rows n role x fair h;
+      sym (or-false (have areas n role x)) ∙ ap (λ l. have areas n role x || at_some l n (pos 0) role x) (sym (drop_of_length-le ends le)) ∙ so_far.is rows n role x fair h;
 }
 
 -- ---- items of a sound foreach
@@ -198,12 +180,9 @@ fair_item rows ids (T.broadcast l root) h k = refl
 fair_item rows ids (T.reduce l op root) h k = refl
 fair_item rows ids (T.allreduce l op) h k = refl
 
-both_fair : (a b : Bool) → a ≡ true → b ≡ true → a && b ≡ true
-both_fair a b e f = cc
-
 pub fair_items : (rows : Rows) (ids : List ℕ) (b : BlockTree) → is_block rows true ids b ≡ true → are_fair_items rows b ≡ true
 fair_items rows ids T.nothing h = refl
 fair_items rows ids (T.more m s rest) h =
     let a = and_parts (is_item s) (is_stmt rows true ids s && is_block rows true ids rest) h in
     let z = and_parts (is_stmt rows true ids s) (is_block rows true ids rest) a.1 in
-    both_fair _ _ (fair_item rows ids s a.0 z.0) (fair_items rows ids rest z.1)
+    and_from _ _ (fair_item rows ids s a.0 z.0) (fair_items rows ids rest z.1)

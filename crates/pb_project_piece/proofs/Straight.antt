@@ -9,7 +9,7 @@ use Rattle.pb_core_language.specs.Plain.{Protocol}
 use Rattle.pb_core_language.specs.Sound.{rows_of, is_end, is_bound, is_item, is_stmt, is_block}
 use Rattle.pb_core_language.specs.Tree as T
 use Rattle.pb_core_language.specs.Tree.{Mark, StmtTree, BlockTree}
-use Rattle.pb_part_takers.specs.declared.each.Over.{Over}
+use Rattle.pb_core_language.specs.declared.tree.Bounds.{Bounds}
 use Rattle.pb_local.specs.declared.stmt.Stmt.{Stmt}
 use Rattle.pb_local.specs.Tree.{Code, Codes, Program, size_all, plain}
 use Rattle.pb_local.specs.Tables.{label_at}
@@ -19,10 +19,10 @@ use Rattle.pb_shape.specs.Tabled as P
 use Rattle.pb_shape.specs.Tabled.{Goes}
 use Rattle.pb_project_piece.specs.Weights.{sizes, depths, loop_count, AreFlat, IsWeighed, IsTabledAs, item_room}
 use Rattle.pb_project_piece.proofs.Weights.{weighed_less, weighed_none, sizes_onto, loops_onto, braces_onto, made_onto, peer_made, weaker_end, label_below}
-use Rattle.pb_shape.specs.Shape.{Scope, Here, Piece}
+use Rattle.pb_shape.specs.Places.{Scope, Here}
+use Rattle.pb_shape.specs.Pieces.{Piece}
 use Rattle.pb_project_piece.specs.Adding.{onto, Added}
 use Rattle.pb_project_piece.specs.Ones.{IsItemOf}
-use Rattle.pb_project_piece.specs.Segments.{bounds_of}
 use Rattle.pb_project_piece.specs.Looping.{IsForEach}
 use Rattle.pb_project_piece.specs.Pieces.{is_straight, is_collective, code_of, IsPieceOf, IsCodeOf, IsCollective}
 use Rattle.pb_project_piece.proofs.Added.{added_one, added_none, added_as}
@@ -130,8 +130,8 @@ module _ (range : NRange) (roles : ℕ) (whole : List Area) where
         braces = weighed_braces (room s) (2 * depth s + 1) p (weighed_less (item_room s) (room s) 1 (2 * depth s + 1) p (item_room_is s item).0 (item_room_is s item).1 z.weighed);
       }) a
 
-  pub each_piece : (over : Over) (m : Mark) (b : BlockTree) (old new : List Stmt) → Added old new (IsForEach range roles whole over b) → Added old new (IsPieceOf range roles whole (T.foreach (bounds_of over) m b))
-  each_piece over m b old new a = added_as (IsForEach range roles whole over b) (IsPieceOf range roles whole (T.foreach (bounds_of over) m b)) old new
+  pub each_piece : (over : Bounds) (m : Mark) (b : BlockTree) (old new : List Stmt) → Added old new (IsForEach range roles whole over b) → Added old new (IsPieceOf range roles whole (T.foreach over m b))
+  each_piece over m b old new a = added_as (IsForEach range roles whole over b) (IsPieceOf range roles whole (T.foreach over m b)) old new
       (λ p z. record {
         is = λ sc h rows ids stands open_here sound straight tail.
             let x = and_parts (is_bound over.low) (is_bound over.high && is_block rows true ids b) sound in

@@ -2,7 +2,7 @@
 use Rattle.std.proofs.Common.{◌≡◌, ◌<◌, ◌≤◌, ◌+◌, ℕ, suc, ℤ, pos, negsuc, ◌≤ℤ◌, nat_lt, Bool, true, false, ◌&&◌, List, [], ◌∷◌, ◌++◌, length, get_or, max, refl, sym, ap, ◌∙◌, subst, arith}
 use Rattle.std.proofs.lemmas.Int.{ints}
 use Rattle.std.proofs.lemmas.List.Elements.{All-cons, All-nil}
-use Rattle.std.proofs.lemmas.Bool.{and_parts}
+use Rattle.std.proofs.lemmas.Bool.{and_parts, and_from}
 use Rattle.std.proofs.lemmas.Bool.Decides.{nat_tests}
 use Rattle.pb_affine.specs.declared.guard.Guard.{Guard}
 use Rattle.pb_affine.specs.Values.{IsSmall}
@@ -22,7 +22,8 @@ use Rattle.pb_local.specs.Tree.{Code, Codes, Program, size, size_all}
 use Rattle.pb_local.specs.WellMade as W
 use Rattle.pb_local.specs.WellMade.{IsMade, AreMade, IsGuard, AreGuards, IsPeer, behind, loops_at, loops_in}
 use Rattle.pb_shape.specs.Sizes.{braces, braces_all}
-use Rattle.pb_shape.specs.Shape.{peer_of, alone}
+use Rattle.pb_shape.specs.Places.{peer_of}
+use Rattle.pb_shape.specs.Guards.{alone}
 use Rattle.pb_project_piece.specs.Adding.{onto}
 use Rattle.pb_project_piece.specs.Weights.{sizes, depths, loop_count, AreFlat, IsWeighed, AreWeighed, IsSimple, IsTabledAs, each_room}
 use Rattle.pb_project_piece.specs.Ones.{end_guard, only_when}
@@ -156,14 +157,11 @@ one_weighed gs c simple = record { few = if_few (size c) simple.one; shallow = i
 pub one_flat : (l : Program) (gs : List Guard) (c : Code) → AreGuards l gs → ((at : W.Scope) → IsMade l at c) → AreFlat l (only_when gs (alone c) ∷ [])
 one_flat l gs c guards made = (λ at. (guards, (made at, tt), tt), tt)
 
-join : (a b : Bool) → a ≡ true → b ≡ true → a && b ≡ true
-join a b e f = cc
-
 pub weaker_end : (rows : Rows) (varies : Bool) (e : CoreEnd) → is_end rows varies e ≡ true → is_end rows true e ≡ true
 weaker_end rows true e h = h
 weaker_end rows false e h =
     let z = and_parts (nat_lt e.role rows.roles) (is_over_n e.at.base && is_small e.at.off) h in
-    join (nat_lt e.role rows.roles) (is_small e.at.off) z.0 (and_parts (is_over_n e.at.base) (is_small e.at.off) z.1).1
+    and_from (nat_lt e.role rows.roles) (is_small e.at.off) z.0 (and_parts (is_over_n e.at.base) (is_small e.at.off) z.1).1
 
 -- ---- a block, an item at a time
 

@@ -7,7 +7,7 @@ use Rattle.pb_core_language.specs.Sound.{Rows, is_end}
 use Rattle.pb_core_language.specs.Tree.{StmtTree, message, foreach, loop, again, choice, run, barrier, broadcast, reduce, allreduce, BlockTree, nothing, more}
 use Rattle.pb_core_flat.specs.Seated.{is_at}
 use Rattle.pb_core_flat.specs.Meets.{is_moving}
-use Rattle.pb_shape.specs.Shape.{is_fixed, fixed_in}
+use Rattle.pb_shape.specs.Pieces.{is_fixed, fixed_in}
 
 -- the rank is at one of these ends
 abbrev pub at_some : List CoreEnd → ℤ → ℤ → ℕ → ℤ → Bool

@@ -12,7 +12,8 @@ use Rattle.pb_local.specs.WellMade.{AreMade, loops_in}
 use Rattle.pb_shape.specs.Sizes.{room, depth, braces_all}
 use Rattle.pb_shape.specs.Tabled.{Goes}
 pub use Rattle.pb_project_piece.specs.Weights.{IsTabledAs}
-use Rattle.pb_shape.specs.Shape.{Scope, Here, Piece, peer_of}
+use Rattle.pb_shape.specs.Places.{Scope, Here, peer_of}
+use Rattle.pb_shape.specs.Pieces.{Piece}
 use Rattle.pb_project_piece.specs.Adding.{onto}
 use Rattle.pb_project_piece.specs.Standing.{Stands, IsOpen}
 

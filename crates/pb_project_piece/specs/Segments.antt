@@ -7,23 +7,21 @@ use Rattle.pb_part_areas.specs.declared.area.Area.{Area}
 use Rattle.pb_part_areas.specs.Areas.{have}
 use Rattle.pb_core_language.specs.Plain.{Protocol}
 use Rattle.pb_core_language.specs.Sound.{Rows, rows_of, is_small, is_block}
-use Rattle.pb_core_language.specs.Tree.{Bounds, BlockTree}
+use Rattle.pb_core_language.specs.Tree.{BlockTree}
+use Rattle.pb_core_language.specs.declared.tree.Bounds.{Bounds}
 use Rattle.pb_core_language.specs.Verdict.{IsIn}
 use Rattle.pb_core_flat.specs.Seated.{is_rank}
-use Rattle.pb_part_takers.specs.declared.each.Over.{Over}
 use Rattle.pb_local.specs.Tree as L
 use Rattle.pb_local.specs.Tree.{Code, Codes, Program}
 use Rattle.pb_local.specs.WellMade.{AreGuards}
 use Rattle.pb_shape.specs.Tabled.{GoAll}
-use Rattle.pb_shape.specs.Shape.{Scope, Here, in_segment, segment_codes, offsets, OfRole, Segments}
+use Rattle.pb_shape.specs.Places.{Scope, Here}
+use Rattle.pb_shape.specs.Segments.{in_segment, segment_codes, offsets, OfRole, Segments}
 use Rattle.pb_project_piece.specs.Adding.{onto}
 use Rattle.pb_project_piece.specs.Weights.{IsWeighed, IsSimple, IsTabledAs, AreFlat, each_room, count_in, segment_sum}
 use Rattle.pb_project_piece.specs.Comers.{AreBounds}
 use Rattle.pb_project_piece.specs.Standing.{Stands}
 use Rattle.pb_project_piece.specs.Ones.{IsOne}
-
-abbrev pub bounds_of : Over → Bounds
-bounds_of over = record { low = over.low; high = over.high }
 
 -- the piece before a rest is what these codes are before it
 pub record IsCodes (codes : Codes → Codes) (piece : List Code) : Type 0 where
@@ -35,8 +33,8 @@ pub record IsApart (less : List Area) (sc : Scope) (h : Here) : Type 0 where
   pub comes : (n i : ℤ) (role : ℕ) (x : ℤ) → IsIn sc.range n → is_rank sc.roles n role x ≡ true → h.comes n i role x ≡ true → have less n role x ≡ false
 
 -- the areas are of the ranks of a segment that aren't among others
-pub record AreOthers (over : Over) (k : ℕ) (c : ℤ) (less areas : List Area) : Type 0 where
-  pub is : (n : ℤ) (role : ℕ) (x : ℤ) → pos 0 ≤ℤ n → AreBounds over → is_small c ≡ true → have areas n role x ≡ in_segment (bounds_of over) k c n (pos 0) role x && not (have less n role x)
+pub record AreOthers (over : Bounds) (k : ℕ) (c : ℤ) (less areas : List Area) : Type 0 where
+  pub is : (n : ℤ) (role : ℕ) (x : ℤ) → pos 0 ≤ℤ n → AreBounds over → is_small c ≡ true → have areas n role x ≡ in_segment over k c n (pos 0) role x && not (have less n role x)
 
 abbrev pub codes_in : ℕ → ℤ → BlockTree → Codes
 codes_in k c b = L.more (L.own (pos 0 -ℤ c)) (segment_codes k c b)
@@ -49,30 +47,30 @@ pub record IsCodesOf (k : ℕ) (c : ℤ) (b : BlockTree) (codes : Codes) : Type 
   pub is : codes ≡ L.more first (segment_codes k c b)
 
 -- the statement is an `If` of a segment's ranks, with what they do
-pub record IsSegmentOf (over : Over) (b : BlockTree) (k : ℕ) (c : ℤ) (code : Code) : Type 0 where
+pub record IsSegmentOf (over : Bounds) (b : BlockTree) (k : ℕ) (c : ℤ) (code : Code) : Type 0 where
   pub guards : List Guard
   pub codes : Codes
   pub of : IsCodesOf k c b codes
   pub is : code ≡ L.when guards codes L.nothing
-  pub hold_of : (n i : ℤ) (role : ℕ) (x : ℤ) → AreBounds over → is_small c ≡ true → hold guards n i role x ≡ in_segment (bounds_of over) k c n i role x
+  pub hold_of : (n i : ℤ) (role : ℕ) (x : ℤ) → AreBounds over → is_small c ≡ true → hold guards n i role x ≡ in_segment over k c n i role x
   pub made : (l : Program) → k < length l.roles → AreBounds over → is_small c ≡ true → AreGuards l guards
 
 -- the piece is a segment
-pub record IsSegment (range : NRange) (roles : ℕ) (whole : List Area) (over : Over) (less : List Area) (b : BlockTree) (k : ℕ) (c : ℤ) (piece : List Code) : Type 0 where
-  pub is : (sc : Scope) (h : Here) → Stands range roles whole sc → IsApart less sc h → AreBounds over → is_small c ≡ true → IsOne sc h (in_segment (bounds_of over) k c) (codes_in k c b) piece
+pub record IsSegment (range : NRange) (roles : ℕ) (whole : List Area) (over : Bounds) (less : List Area) (b : BlockTree) (k : ℕ) (c : ℤ) (piece : List Code) : Type 0 where
+  pub is : (sc : Scope) (h : Here) → Stands range roles whole sc → IsApart less sc h → AreBounds over → is_small c ≡ true → IsOne sc h (in_segment over k c) (codes_in k c b) piece
   pub weighed : IsWeighed (2 + count_in k c b) 1 piece
   pub made : (p : Protocol) (l : Program) (ids : List ℕ) → IsTabledAs p l → k < length l.roles → AreBounds over → is_small c ≡ true → is_block (rows_of p) true ids b ≡ true → GoAll p b → AreFlat l piece
 
 -- the piece is a role's segments
-pub record IsRoleSegments (range : NRange) (roles : ℕ) (whole : List Area) (over : Over) (less : List Area) (b : BlockTree) (k : ℕ) (piece : List Code) : Type 0 where
+pub record IsRoleSegments (range : NRange) (roles : ℕ) (whole : List Area) (over : Bounds) (less : List Area) (b : BlockTree) (k : ℕ) (piece : List Code) : Type 0 where
   pub is : (sc : Scope) (h : Here) (rows : Rows) (ids : List ℕ) → Stands range roles whole sc → IsApart less sc h → AreBounds over → is_block rows true ids b ≡ true →
-      (tail : Codes) → OfRole sc h (bounds_of over) b k tail (offsets k b) (onto piece tail)
+      (tail : Codes) → OfRole sc h over b k tail (offsets k b) (onto piece tail)
   pub weighed : IsWeighed (segment_sum k b (offsets k b)) 1 piece
   pub made : (p : Protocol) (l : Program) (ids : List ℕ) → IsTabledAs p l → k < length l.roles → AreBounds over → is_block (rows_of p) true ids b ≡ true → GoAll p b → AreFlat l piece
 
 -- the piece is all segments
-pub record AreSegments (range : NRange) (roles : ℕ) (whole : List Area) (over : Over) (less : List Area) (b : BlockTree) (piece : List Code) : Type 0 where
+pub record AreSegments (range : NRange) (roles : ℕ) (whole : List Area) (over : Bounds) (less : List Area) (b : BlockTree) (piece : List Code) : Type 0 where
   pub are : (sc : Scope) (h : Here) (rows : Rows) (ids : List ℕ) → Stands range roles whole sc → IsApart less sc h → AreBounds over → is_block rows true ids b ≡ true →
-      (tail : Codes) → Segments sc h (bounds_of over) b tail 0 sc.roles (onto piece tail)
+      (tail : Codes) → Segments sc h over b tail 0 sc.roles (onto piece tail)
   pub weighed : IsWeighed (each_room 6 b) 1 piece
   pub made : (p : Protocol) (l : Program) (ids : List ℕ) → IsTabledAs p l → roles ≡ length l.roles → AreBounds over → is_block (rows_of p) true ids b ≡ true → GoAll p b → AreFlat l piece

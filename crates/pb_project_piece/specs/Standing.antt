@@ -8,9 +8,9 @@ use Rattle.pb_core_language.specs.declared.tree.CoreEnd.{CoreEnd}
 use Rattle.pb_core_language.specs.Sound.{is_small, is_over_n}
 use Rattle.pb_core_language.specs.Verdict.{IsIn}
 use Rattle.pb_core_flat.specs.Seated.{is_rank}
-use Rattle.pb_part_takers.specs.declared.each.Over.{Over}
+use Rattle.pb_core_language.specs.declared.tree.Bounds.{Bounds}
 use Rattle.pb_part_firsts.specs.Takers.{IsWhole}
-use Rattle.pb_shape.specs.Shape.{Scope, Here}
+use Rattle.pb_shape.specs.Places.{Scope, Here}
 use Rattle.pb_project_piece.specs.Comers.{AreBounds}
 
 -- the range of N, how many roles there are, and the areas of all ranks
@@ -24,20 +24,20 @@ pub record IsOpen (h : Here) : Type 0 where
   pub at : (n i : ℤ) → h.at n i ≡ true
 
 -- within the loop of those at ends without the variable
-pub record IsEach (over : Over) (fixed : List Area) (sc : Scope) (h : Here) : Type 0 where
+pub record IsEach (over : Bounds) (fixed : List Area) (sc : Scope) (h : Here) : Type 0 where
   pub bounds : AreBounds over
   pub at : (n i : ℤ) → h.at n i ≡ int_le (value over.low n (pos 0)) i && int_le i (value over.high n (pos 0))
   pub comes : (n i : ℤ) (role : ℕ) (x : ℤ) → IsIn sc.range n → is_rank sc.roles n role x ≡ true → h.comes n i role x ≡ true → have fixed n role x ≡ true
 
-abbrev pub IsHere : Option Over → List Area → Scope → Here → Type 0
+abbrev pub IsHere : Option Bounds → List Area → Scope → Here → Type 0
 IsHere None fixed sc h = IsOpen h
 IsHere (Some over) fixed sc h = IsEach over fixed sc h
 
 -- an end of a statement there
-abbrev pub is_end_if : Option Over → CoreEnd → Bool
+abbrev pub is_end_if : Option Bounds → CoreEnd → Bool
 is_end_if None e = is_over_n e.at.base && is_small e.at.off
 is_end_if (Some over) e = is_small e.at.off
 
-abbrev pub varies : Option Over → Bool
+abbrev pub varies : Option Bounds → Bool
 varies None = false
 varies (Some over) = true

@@ -7,7 +7,7 @@ use Rattle.pb_local.specs.Tree.{Code, Codes, Program, size, size_all}
 use Rattle.pb_local.specs.WellMade as W
 use Rattle.pb_local.specs.WellMade.{IsMade, AreMade, loops_at, loops_in}
 use Rattle.pb_shape.specs.Sizes.{braces, braces_all}
-use Rattle.pb_shape.specs.Shape.{is_at_offset}
+use Rattle.pb_shape.specs.Segments.{is_at_offset}
 
 -- ---- pieces
 

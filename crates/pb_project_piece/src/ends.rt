@@ -1,6 +1,6 @@
 ghost use Rattle.std.specs.Prelude.{◌≡◌};
 ghost use Rattle.pb_core_flat.specs.Meets.{is_moving};
-ghost use Rattle.pb_shape.specs.Shape.{peer_of};
+ghost use Rattle.pb_shape.specs.Places.{peer_of};
 ghost use Rattle.pb_project_piece.specs.Ones.{end_guard};
 
 use pb_affine::{Base, Guard};

@@ -1,7 +1,7 @@
 ghost use Rattle.std.specs.Prelude.{◌≡◌, ◌&&◌, ◌||◌, true, map, IfOk, OnOk};
 ghost use Rattle.pb_core_language.specs.Plain.{plain_block, plain_stmt};
 ghost use Rattle.pb_core_language.specs.Sound.{is_end};
-ghost use Rattle.pb_shape.specs.Shape.{is_fixed, is_fixed_at};
+ghost use Rattle.pb_shape.specs.Pieces.{is_fixed, is_fixed_at};
 ghost use Rattle.pb_project_piece.specs.Fixed.{is_fair_item, Knows, AddsEnds, AreFixed, AreAreas};
 ghost use Rattle.pb_project_piece.specs.Ones.{end_guard};
 

@@ -12,10 +12,10 @@ use crate::segment::put_segments;
 use crate::setting::Setting;
 use crate::somebody::is_somebody;
 use pb_affine::Guards;
-use pb_core_language::{CoreBlock, CoreEnd};
+use pb_core_language::{Bounds, CoreBlock, CoreEnd};
 use pb_local::Stmt;
 use pb_part_areas::{Area, common};
-use pb_part_takers::{Over, takers_each};
+use pb_part_takers::takers_each;
 use pb_text::NoMemory;
 use std::alloc::Global;
 
@@ -24,7 +24,7 @@ fn is_run(
     items: &CoreBlock,
     alloc: Global,
     setting: &Setting,
-    over: Over,
+    over: Bounds,
     fixed: &[Area],
 ) -> Result<bool, NoMemory>
     ensures { IfOk result (λ t. Runs setting.now.range setting.now.whole.now over fixed.now (plain_block items.now).block t) }
@@ -41,7 +41,7 @@ fn loop_of(
     items: &CoreBlock,
     alloc: Global,
     setting: &Setting,
-    over: Over,
+    over: Bounds,
     fixed: &[Area],
 ) -> Result<Vec<Stmt>, NoMemory>
     ensures { IfOk result (λ v. IsRounds setting.now.range setting.now.roles setting.now.whole.now over fixed.now (plain_block items.now).block v.items) }
@@ -61,7 +61,7 @@ fn rounds(
     items: &CoreBlock,
     alloc: Global,
     setting: &Setting,
-    over: Over,
+    over: Bounds,
     fixed: &[Area],
 ) -> Result<Vec<Stmt>, NoMemory>
     ensures { IfOk result (λ v. IsRounds setting.now.range setting.now.roles setting.now.whole.now over fixed.now (plain_block items.now).block v.items) }
@@ -86,7 +86,7 @@ fn put_both(
     items: &CoreBlock,
     alloc: Global,
     setting: &Setting,
-    over: Over,
+    over: Bounds,
     ends: &[CoreEnd],
     fixed: &[Area],
     out: &mut Vec<Stmt>,
@@ -119,7 +119,7 @@ pub fn put_foreach(
     items: &CoreBlock,
     alloc: Global,
     setting: &Setting,
-    over: Over,
+    over: Bounds,
     out: &mut Vec<Stmt>,
 ) -> Result<(), NoMemory>
     ensures { OnOk result (Added out.old.items out.new.items (IsForEach setting.now.range setting.now.roles setting.now.whole.now over (plain_block items.now).block)) }

@@ -2,7 +2,7 @@ ghost use Rattle.std.specs.Prelude.{◌≡◌, [], ◌∷◌, Some, IfOk, OnOk};
 ghost use Rattle.pb_core_language.specs.Plain.{plain_block, plain_stmt};
 ghost use Rattle.pb_core_language.specs.Tree as T;
 ghost use Rattle.pb_local.specs.Tree.{plain, plain_all};
-ghost use Rattle.pb_shape.specs.Shape.{alone};
+ghost use Rattle.pb_shape.specs.Guards.{alone};
 ghost use Rattle.pb_project_piece.specs.Adding.{Added};
 ghost use Rattle.pb_project_piece.specs.Ones.{end_guard, only_when, IsAt, IsItemOf, AreItemsOf};
 
@@ -11,10 +11,9 @@ use crate::put::{only, put_one, when};
 use crate::reach::comers;
 use crate::setting::Setting;
 use crate::somebody::is_somebody;
-use pb_core_language::{CoreBlock, CoreEnd, CoreKind, CoreStmt};
+use pb_core_language::{Bounds, CoreBlock, CoreEnd, CoreKind, CoreStmt};
 use pb_local::Stmt;
 use pb_part_areas::Area;
-use pb_part_takers::Over;
 use pb_text::NoMemory;
 use std::alloc::Global;
 
@@ -31,7 +30,7 @@ fn at_end(alloc: Global, end: CoreEnd, stmt: Stmt) -> Result<Stmt, NoMemory>
 fn put_at(
     alloc: Global,
     setting: &Setting,
-    over: Option<Over>,
+    over: Option<Bounds>,
     fixed: &[Area],
     end: CoreEnd,
     stmt: Stmt,
@@ -52,7 +51,7 @@ fn put_at(
 fn put_message(
     alloc: Global,
     setting: &Setting,
-    over: Option<Over>,
+    over: Option<Bounds>,
     fixed: &[Area],
     label: u32,
     from: CoreEnd,
@@ -78,7 +77,7 @@ fn put_message(
 fn put_run(
     alloc: Global,
     setting: &Setting,
-    over: Option<Over>,
+    over: Option<Bounds>,
     fixed: &[Area],
     kernel: u32,
     at: CoreEnd,
@@ -96,7 +95,7 @@ pub fn put_item(
     stmt: &CoreStmt,
     alloc: Global,
     setting: &Setting,
-    over: Option<Over>,
+    over: Option<Bounds>,
     fixed: &[Area],
     out: &mut Vec<Stmt>,
 ) -> Result<(), NoMemory>
@@ -123,7 +122,7 @@ pub fn items_of(
     items: &CoreBlock,
     alloc: Global,
     setting: &Setting,
-    over: Over,
+    over: Bounds,
     fixed: &[Area],
 ) -> Result<Vec<Stmt>, NoMemory>
     ensures { IfOk result (λ v. AreItemsOf setting.now.range setting.now.roles setting.now.whole.now over fixed.now (plain_block items.now).block (plain_all v.items)) }

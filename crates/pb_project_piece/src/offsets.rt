@@ -1,6 +1,6 @@
 ghost use Rattle.std.specs.Prelude.{◌≡◌, ◌++◌, ◌∷◌, List, map, IfOk, OnOk, true};
 ghost use Rattle.pb_core_language.specs.Plain.{plain_block, plain_stmt};
-ghost use Rattle.pb_shape.specs.Shape.{put_end, offsets_at, offsets};
+ghost use Rattle.pb_shape.specs.Segments.{put_end, offsets_at, offsets};
 ghost use Rattle.pb_project_piece.specs.Offsets.{off_of, put_off, rest_of};
 
 use crate::ends::is_moving;

@@ -10,9 +10,8 @@ use crate::foreach::put_foreach;
 use crate::item::put_item;
 use crate::setting::Setting;
 use pb_affine::Lin;
-use pb_core_language::{CoreBlock, CoreKind, CoreStmt};
+use pb_core_language::{Bounds, CoreBlock, CoreKind, CoreStmt};
 use pb_local::Stmt;
-use pb_part_takers::Over;
 use pb_text::NoMemory;
 use std::alloc::Global;
 
@@ -26,7 +25,7 @@ fn put_each(
 ) -> Result<(), NoMemory>
     ensures { OnOk result ((m : Mark) → Added out.old.items out.new.items (IsPieceOf setting.now.range setting.now.roles setting.now.whole.now (foreach (record { low = low; high = high }) m (plain_block items.now).block))) }
 {
-    let over = Over { low, high };
+    let over = Bounds { low, high };
     put_foreach(items, alloc, setting, over, out)?;
     Ok(())
 }

@@ -1,9 +1,9 @@
 ghost use Rattle.std.specs.Prelude.{Some, IfOk};
 ghost use Rattle.pb_project_piece.specs.Comers.{AreComers};
 
-use pb_core_language::CoreEnd;
+use pb_core_language::{Bounds, CoreEnd};
 use pb_part_areas::{Area, common, one};
-use pb_part_takers::{Over, end_area, met_area};
+use pb_part_takers::{end_area, met_area};
 use pb_text::NoMemory;
 use std::alloc::Global;
 
@@ -11,7 +11,7 @@ use std::alloc::Global;
 /// `fixed`.
 pub fn comers(
     alloc: Global,
-    over: Option<Over>,
+    over: Option<Bounds>,
     fixed: &[Area],
     end: CoreEnd,
 ) -> Result<Vec<Area>, NoMemory>
@@ -25,7 +25,7 @@ pub fn comers(
 
 fn met_comers(
     alloc: Global,
-    over: Over,
+    over: Bounds,
     fixed: &[Area],
     end: CoreEnd,
 ) -> Result<Vec<Area>, NoMemory>

@@ -7,12 +7,12 @@ ghost use Rattle.pb_core_language.specs.Tree as T;
 ghost use Rattle.pb_local.specs.Tree as L;
 ghost use Rattle.pb_local.specs.Tree.{plain, plain_all, Program};
 ghost use Rattle.pb_local.specs.WellMade.{IsGuard};
-ghost use Rattle.pb_shape.specs.Shape.{is_at_offset, put, segment_code, in_segment};
+ghost use Rattle.pb_shape.specs.Segments.{is_at_offset, put, segment_code, in_segment};
 ghost use Rattle.pb_part_takers.specs.Sums.{IsSum};
 ghost use Rattle.pb_project_piece.specs.Adding.{Added};
 ghost use Rattle.pb_project_piece.specs.Comers.{AreBounds};
 ghost use Rattle.pb_project_piece.specs.Weights.{IsSimple};
-ghost use Rattle.pb_project_piece.specs.Segments.{bounds_of, IsCodes, AreOthers, IsCodesOf, IsSegmentOf, IsSegment, IsRoleSegments, AreSegments};
+ghost use Rattle.pb_project_piece.specs.Segments.{IsCodes, AreOthers, IsCodesOf, IsSegmentOf, IsSegment, IsRoleSegments, AreSegments};
 
 use crate::ends::{is_moving, peer_of};
 use crate::offsets::{Off, offsets};
@@ -20,10 +20,10 @@ use crate::put::{only, when};
 use crate::setting::Setting;
 use crate::somebody::is_somebody;
 use pb_affine::{Base, Guard, Lin};
-use pb_core_language::{CoreBlock, CoreEnd, CoreKind, CoreStmt, Place};
+use pb_core_language::{Bounds, CoreBlock, CoreEnd, CoreKind, CoreStmt, Place};
 use pb_local::Stmt;
 use pb_part_areas::{Area, one, without};
-use pb_part_takers::{Over, met_area};
+use pb_part_takers::met_area;
 use pb_text::NoMemory;
 use std::alloc::Global;
 
@@ -137,9 +137,9 @@ fn moved(lin: Lin, segment: Segment) -> Lin
 }
 
 /// The guard of the ranks of a segment.
-fn guard_of(segment: Segment, over: Over) -> Guard
+fn guard_of(segment: Segment, over: Bounds) -> Guard
     ensures made { (l : Program) → segment.role < length l.roles → AreBounds over → is_small segment.off ≡ true → IsGuard l result }
-    ensures holds { (n i : ℤ) (role : ℕ) (x : ℤ) → AreBounds over → is_small segment.off ≡ true → holds result n i role x ≡ in_segment (bounds_of over) segment.role segment.off n i role x }
+    ensures holds { (n i : ℤ) (role : ℕ) (x : ℤ) → AreBounds over → is_small segment.off ≡ true → holds result n i role x ≡ in_segment over segment.role segment.off n i role x }
 {
     Guard {
         role: segment.role,
@@ -167,7 +167,12 @@ fn end_of(segment: Segment) -> CoreEnd
 }
 
 /// The areas of the ranks of a segment that aren't among others.
-fn others(alloc: Global, segment: Segment, over: Over, less: &[Area]) -> Result<Vec<Area>, NoMemory>
+fn others(
+    alloc: Global,
+    segment: Segment,
+    over: Bounds,
+    less: &[Area],
+) -> Result<Vec<Area>, NoMemory>
     ensures { IfOk result (λ v. AreOthers over segment.role segment.off less.now v.items) }
 {
     let all = one(alloc, met_area(end_of(segment), over))?;
@@ -179,7 +184,7 @@ fn others(alloc: Global, segment: Segment, over: Over, less: &[Area]) -> Result<
 fn segment_of(
     items: &CoreBlock,
     alloc: Global,
-    over: Over,
+    over: Bounds,
     segment: Segment,
 ) -> Result<Stmt, NoMemory>
     ensures { IfOk result (λ s. IsSegmentOf over (plain_block items.now).block segment.role segment.off (plain s)) }
@@ -194,7 +199,7 @@ fn put_segment(
     items: &CoreBlock,
     alloc: Global,
     setting: &Setting,
-    over: Over,
+    over: Bounds,
     less: &[Area],
     segment: Segment,
     out: &mut Vec<Stmt>,
@@ -216,7 +221,7 @@ fn put_role(
     items: &CoreBlock,
     alloc: Global,
     setting: &Setting,
-    over: Over,
+    over: Bounds,
     less: &[Area],
     role: u32,
     out: &mut Vec<Stmt>,
@@ -236,7 +241,7 @@ pub fn put_segments(
     items: &CoreBlock,
     alloc: Global,
     setting: &Setting,
-    over: Over,
+    over: Bounds,
     less: &[Area],
     out: &mut Vec<Stmt>,
 ) -> Result<(), NoMemory>

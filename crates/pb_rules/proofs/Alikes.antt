@@ -1,18 +1,18 @@
 -- The traps of a message are its breaches of rule 8, and among them is one that no breach of its comes before.
-use Rattle.std.proofs.Common.{◌≡◌, ℕ, ℤ, ◌+ℤ◌, ◌≤ℤ◌, Bool, true, false, ◌&&◌, if◌then◌else◌, nat_eq, ◌⊎◌, inl, inr, Option, Some, List, [], refl, sym, ap, ◌∙◌, subst, arith}
-use Rattle.std.proofs.lemmas.Bool.{cases_Bool, eq-eqb, eqb-true}
+use Rattle.std.proofs.Common.{◌≡◌, ℕ, ℤ, ◌+ℤ◌, ◌≤ℤ◌, true, false, ◌&&◌, if◌then◌else◌, nat_eq, ◌⊎◌, inl, inr, Option, Some, List, [], refl, sym, ap, ◌∙◌, subst, arith}
+use Rattle.std.proofs.lemmas.Bool.{cases_Bool, eq-eqb, eqb-true, and_right}
 use Rattle.std.proofs.lemmas.Int.{ints}
 use Rattle.pb_affine.specs.declared.lin.Lin.{Lin}
 use Rattle.pb_affine.specs.declared.range.NRange.{NRange}
 use Rattle.pb_affine.specs.Values.{value}
 use Rattle.pb_core_language.specs.declared.tree.CoreEnd.{CoreEnd}
 use Rattle.pb_core_language.specs.Tree.{Mark}
+use Rattle.pb_core_language.specs.declared.tree.Bounds.{Bounds}
 use Rattle.pb_core_language.specs.Rules.{somebody}
 use Rattle.pb_core_language.specs.Verdict.{Broken, IsIn}
 use Rattle.pb_rules.specs.declared.found.Found.{Found}
 use Rattle.pb_rules.specs.declared.span.Span.{Span}
 use Rattle.pb_rules.specs.declared.trap.Trap.{Trap}
-use Rattle.pb_rules.specs.declared.ends.Over.{Over}
 use Rattle.pb_rules.specs.declared.ends.Reach.{Reach}
 use Rattle.pb_rules.specs.Lines.{value_at, IsInSpan, at_most}
 use Rattle.pb_rules.specs.Traps.{reach, alive, met_with, alike_traps, message_traps}
@@ -22,7 +22,7 @@ use Rattle.pb_rules.proofs.Places.{IsValue}
 use Rattle.pb_rules.proofs.Reaches.{at_most_gives, gives_at_most, IsLive, alive_gives, gives_alive, value_live, IsWithin, within, asked_for, stays, has_first, first_within, vary_value}
 
 -- sender and receiver ask for one seat of index y
-pub record IsAlike (over : Option Over) (f t : CoreEnd) (n y : ℤ) : Type 0 where
+pub record IsAlike (over : Option Bounds) (f t : CoreEnd) (n y : ℤ) : Type 0 where
   pub x : ℤ
   pub value_is : IsValue over n x
   pub sender : value f.at n x ≡ y
@@ -53,7 +53,7 @@ one_number a b h k = omega (arith, ints)
 same_offset : (c d x y : ℤ) → c +ℤ x ≡ d +ℤ x → c +ℤ y ≡ d +ℤ y
 same_offset c d x y e = omega (arith, ints)
 
-module _ (range : NRange) (over : Option Over) (m : Mark) (f t : CoreEnd) where
+module _ (range : NRange) (over : Option Bounds) (m : Mark) (f t : CoreEnd) where
   abbrev F : Reach
   F = reach over f.at
 
@@ -92,16 +92,10 @@ module _ (range : NRange) (over : Option Over) (m : Mark) (f t : CoreEnd) where
       ((ap (λ u. if u && G.varies then fixed F else F) p ∙ ap (λ u. if u then fixed F else F) q), (ap (λ u. if u && F.varies then fixed G else G) q ∙ ap (λ u. if u then fixed G else G) p))
 
   sender_stays : F.varies ≡ false → (met_with F G ≡ F) × (met_with G F ≡ G)
-  sender_stays p = (ap (λ u. if u && G.varies then fixed F else F) p, ap (λ u. if u then fixed G else G) (and_false G.varies F.varies p)) where
-    and_false : (a b : Bool) → b ≡ false → (a && b) ≡ false
-    and_false true b e = e
-    and_false false b e = refl
+  sender_stays p = (ap (λ u. if u && G.varies then fixed F else F) p, ap (λ u. if u then fixed G else G) (and_right G.varies F.varies p))
 
   receiver_stays : G.varies ≡ false → (met_with F G ≡ F) × (met_with G F ≡ G)
-  receiver_stays q = (ap (λ u. if u then fixed F else F) (and_false F.varies G.varies q), ap (λ u. if u && F.varies then fixed G else G) q) where
-    and_false : (a b : Bool) → b ≡ false → (a && b) ≡ false
-    and_false true b e = e
-    and_false false b e = refl
+  receiver_stays q = (ap (λ u. if u then fixed F else F) (and_right F.varies G.varies q), ap (λ u. if u && F.varies then fixed G else G) q)
 
   record Cases : Type 0 where
     is : ((F.varies ≡ true) × (G.varies ≡ true)) ⊎ ((F.varies ≡ false) ⊎ (G.varies ≡ false))

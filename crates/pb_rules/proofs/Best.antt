@@ -6,10 +6,10 @@ use Rattle.pb_core_language.specs.Verdict.{Broken, is_before, is_before_seat}
 use Rattle.pb_rules.specs.declared.found.Found.{Found}
 use Rattle.pb_rules.specs.declared.span.Span.{Span}
 use Rattle.pb_rules.specs.declared.trap.Trap.{Trap}
-use Rattle.pb_rules.specs.Verdict.{seat_if}
+use Rattle.pb_rules.specs.Verdict.{seat_if, IsNamedBut}
 use Rattle.pb_rules.specs.Lines.{IsUpTo, IsInSpan, first_before, first_of}
 use Rattle.pb_rules.specs.Traps.{at_n, found_at, found_if, first_found, broken_of, earlier, kept, kept_all}
-use Rattle.pb_rules.proofs.Order.{IsNamed, falls, turns, not_before}
+use Rattle.pb_rules.proofs.Order.{falls, turns, not_before}
 
 -- ---- the least number of a span
 
@@ -84,20 +84,20 @@ IsNotBefore c None = ⊥
 IsNotBefore c (Some f) = is_before c (broken_of f) ≡ false
 
 abbrev pub IsNamedFound : Found → Type 0
-IsNamedFound f = IsNamed f.rule (seat_if f.at)
+IsNamedFound f = IsNamedBut 6 f.rule (seat_if f.at)
 
 abbrev pub IsNamedBroken : Broken → Type 0
-IsNamedBroken c = IsNamed c.breach.rule c.breach.at
+IsNamedBroken c = IsNamedBut 6 c.breach.rule c.breach.at
 
 abbrev pub IsNamedTrap : Trap → Type 0
-IsNamedTrap t = (n : ℤ) → IsNamed t.rule (seat_if (at_n t.at n))
+IsNamedTrap t = (n : ℤ) → IsNamedBut 6 t.rule (seat_if (at_n t.at n))
 
 earlier_stays : (c : Broken) (a b : Option Found) → IsNamedBroken c → IfFound IsNamedFound a → IsNotBefore c a → IsNotBefore c (earlier a b)
 earlier_stays c a None k ka h = h
 earlier_stays c None (Some f) k ka h = absurd h
 earlier_stays c (Some b) (Some f) k kb h =
     elim (cases_Bool (is_before (broken_of f) (broken_of b))) [
-      | inl y ↦ subst (λ u. is_before c (broken_of (if u then f else b)) ≡ false) (sym y) (falls c (broken_of b) (broken_of f) k kb h (turns (broken_of f) (broken_of b) y))
+      | inl y ↦ subst (λ u. is_before c (broken_of (if u then f else b)) ≡ false) (sym y) (falls 6 c (broken_of b) (broken_of f) k kb h (turns (broken_of f) (broken_of b) y))
       | inr z ↦ subst (λ u. is_before c (broken_of (if u then f else b)) ≡ false) (sym z) h
     ]
 
@@ -106,7 +106,7 @@ earlier_comes c None f k kf h = h
 earlier_comes c (Some b) f k kf h =
     elim (cases_Bool (is_before (broken_of f) (broken_of b))) [
       | inl y ↦ subst (λ u. is_before c (broken_of (if u then f else b)) ≡ false) (sym y) h
-      | inr z ↦ subst (λ u. is_before c (broken_of (if u then f else b)) ≡ false) (sym z) (falls c (broken_of f) (broken_of b) k kf h z)
+      | inr z ↦ subst (λ u. is_before c (broken_of (if u then f else b)) ≡ false) (sym z) (falls 6 c (broken_of f) (broken_of b) k kf h z)
     ]
 
 -- the trap has a breach at the N of this one, of the same rule and place, and with no later seat

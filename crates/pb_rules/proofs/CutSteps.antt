@@ -1,29 +1,25 @@
 -- Cuts one behind the other.
-use Rattle.std.proofs.Common.{◌≡◌, ℕ, ◌+◌, ◌<◌, Bool, true, false, ◌&&◌, Option, Some, List, [], ◌∷◌, ◌++◌, length, get_or, map, drop, refl, sym, ap, ◌∙◌, append_assoc, Vec, Result, Ok, Err}
+use Rattle.std.proofs.Common.{◌≡◌, ℕ, ◌+◌, ◌<◌, ◌&&◌, Option, Some, List, [], ◌∷◌, ◌++◌, length, get_or, map, drop, refl, sym, ap, ◌∙◌, append_assoc, Vec, Result, Ok, Err}
 use Rattle.std.proofs.lemmas.List.{at_drop_more, map-append}
 use Rattle.pb_affine.specs.declared.lin.Lin.{Lin}
 use Rattle.pb_core_language.specs.declared.protocol.CoreRole.{CoreRole}
 use Rattle.std.specs.Prelude.{OnOk}
 use Rattle.std.specs.declared.alloc.Global.{Global}
+use Rattle.std.proofs.Math.Bool.{and_assoc}
 use Rattle.pb_core_language.specs.declared.tree.CoreEnd.{CoreEnd}
 use Rattle.pb_core_language.specs.declared.tree.CoreBlock.{CoreBlock}
-use Rattle.pb_core_language.specs.declared.tree.CoreKind.{fold-roll-CoreKind}
-use Rattle.pb_core_language.specs.declared.tree.CoreKind.TheVariants.{Choice, rolls-Choice, Foreach, rolls-Foreach}
-use Rattle.pb_core_language.specs.declared.tree.CoreKind.TheOpen as Layer
-use Rattle.pb_core_language.specs.declared.tree.CoreStmt.{CoreStmt, fold_out-CoreStmt}
-use Rattle.pb_core_language.specs.Plain.{MarkedBlock, MarkedStmt, plain_block, plain_stmt, plain_kind, block_of, branches_of, kind_layer, block_layer, stmt_layer}
-use Rattle.pb_core_language.specs.Tree.{Bounds, StmtTree, choice, foreach}
+use Rattle.pb_core_language.specs.declared.tree.CoreKind.TheVariants.{Choice, Foreach}
+use Rattle.pb_core_language.specs.declared.tree.CoreStmt.{CoreStmt}
+use Rattle.pb_core_language.specs.Plain.{plain_block, plain_stmt, block_of, branches_of}
+use Rattle.pb_core_language.specs.declared.tree.Bounds.{Bounds}
 use Rattle.pb_core_language.specs.Cuts.{edges, end_cuts, stmt_cuts, block_cuts, branches_cuts, role_cuts}
+use Rattle.pb_core_language.proofs.Plains.{plain_choice, plain_foreach}
 use Rattle.pb_rules.specs.declared.cuts.Wide.{Wide}
 use Rattle.pb_rules.specs.CutLists.{is_cut, are_cuts, lin_of}
 
-and_both : (a b c : Bool) → (a && (b && c)) ≡ ((a && b) && c)
-and_both true b c = refl
-and_both false b c = refl
-
 pub cuts_both : (xs ys : List Lin) → are_cuts (xs ++ ys) ≡ (are_cuts xs && are_cuts ys)
 cuts_both [] ys = refl
-cuts_both (x ∷ xs) ys = ap (λ b. is_cut x && b) (cuts_both xs ys) ∙ and_both (is_cut x) (are_cuts xs) (are_cuts ys)
+cuts_both (x ∷ xs) ys = ap (λ b. is_cut x && b) (cuts_both xs ys) ∙ sym (and_assoc (is_cut x) (are_cuts xs) (are_cuts ys))
 
 pub pushed_one : (out : List Wide) (a : Wide) → map lin_of (out ++ a ∷ []) ≡ map lin_of out ++ lin_of a ∷ []
 pushed_one out a = map-append lin_of out (a ∷ [])
@@ -54,18 +50,6 @@ pub roles_more : (x : CoreRole) (xs : List CoreRole) → role_cuts (x ∷ xs) �
 roles_more x xs = refl
 
 -- ---- statements with blocks
-
-plain_choice : (s : CoreStmt) (k : ℕ) (at : CoreEnd) (bs : Vec CoreBlock Global) → s.what ≡ Choice k at bs → (plain_stmt s).stmt ≡ choice k at (branches_of (map plain_block bs.items))
-plain_choice s k at bs e =
-    ap (λ a. a.stmt) (fold_out-CoreStmt StmtTree MarkedBlock MarkedStmt kind_layer block_layer stmt_layer s)
-    ∙ ap plain_kind (e ∙ sym (rolls-Choice k at bs))
-    ∙ fold-roll-CoreKind StmtTree MarkedBlock MarkedStmt kind_layer block_layer stmt_layer (Layer.Choice k at bs)
-
-plain_foreach : (s : CoreStmt) (low high : Lin) (items : CoreBlock) → s.what ≡ Foreach low high items → (plain_stmt s).stmt ≡ foreach (record { low = low; high = high }) (plain_block items).mark (plain_block items).block
-plain_foreach s low high items e =
-    ap (λ a. a.stmt) (fold_out-CoreStmt StmtTree MarkedBlock MarkedStmt kind_layer block_layer stmt_layer s)
-    ∙ ap plain_kind (e ∙ sym (rolls-Foreach low high items))
-    ∙ fold-roll-CoreKind StmtTree MarkedBlock MarkedStmt kind_layer block_layer stmt_layer (Layer.Foreach low high items)
 
 pub on_ok : {T E : Type 0} (r : Result T E) (P Q : Type 0) → (P → Q) → OnOk r P → OnOk r Q
 on_ok (Ok x) P Q f h = f h

@@ -11,7 +11,8 @@ use Rattle.pb_affine.specs.Values.{is_up_to, shifted}
 use Rattle.pb_cases.specs.Breakpoints.{IsCut, IsDivision, Division}
 use Rattle.pb_core_language.specs.declared.protocol.CoreRole.{CoreRole}
 use Rattle.pb_core_language.specs.declared.tree.CoreEnd.{CoreEnd}
-use Rattle.pb_core_language.specs.Tree.{Bounds, StmtTree, message, foreach, loop, again, choice, run, barrier, broadcast, reduce, allreduce, BlockTree, nothing, more, BranchTrees, no_branch, branch}
+use Rattle.pb_core_language.specs.Tree.{StmtTree, message, foreach, loop, again, choice, run, barrier, broadcast, reduce, allreduce, BlockTree, nothing, more, BranchTrees, no_branch, branch}
+use Rattle.pb_core_language.specs.declared.tree.Bounds.{Bounds}
 use Rattle.pb_core_language.specs.Plain.{Protocol}
 use Rattle.pb_core_language.specs.Cuts.{edges, moving, lin_cuts, end_cuts, stmt_cuts, block_cuts, branches_cuts, role_cuts, cuts}
 use Rattle.pb_core_language.specs.Sound.{is_small, is_over_n, is_bound, Rows, is_end, is_stmt, is_block, are_branches, has_branch, are_roles, reaches, is_range, rows_of, is_sound}

@@ -4,11 +4,10 @@ use Rattle.std.specs.List.{slice_get}
 use Rattle.std.proofs.lemmas.Bool.{and_parts, cases_Bool, ltb-true}
 use Rattle.pb_core_language.specs.declared.protocol.CoreRole.{CoreRole}
 use Rattle.pb_core_language.specs.declared.tree.CoreEnd.{CoreEnd}
-use Rattle.pb_core_language.specs.Tree.{Mark, StmtTree, message, foreach, loop, again, choice, run, barrier, broadcast, reduce, allreduce, BlockTree, nothing, more, BranchTrees, no_branch, branch}
+use Rattle.pb_core_language.specs.Tree.{Mark, StmtTree, message, foreach, loop, again, choice, run, barrier, broadcast, reduce, allreduce, BlockTree, nothing, more, BranchTrees, no_branch, branch, is_again}
+use Rattle.pb_core_language.specs.declared.tree.Bounds.{Bounds}
 use Rattle.pb_core_language.specs.Sound.{Rows, is_end, is_stmt, is_block, are_branches}
-use Rattle.pb_rules.specs.declared.ends.Over.{Over}
-use Rattle.pb_rules.specs.Traps.{over_of}
-use Rattle.pb_rules.specs.Sites.{Site, one, two, is_again, stmt_sites, block_sites, branches_sites}
+use Rattle.pb_rules.specs.Sites.{Site, one, two, stmt_sites, block_sites, branches_sites}
 use Rattle.pb_rules.proofs.Places.{sites_more}
 
 some_within : (roles : List CoreRole) (k : ℕ) → k < length roles → IsSome (slice_get roles k)
@@ -34,11 +33,11 @@ module _ (roles : List CoreRole) where
     good_end varies e h = some_within roles e.role (subst (λ k. e.role < k) same (ltb-true e.role rows.roles (and_parts (nat_lt e.role rows.roles) _ h).0))
 
     mutual
-      good_stmt : (varies : Bool) (opens : List ℕ) (over : Option Over) (m : Mark) (s : StmtTree) → is_stmt rows varies opens s ≡ true → AllGood (stmt_sites over m s)
+      good_stmt : (varies : Bool) (opens : List ℕ) (over : Option Bounds) (m : Mark) (s : StmtTree) → is_stmt rows varies opens s ≡ true → AllGood (stmt_sites over m s)
       good_stmt varies opens over m (message l f t) h =
           let es = and_parts (is_end rows varies f) (is_end rows varies t) (and_parts _ _ h).1 in
           ((good_end varies f es.0, good_end varies t es.1), tt)
-      good_stmt varies opens over m (foreach b k items) h = good_block true opens (Some (over_of b)) items (and_parts _ _ (and_parts _ _ h).1).1
+      good_stmt varies opens over m (foreach b k items) h = good_block true opens (Some b) items (and_parts _ _ (and_parts _ _ h).1).1
       good_stmt varies opens over m (loop id k body) h = good_block false (id ∷ opens) over body (and_parts _ _ h).1
       good_stmt varies opens over m (again id) h = tt
       good_stmt varies opens over m (choice k at bs) h =
@@ -50,7 +49,7 @@ module _ (roles : List CoreRole) where
       good_stmt varies opens over m (reduce l op root) h = (good_end false root (and_parts _ _ h).1, tt)
       good_stmt varies opens over m (allreduce l op) h = tt
 
-      pub good_block : (varies : Bool) (opens : List ℕ) (over : Option Over) (b : BlockTree) → is_block rows varies opens b ≡ true → AllGood (block_sites over b)
+      pub good_block : (varies : Bool) (opens : List ℕ) (over : Option Bounds) (b : BlockTree) → is_block rows varies opens b ≡ true → AllGood (block_sites over b)
       good_block varies opens over nothing h = tt
       good_block varies opens over (more m s b) h =
           let parts = and_parts (is_stmt rows varies opens s) (is_block rows varies opens b) (and_parts _ _ h).1 in
@@ -60,7 +59,7 @@ module _ (roles : List CoreRole) where
                 (good_append (stmt_sites over m s) (block_sites over b) (good_stmt varies opens over m s parts.0) (good_block varies opens over b parts.1))
           ]
 
-      good_branches : (opens : List ℕ) (over : Option Over) (bs : BranchTrees) → are_branches rows opens bs ≡ true → AllGood (branches_sites over bs)
+      good_branches : (opens : List ℕ) (over : Option Bounds) (bs : BranchTrees) → are_branches rows opens bs ≡ true → AllGood (branches_sites over bs)
       good_branches opens over no_branch h = tt
       good_branches opens over (branch m b bs) h =
           let parts = and_parts (is_block rows false opens b) (are_branches rows opens bs) h in

@@ -6,11 +6,7 @@ use Rattle.std.proofs.lemmas.Bool.{true≢false, or_parts, or_from, or_cases, an
 use Rattle.std.proofs.lemmas.Int.{ints}
 use Rattle.pb_core_language.specs.Ranks.{Seat}
 use Rattle.pb_core_language.specs.Verdict.{Broken, is_before, is_before_seat}
-
--- rule 6 names nobody, and the others a seat
-abbrev pub IsNamed : ℕ → Option Seat → Type 0
-IsNamed rule None = rule ≡ 6
-IsNamed rule (Some s) = rule ≡ 6 → ⊥
+use Rattle.pb_rules.specs.Verdict.{IsNamedBut}
 
 split : (a b : ℕ) (p : Bool) → (nat_lt a b || (nat_eq a b && p)) ≡ false → (b ≤ a) × (a ≡ b → p ≡ false)
 split a b p h =
@@ -63,19 +59,19 @@ int_between a b c h k e = (omega (arith, ints), omega (arith, ints))
 nat_between : (a b c : ℕ) → b ≤ a → c ≤ b → a ≡ c → (a ≡ b) × (b ≡ c)
 nat_between a b c h k e = (omega arith, omega arith)
 
-seat_falls : (ra rb : ℕ) (a b c : Option Seat) → IsNamed ra a → IsNamed rb b → ra ≡ rb → is_before_seat a b ≡ false → is_before_seat b c ≡ false → is_before_seat a c ≡ false
-seat_falls ra rb None b c ka kb e h k = refl
-seat_falls ra rb (Some a) b None ka kb e h k = refl
-seat_falls ra rb (Some a) None (Some c) ka kb e h k = absurd (ka (e ∙ kb))
-seat_falls ra rb (Some a) (Some b) (Some c) ka kb e h k =
+seat_falls : (alone ra rb : ℕ) (a b c : Option Seat) → IsNamedBut alone ra a → IsNamedBut alone rb b → ra ≡ rb → is_before_seat a b ≡ false → is_before_seat b c ≡ false → is_before_seat a c ≡ false
+seat_falls alone ra rb None b c ka kb e h k = refl
+seat_falls alone ra rb (Some a) b None ka kb e h k = refl
+seat_falls alone ra rb (Some a) None (Some c) ka kb e h k = absurd (ka (e ∙ kb))
+seat_falls alone ra rb (Some a) (Some b) (Some c) ka kb e h k =
     let s = split a.role b.role (int_lt a.index b.index) h in
     let t = split b.role c.role (int_lt b.index c.index) k in
     join a.role c.role (int_lt a.index c.index) (omega arith)
     (λ same. let es = nat_between a.role b.role c.role s.0 t.0 same in
     above_int a.index c.index (int_trans a.index b.index c.index (int_above _ _ (s.1 es.0)) (int_above _ _ (t.1 es.1))))
 
-pub falls : (a b c : Broken) → IsNamed a.breach.rule a.breach.at → IsNamed b.breach.rule b.breach.at → is_before a b ≡ false → is_before b c ≡ false → is_before a c ≡ false
-falls a b c ka kb h k =
+pub falls : (alone : ℕ) (a b c : Broken) → IsNamedBut alone a.breach.rule a.breach.at → IsNamedBut alone b.breach.rule b.breach.at → is_before a b ≡ false → is_before b c ≡ false → is_before a c ≡ false
+falls alone a b c ka kb h k =
     let s = split a.breach.rule b.breach.rule _ h in
     let t = split b.breach.rule c.breach.rule _ k in
     join a.breach.rule c.breach.rule _ (omega arith) (λ same.
@@ -88,7 +84,7 @@ falls a b c ka kb h k =
     let z = split_int b.n c.n _ (v.1 fs.1) in
     join_int a.n c.n _ (int_trans a.n b.n c.n w.0 z.0) (λ once.
     let gs = int_between a.n b.n c.n w.0 z.0 once in
-    seat_falls a.breach.rule b.breach.rule a.breach.at b.breach.at c.breach.at ka kb es.0 (w.1 gs.0) (z.1 gs.1))))
+    seat_falls alone a.breach.rule b.breach.rule a.breach.at b.breach.at c.breach.at ka kb es.0 (w.1 gs.0) (z.1 gs.1))))
 
 turn : (a b : ℕ) (p q : Bool) → (nat_lt a b || (nat_eq a b && p)) ≡ true → (p ≡ true → q ≡ false) → (nat_lt b a || (nat_eq b a && q)) ≡ false
 turn a b p q h k =

@@ -4,19 +4,18 @@ use Rattle.std.proofs.lemmas.Bool.{and_parts, cond-false, cases_Bool, true≢fal
 use Rattle.pb_affine.specs.Values.{value, range}
 use Rattle.pb_core_language.specs.declared.protocol.CoreRole.{CoreRole}
 use Rattle.pb_core_language.specs.declared.tree.CoreEnd.{CoreEnd}
-use Rattle.pb_core_language.specs.Tree.{Mark, Bounds, StmtTree, message, foreach, loop, again, choice, run, barrier, broadcast, reduce, allreduce, BlockTree, nothing, more, BranchTrees, no_branch, branch}
+use Rattle.pb_core_language.specs.Tree.{Mark, StmtTree, message, foreach, loop, again, choice, run, barrier, broadcast, reduce, allreduce, BlockTree, nothing, more, BranchTrees, no_branch, branch, is_again}
+use Rattle.pb_core_language.specs.declared.tree.Bounds.{Bounds}
 use Rattle.pb_core_language.specs.Flat as F
 use Rattle.pb_core_language.specs.Flat.{Asked, Origin}
 use Rattle.pb_core_language.specs.FlatOf.{for_each, from_none, from_one, from_two, flat_stmt, flat_block, flat_branches}
 use Rattle.pb_core_language.specs.Rules.{each_origin, each_origin_among}
 use Rattle.pb_core_language.specs.Sound.{Rows, is_item, is_stmt, is_block, are_branches, has_branch, is_end, is_bound}
-use Rattle.pb_rules.specs.declared.ends.Over.{Over}
-use Rattle.pb_rules.specs.Traps.{over_of}
-use Rattle.pb_rules.specs.Sites.{Site, one, two, is_again, stmt_sites, block_sites, branches_sites}
+use Rattle.pb_rules.specs.Sites.{Site, one, two, stmt_sites, block_sites, branches_sites}
 use Rattle.pb_rules.proofs.Lists.{Has, has_cases, has_left, has_right}
 
 -- x is a value of the variable, or 0 where no variable runs
-abbrev pub IsValue : Option Over → ℤ → ℤ → Type 0
+abbrev pub IsValue : Option Bounds → ℤ → ℤ → Type 0
 IsValue None n x = x ≡ pos 0
 IsValue (Some o) n x = Has (range (value o.low n (pos 0)) (value o.high n (pos 0))) x
 
@@ -43,7 +42,7 @@ any_cases n f [] ts a h = inr h
 any_cases n f (s ∷ ss) ts a (inl h) = inl (inl h)
 any_cases n f (s ∷ ss) ts a (inr h) = elim (any_cases n f ss ts a h) [ inl x ↦ inl (inr x) | inr y ↦ inr y ]
 
-pub sites_more : (over : Option Over) (m : Mark) (s : StmtTree) (b : BlockTree) → is_again s ≡ false → block_sites over (more m s b) ≡ stmt_sites over m s ++ block_sites over b
+pub sites_more : (over : Option Bounds) (m : Mark) (s : StmtTree) (b : BlockTree) → is_again s ≡ false → block_sites over (more m s b) ≡ stmt_sites over m s ++ block_sites over b
 sites_more over m s b e = cond-false (is_again s) [] (stmt_sites over m s ++ block_sites over b) e
 
 module _ (roles : List CoreRole) (n : ℤ) (of_origin : Origin → List Asked) (of_none : (m : Mark) → of_origin (from_none m) ≡ []) where
@@ -70,7 +69,7 @@ module _ (roles : List CoreRole) (n : ℤ) (of_origin : Origin → List Asked) (
   -- ---- a foreach
 
   -- an item at one value of the variable
-  item_to : (rows : Rows) (opens : List ℕ) (o : Over) (x : ℤ) (b : BlockTree) (rest : F.Block) (a : Asked) → is_block rows true opens b ≡ true → IsValue (Some o) n x
+  item_to : (rows : Rows) (opens : List ℕ) (o : Bounds) (x : ℤ) (b : BlockTree) (rest : F.Block) (a : Asked) → is_block rows true opens b ≡ true → IsValue (Some o) n x
       → In (flat_block roles n opens x b rest) a → AnyAt n of_origin (block_sites (Some o) b) a ⊎ In rest a
   item_to rows opens o x nothing rest a sound v h = inr h
   item_to rows opens o x (more m (message l f t) b) rest a sound v h =
@@ -107,7 +106,7 @@ module _ (roles : List CoreRole) (n : ℤ) (of_origin : Origin → List Asked) (
   item_past rows opens x (more m (allreduce l op) b) rest a sound i = absurd (true≢false (sym sound))
 
   -- a site of the items has a value at which they have it
-  item_from : (rows : Rows) (opens : List ℕ) (o : Over) (b : BlockTree) (a : Asked) → is_block rows true opens b ≡ true → AnyAt n of_origin (block_sites (Some o) b) a
+  item_from : (rows : Rows) (opens : List ℕ) (o : Bounds) (b : BlockTree) (a : Asked) → is_block rows true opens b ≡ true → AnyAt n of_origin (block_sites (Some o) b) a
       → (x : ℤ) × IsValue (Some o) n x × ((rest : F.Block) → In (flat_block roles n opens x b rest) a)
   item_from rows opens o nothing a sound h = absurd h
   item_from rows opens o (more m (message l f t) b) a sound (inl h) = (h.0, h.1, λ rest. has_left (of_origin (from_two m f t n h.0)) _ a h.2)
@@ -130,7 +129,7 @@ module _ (roles : List CoreRole) (n : ℤ) (of_origin : Origin → List Asked) (
   abbrev each : List ℕ → List ℤ → BlockTree → F.Block → F.Block
   each opens xs b rest = for_each xs (λ x. flat_block roles n opens x b) rest
 
-  each_to : (rows : Rows) (opens : List ℕ) (o : Over) (xs : List ℤ) (b : BlockTree) (rest : F.Block) (a : Asked) → is_block rows true opens b ≡ true → ((x : ℤ) → Has xs x → IsValue (Some o) n x)
+  each_to : (rows : Rows) (opens : List ℕ) (o : Bounds) (xs : List ℤ) (b : BlockTree) (rest : F.Block) (a : Asked) → is_block rows true opens b ≡ true → ((x : ℤ) → Has xs x → IsValue (Some o) n x)
       → In (each opens xs b rest) a → AnyAt n of_origin (block_sites (Some o) b) a ⊎ In rest a
   each_to rows opens o [] b rest a sound v h = inr h
   each_to rows opens o (x ∷ xs) b rest a sound v h =
@@ -169,7 +168,7 @@ module _ (roles : List CoreRole) (n : ℤ) (of_origin : Origin → List Asked) (
     stmt_to rows opens m (message l f t) rest a sound h =
         elim (has_cases (of_origin (from_two m f t n (pos 0))) (each_origin of_origin rest) a h) [ inl here ↦ inl (inl (pos 0, refl, here)) | inr there ↦ inr there ]
     stmt_to rows opens m (foreach b k items) rest a sound h =
-        each_to rows opens (over_of b) (range (value b.low n (pos 0)) (value b.high n (pos 0))) items rest a (foreach_items rows opens b k items sound) (λ x v. v) h
+        each_to rows opens b (range (value b.low n (pos 0)) (value b.high n (pos 0))) items rest a (foreach_items rows opens b k items sound) (λ x v. v) h
     stmt_to rows opens m (loop id k body) rest a sound h =
         elim (has_cases (each_origin of_origin (flat_block roles n (id ∷ opens) (pos 0) body F.stop)) (each_origin of_origin rest) a (past_none m _ a h)) [
           | inl here ↦ elim (block_to rows (id ∷ opens) body F.stop a (and_parts _ _ sound).1 here) [ inl y ↦ inl y | inr z ↦ absurd z ]
@@ -243,7 +242,7 @@ module _ (roles : List CoreRole) (n : ℤ) (of_origin : Origin → List Asked) (
     stmt_from rows opens m (message l f t) rest a sound (inr h) = absurd h
     stmt_from rows opens m (foreach b k items) rest a sound h =
         let s = foreach_items rows opens b k items sound in
-        let r = item_from rows opens (over_of b) items a s h in
+        let r = item_from rows opens b items a s h in
         each_from rows opens (range (value b.low n (pos 0)) (value b.high n (pos 0))) items rest a r.0 s r.1 r.2
     stmt_from rows opens m (loop id k body) rest a sound h =
         none_past m _ a (has_left (each_origin of_origin (flat_block roles n (id ∷ opens) (pos 0) body F.stop)) _ a (block_from rows (id ∷ opens) body F.stop a (and_parts _ _ sound).1 h))

@@ -11,7 +11,7 @@ use Rattle.pb_core_language.specs.Verdict as V
 use Rattle.pb_core_language.specs.Verdict.{IsIn}
 use Rattle.pb_rules.specs.declared.line.Line.{Line}
 use Rattle.pb_rules.specs.declared.span.Span.{Span}
-use Rattle.pb_rules.specs.declared.ends.Over.{Over}
+use Rattle.pb_core_language.specs.declared.tree.Bounds.{Bounds}
 use Rattle.pb_rules.specs.declared.ends.Reach.{Reach}
 use Rattle.pb_rules.specs.Lines.{moves, line_of, part_of_n, value_at, IsUpTo, IsInSpan, number_if, whole, nowhere, later, earlier_end, kept_where, at_most, below}
 use Rattle.pb_rules.specs.Traps.{reach_in, reach, alive}
@@ -152,24 +152,24 @@ value_line l n = ap (λ x. l.off +ℤ x) (base_part l.base n)
 -- ---- foreaches
 
 -- the variable has a value
-abbrev pub IsLive : Option Over → ℤ → Type 0
+abbrev pub IsLive : Option Bounds → ℤ → Type 0
 IsLive None n = Unit {0}
 IsLive (Some o) n = value_at (line_of o.low) n ≤ℤ value_at (line_of o.high) n
 
-pub alive_gives : (r : NRange) (over : Option Over) (n : ℤ) → IsInSpan (alive r over) n → IsIn r n × IsLive over n
+pub alive_gives : (r : NRange) (over : Option Bounds) (n : ℤ) → IsInSpan (alive r over) n → IsIn r n × IsLive over n
 alive_gives r None n h = (whole_gives r n h, tt)
 alive_gives r (Some o) n h = let t = at_most_gives (whole r) (line_of o.low) (line_of o.high) n h in (whole_gives r n t.0, t.1)
 
-pub gives_alive : (r : NRange) (over : Option Over) (n : ℤ) → IsIn r n → IsLive over n → IsInSpan (alive r over) n
+pub gives_alive : (r : NRange) (over : Option Bounds) (n : ℤ) → IsIn r n → IsLive over n → IsInSpan (alive r over) n
 gives_alive r None n h k = gives_whole r n h
 gives_alive r (Some o) n h k = gives_at_most (whole r) (line_of o.low) (line_of o.high) n (gives_whole r n h) k
 
-two_lines : (o : Over) (n x : ℤ) → IsValue (Some o) n x → (value_at (line_of o.low) n ≤ℤ x) × (x ≤ℤ value_at (line_of o.high) n)
+two_lines : (o : Bounds) (n x : ℤ) → IsValue (Some o) n x → (value_at (line_of o.low) n ≤ℤ x) × (x ≤ℤ value_at (line_of o.high) n)
 two_lines o n x v =
     let t = in_range (value o.low n (pos 0)) (value o.high n (pos 0)) x v in
     (subst (λ y. y ≤ℤ x) (value_line o.low n) t.0, subst (λ y. x ≤ℤ y) (value_line o.high n) t.1)
 
-lines_two : (o : Over) (n x : ℤ) → value_at (line_of o.low) n ≤ℤ x → x ≤ℤ value_at (line_of o.high) n → IsValue (Some o) n x
+lines_two : (o : Bounds) (n x : ℤ) → value_at (line_of o.low) n ≤ℤ x → x ≤ℤ value_at (line_of o.high) n → IsValue (Some o) n x
 lines_two o n x h k =
     range_has (value o.low n (pos 0)) (value o.high n (pos 0)) x (subst (λ y. y ≤ℤ x) (sym (value_line o.low n)) h) (subst (λ y. x ≤ℤ y) (sym (value_line o.high n)) k)
 
@@ -179,7 +179,7 @@ int_trans a b c h k = omega (arith, ints)
 int_self : (a : ℤ) → a ≤ℤ a
 int_self a = omega (arith, ints)
 
-pub value_live : (over : Option Over) (n x : ℤ) → IsValue over n x → IsLive over n
+pub value_live : (over : Option Bounds) (n x : ℤ) → IsValue over n x → IsLive over n
 value_live None n x v = tt
 value_live (Some o) n x v = let t = two_lines o n x v in int_trans (value_at (line_of o.low) n) x (value_at (line_of o.high) n) t.0 t.1
 
@@ -199,7 +199,7 @@ moved_up low c p x h = omega (arith, ints)
 moved_down : (high c p x : ℤ) → x ≤ℤ (high +ℤ p) → (c +ℤ x) ≤ℤ (high +ℤ c +ℤ p)
 moved_down high c p x h = omega (arith, ints)
 
-within_in : (over : Option Over) (b : Base) (c n x : ℤ) → IsValue over n x → IsWithin (reach_in over b c) n (c +ℤ base_value b n x)
+within_in : (over : Option Bounds) (b : Base) (c n x : ℤ) → IsValue over n x → IsWithin (reach_in over b c) n (c +ℤ base_value b n x)
 within_in None Fixed c n x v = record { first = int_self (c +ℤ pos 0); last = int_self (c +ℤ pos 0) }
 within_in None Param c n x v = record { first = int_self (c +ℤ n); last = int_self (c +ℤ n) }
 within_in None Var c n x v = let t = at_zero c x v in record { first = t.0; last = t.1 }
@@ -209,16 +209,16 @@ within_in (Some o) Var c n x v =
     let t = two_lines o n x v in
     record { first = moved_up o.low.off c (part_of_n (moves o.low.base) n) x t.0; last = moved_down o.high.off c (part_of_n (moves o.high.base) n) x t.1 }
 
-pub within : (over : Option Over) (l : Lin) (n x : ℤ) → IsValue over n x → IsWithin (reach over l) n (value l n x)
+pub within : (over : Option Bounds) (l : Lin) (n x : ℤ) → IsValue over n x → IsWithin (reach over l) n (value l n x)
 within over l n x v = within_in over l.base l.off n x v
 
 -- the variable's value for an index
-pub record IsAsked (over : Option Over) (l : Lin) (n y : ℤ) : Type 0 where
+pub record IsAsked (over : Option Bounds) (l : Lin) (n y : ℤ) : Type 0 where
   pub x : ℤ
   pub value_is : IsValue over n x
   pub index : value l n x ≡ y
 
-record IsAskedBy (over : Option Over) (b : Base) (c n y : ℤ) : Type 0 where
+record IsAskedBy (over : Option Bounds) (b : Base) (c n y : ℤ) : Type 0 where
   x : ℤ
   value_is : IsValue over n x
   index : c +ℤ base_value b n x ≡ y
@@ -235,7 +235,7 @@ off_low low c p y h = omega (arith, ints)
 off_high : (high c p y : ℤ) → y ≤ℤ (high +ℤ c +ℤ p) → (y -ℤ c) ≤ℤ (high +ℤ p)
 off_high high c p y h = omega (arith, ints)
 
-asked_in : (over : Option Over) (b : Base) (c n y : ℤ) → IsLive over n → IsWithin (reach_in over b c) n y → IsAskedBy over b c n y
+asked_in : (over : Option Bounds) (b : Base) (c n y : ℤ) → IsLive over n → IsWithin (reach_in over b c) n y → IsAskedBy over b c n y
 asked_in None Fixed c n y live w = record { x = pos 0; value_is = refl; index = only_one (c +ℤ pos 0) y w.first w.last }
 asked_in None Param c n y live w = record { x = pos 0; value_is = refl; index = only_one (c +ℤ n) y w.first w.last }
 asked_in None Var c n y live w = record { x = pos 0; value_is = refl; index = only_one (c +ℤ pos 0) y w.first w.last }
@@ -247,14 +247,14 @@ asked_in (Some o) Var c n y live w = record {
   index = take_off c y;
 }
 
-pub asked_for : (over : Option Over) (l : Lin) (n y : ℤ) → IsLive over n → IsWithin (reach over l) n y → IsAsked over l n y
+pub asked_for : (over : Option Bounds) (l : Lin) (n y : ℤ) → IsLive over n → IsWithin (reach over l) n y → IsAsked over l n y
 asked_for over l n y live w = let t = asked_in over l.base l.off n y live w in record { x = t.x; value_is = t.value_is; index = t.index }
 
 -- ---- ends that don't vary, and the first value of ends that do
 
-pub stays : (over : Option Over) (l : Lin) → (reach over l).varies ≡ false → (reach over l).last ≡ (reach over l).first
+pub stays : (over : Option Bounds) (l : Lin) → (reach over l).varies ≡ false → (reach over l).last ≡ (reach over l).first
 stays over l e = stay over l.base l.off e where
-  stay : (over : Option Over) (b : Base) (c : ℤ) → (reach_in over b c).varies ≡ false → (reach_in over b c).last ≡ (reach_in over b c).first
+  stay : (over : Option Bounds) (b : Base) (c : ℤ) → (reach_in over b c).varies ≡ false → (reach_in over b c).last ≡ (reach_in over b c).first
   stay None Fixed c e = refl
   stay None Param c e = refl
   stay None Var c e = refl
@@ -263,12 +263,12 @@ stays over l e = stay over l.base l.off e where
   stay (Some o) Var c e = absurd (true≢false e)
 
 -- a value of the variable at which each end that varies has its first index
-pub record HasFirst (over : Option Over) (n : ℤ) : Type 0 where
+pub record HasFirst (over : Option Bounds) (n : ℤ) : Type 0 where
   pub x : ℤ
   pub value_is : IsValue over n x
   pub first : (l : Lin) → (reach over l).varies ≡ true → value l n x ≡ value_at (reach over l).first n
 
-pub has_first : (over : Option Over) (n : ℤ) → IsLive over n → HasFirst over n
+pub has_first : (over : Option Bounds) (n : ℤ) → IsLive over n → HasFirst over n
 has_first None n live = record { x = pos 0; value_is = refl; first = λ l e. absurd (fixed l.base l.off e) } where
   fixed : (b : Base) (c : ℤ) → (reach_in None b c).varies ≡ true → ⊥
   fixed Fixed c e = true≢false (sym e)
@@ -287,15 +287,15 @@ has_first (Some o) n live = record {
   moving Param c e = absurd (true≢false (sym e))
   moving Var c e = swap o.low.off c (part_of_n (moves o.low.base) n)
 
-pub first_within : (over : Option Over) (l : Lin) (n : ℤ) → IsLive over n → IsWithin (reach over l) n (value_at (reach over l).first n)
+pub first_within : (over : Option Bounds) (l : Lin) (n : ℤ) → IsLive over n → IsWithin (reach over l) n (value_at (reach over l).first n)
 first_within over l n live =
     let x = has_first over n live in
     let w = within over l n x.x x.value_is in
     record { first = int_self (value_at (reach over l).first n); last = int_trans (value_at (reach over l).first n) (value l n x.x) (value_at (reach over l).last n) w.first w.last }
 
-pub vary_value : (over : Option Over) (l : Lin) (n x : ℤ) → (reach over l).varies ≡ true → value l n x ≡ l.off +ℤ x
+pub vary_value : (over : Option Bounds) (l : Lin) (n x : ℤ) → (reach over l).varies ≡ true → value l n x ≡ l.off +ℤ x
 vary_value over l n x e = vary over l.base l.off e where
-  vary : (over : Option Over) (b : Base) (c : ℤ) → (reach_in over b c).varies ≡ true → c +ℤ base_value b n x ≡ c +ℤ x
+  vary : (over : Option Bounds) (b : Base) (c : ℤ) → (reach_in over b c).varies ≡ true → c +ℤ base_value b n x ≡ c +ℤ x
   vary None Fixed c e = absurd (true≢false (sym e))
   vary None Param c e = absurd (true≢false (sym e))
   vary None Var c e = absurd (true≢false (sym e))

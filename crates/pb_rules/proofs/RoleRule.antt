@@ -6,7 +6,8 @@ use Rattle.pb_affine.specs.declared.range.NRange.{NRange}
 use Rattle.pb_affine.specs.Values.{value, range}
 use Rattle.pb_core_language.specs.declared.protocol.CoreRole.{CoreRole}
 use Rattle.pb_core_language.specs.Tree.{Mark}
-use Rattle.pb_core_language.specs.Rules.{is_empty, empty_roles, nobody}
+use Rattle.pb_core_language.specs.Lists.{is_empty}
+use Rattle.pb_core_language.specs.Rules.{empty_roles, nobody}
 use Rattle.pb_core_language.specs.Verdict.{Broken, IsIn}
 use Rattle.pb_rules.specs.declared.found.Found.{Found}
 use Rattle.pb_rules.specs.Lines.{line_of, value_at, IsInSpan, whole, below}

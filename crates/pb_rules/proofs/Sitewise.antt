@@ -8,12 +8,12 @@ use Rattle.pb_core_language.specs.declared.protocol.CoreRole.{CoreRole}
 use Rattle.pb_core_language.specs.declared.tree.CoreEnd.{CoreEnd}
 use Rattle.pb_core_language.specs.Ranks.{Seat, seat_eq, seats}
 use Rattle.pb_core_language.specs.Tree.{Mark}
+use Rattle.pb_core_language.specs.declared.tree.Bounds.{Bounds}
 use Rattle.pb_core_language.specs.Flat.{Asked}
 use Rattle.pb_core_language.specs.FlatOf.{seat, asked}
 use Rattle.pb_core_language.specs.Rules.{is_seat, strays, loners, somebody}
 use Rattle.pb_core_language.specs.Verdict.{Broken, IsIn}
 use Rattle.pb_rules.specs.declared.found.Found.{Found}
-use Rattle.pb_rules.specs.declared.ends.Over.{Over}
 use Rattle.pb_rules.specs.Traps.{kept_all, end_traps, message_traps}
 use Rattle.pb_rules.specs.Sites.{Site, one, two, kept_site, kept_sites}
 use Rattle.pb_rules.proofs.Lists.{Has}
@@ -53,17 +53,17 @@ module _ (r : NRange) (roles : List CoreRole) where
   out n e x = not (is_seat (seat e n x) (seats roles n))
 
   -- what is at a site breaks the rules
-  stray_at : (n : ℤ) (over : Option Over) (e : CoreEnd) (x : ℤ) → IsValue over n x → out n e x ≡ true → IsStray roles over e n (value e.at n x)
+  stray_at : (n : ℤ) (over : Option Bounds) (e : CoreEnd) (x : ℤ) → IsValue over n x → out n e x ≡ true → IsStray roles over e n (value e.at n x)
   stray_at n over e x v t = record { asked = record { x = x; value_is = v; index = refl }; out = not-true (is_seat (seat e n x) (seats roles n)) t }
 
-  alike_at : (n : ℤ) (over : Option Over) (f t : CoreEnd) (x : ℤ) → IsValue over n x → seat_eq (seat f n x) (seat t n x) ≡ true → IsAlike over f t n (value f.at n x)
+  alike_at : (n : ℤ) (over : Option Bounds) (f t : CoreEnd) (x : ℤ) → IsValue over n x → seat_eq (seat f n x) (seat t n x) ≡ true → IsAlike over f t n (value f.at n x)
   alike_at n over f t x v e =
       let s = seat_same (seat f n x) (seat t n x) e in
       record { x = x; value_is = v; sender = refl; receiver = sym (ap (λ y. y.index) s); role = ap (λ y. y.role) s }
 
   -- ---- the best at a site
 
-  end_named : (over : Option Over) (k : ℕ) (e : CoreEnd) (best : Option Found) → IfNamed best → IfNamed (kept_all (end_traps r roles over k e) best)
+  end_named : (over : Option Bounds) (k : ℕ) (e : CoreEnd) (best : Option Found) → IfNamed best → IfNamed (kept_all (end_traps r roles over k e) best)
   end_named over k e best h = all_named (end_traps r roles over k e) best (stray_named r roles over k e) h
 
   site_named : (s : Site) (best : Option Found) → IfNamed best → IfNamed (kept_site r roles s best)
@@ -71,10 +71,10 @@ module _ (r : NRange) (roles : List CoreRole) where
   site_named (two over m f t) best h =
       all_named (message_traps r over m f t) _ (alike_named r over m f t) (end_named over (2 * m.number + 1) t _ (end_named over (2 * m.number) f best h))
 
-  end_stay : (c : Broken) (over : Option Over) (k : ℕ) (e : CoreEnd) (best : Option Found) → IsNamedBroken c → IfNamed best → IsNotBefore c best → IsNotBefore c (kept_all (end_traps r roles over k e) best)
+  end_stay : (c : Broken) (over : Option Bounds) (k : ℕ) (e : CoreEnd) (best : Option Found) → IsNamedBroken c → IfNamed best → IsNotBefore c best → IsNotBefore c (kept_all (end_traps r roles over k e) best)
   end_stay c over k e best named h b = all_stay c (end_traps r roles over k e) best named (stray_named r roles over k e) h b
 
-  message_stay : (c : Broken) (over : Option Over) (m : Mark) (f t : CoreEnd) (best : Option Found) → IsNamedBroken c → IfNamed best → IsNotBefore c best → IsNotBefore c (kept_all (message_traps r over m f t) best)
+  message_stay : (c : Broken) (over : Option Bounds) (m : Mark) (f t : CoreEnd) (best : Option Found) → IsNamedBroken c → IfNamed best → IsNotBefore c best → IsNotBefore c (kept_all (message_traps r over m f t) best)
   message_stay c over m f t best named h b = all_stay c (message_traps r over m f t) best named (alike_named r over m f t) h b
 
   site_stay : (c : Broken) (s : Site) (best : Option Found) → IsNamedBroken c → IfNamed best → IsNotBefore c best → IsNotBefore c (kept_site r roles s best)
@@ -90,7 +90,7 @@ module _ (r : NRange) (roles : List CoreRole) where
   eight : ◌≡◌ {A = ℕ} 8 6 → ⊥
   eight e = absurd (omega arith)
 
-  end_come : (n : ℤ) (over : Option Over) (k : ℕ) (e : CoreEnd) (x : ℤ) (best : Option Found) → IsSome (slice_get roles e.role) → IsIn r n → IfNamed best → IsValue over n x → out n e x ≡ true
+  end_come : (n : ℤ) (over : Option Bounds) (k : ℕ) (e : CoreEnd) (x : ℤ) (best : Option Found) → IsSome (slice_get roles e.role) → IsIn r n → IfNamed best → IsValue over n x → out n e x ≡ true
       → IsNotBefore (broken_at 7 (asked e k n x) n) (kept_all (end_traps r roles over k e) best)
   end_come n over k e x best there inside h v t =
       all_come (broken_at 7 (asked e k n x) n) (end_traps r roles over k e) best seven (stray_named r roles over k e) h (stray_covers r roles over k e there n (value e.at n x) inside (stray_at n over e x v t))
@@ -158,11 +158,11 @@ module _ (r : NRange) (roles : List CoreRole) where
     abbrev pub Each8 : Site → Type 0
     Each8 s = (n : ℤ) (a : Asked) → IsIn r n → At n loners s a → Q (found_of 8 a n)
 
-    still_out : (n y : ℤ) (over : Option Over) (e : CoreEnd) (s : IsStray roles over e n y) → out n e s.asked.x ≡ true
+    still_out : (n y : ℤ) (over : Option Bounds) (e : CoreEnd) (s : IsStray roles over e n y) → out n e s.asked.x ≡ true
     still_out n y over e s =
         not_from_false (is_seat (seat e n s.asked.x) (seats roles n)) (subst (λ z. is_seat (record { role = e.role; index = z }) (seats roles n) ≡ false) (sym s.asked.index) s.out)
 
-    index_of : (n y : ℤ) (over : Option Over) (e : CoreEnd) (k : ℕ) (s : IsStray roles over e n y) → Q (found_of 7 (asked e k n s.asked.x) n) → Q (found_of 7 (record { mark = record { number = k; place = e.place }; seat = record { role = e.role; index = y } }) n)
+    index_of : (n y : ℤ) (over : Option Bounds) (e : CoreEnd) (k : ℕ) (s : IsStray roles over e n y) → Q (found_of 7 (asked e k n s.asked.x) n) → Q (found_of 7 (record { mark = record { number = k; place = e.place }; seat = record { role = e.role; index = y } }) n)
     index_of n y over e k s q = subst (λ z. Q (found_of 7 (record { mark = record { number = k; place = e.place }; seat = record { role = e.role; index = z } }) n)) s.asked.index q
 
     site_hold : (s : Site) (best : Option Found) → IfFound Q best → Each7 s → Each8 s → IfFound Q (kept_site r roles s best)

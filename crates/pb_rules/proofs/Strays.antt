@@ -12,7 +12,7 @@ use Rattle.pb_core_language.specs.Verdict.{Broken, IsIn}
 use Rattle.pb_rules.specs.declared.found.Found.{Found}
 use Rattle.pb_rules.specs.declared.line.Line.{Line}
 use Rattle.pb_rules.specs.declared.span.Span.{Span}
-use Rattle.pb_rules.specs.declared.ends.Over.{Over}
+use Rattle.pb_core_language.specs.declared.tree.Bounds.{Bounds}
 use Rattle.pb_rules.specs.declared.ends.Reach.{Reach}
 use Rattle.pb_rules.specs.Lines.{line_of, raised, part_of_n, value_at, IsInSpan, at_most, below}
 use Rattle.pb_rules.specs.Traps.{reach, alive, stray_trap, stray_traps, end_traps_in, end_traps}
@@ -22,7 +22,7 @@ use Rattle.pb_rules.proofs.Seats.{IsInRole, outside, outside_seat}
 use Rattle.pb_rules.proofs.Reaches.{at_most_gives, gives_at_most, below_gives, gives_below, value_line, IsLive, alive_gives, gives_alive, value_live, IsWithin, within, IsAsked, asked_for, first_within}
 
 -- the end asks for the seat y, which isn't there
-pub record IsStray (roles : List CoreRole) (over : Option Over) (e : CoreEnd) (n y : ℤ) : Type 0 where
+pub record IsStray (roles : List CoreRole) (over : Option Bounds) (e : CoreEnd) (n y : ℤ) : Type 0 where
   pub asked : IsAsked over e.at n y
   pub out : is_seat (record { role = e.role; index = y }) (seats roles n) ≡ false
 
@@ -62,7 +62,7 @@ next_lt off p = omega (arith, ints)
 sides : (high first : ℤ) → (high <ℤ first) ⊎ (first ≤ℤ high)
 sides high first = grind (arith, ints)
 
-module _ (range : NRange) (roles : List CoreRole) (over : Option Over) (number : ℕ) (e : CoreEnd) where
+module _ (range : NRange) (roles : List CoreRole) (over : Option Bounds) (number : ℕ) (e : CoreEnd) where
   abbrev R : Reach
   R = reach over e.at
 

@@ -8,7 +8,8 @@ use Rattle.pb_core_language.specs.Flat as F
 use Rattle.pb_core_language.specs.Flat.{Asked}
 use Rattle.pb_core_language.specs.Outcomes.{Outcome}
 use Rattle.pb_core_language.specs.FlatOf.{from_none}
-use Rattle.pb_core_language.specs.Rules.{over_below, empty_roles, each_origin, strays, loners, Breach, nobody, somebody, ranked, misfits, misfitting, flat_at, total_at, ranks_at, broken_6, broken_7, broken_8, broken_9, broken_10, broken_11, broken_12, deserted, receives_only, keeps_source, keeps_labels, breaches}
+use Rattle.pb_core_language.specs.Lists.{over_below}
+use Rattle.pb_core_language.specs.Rules.{empty_roles, each_origin, strays, loners, Breach, nobody, somebody, ranked, misfits, misfitting, flat_at, total_at, ranks_at, broken_6, broken_7, broken_8, broken_9, broken_10, broken_11, broken_12, deserted, receives_only, keeps_source, keeps_labels, breaches}
 use Rattle.pb_core_language.specs.Sound.{is_range, are_roles, is_block, rows_of, is_sound}
 use Rattle.pb_core_language.specs.Verdict.{Broken, IsIn, IsBroken, IsFirstBroken, is_before}
 use Rattle.pb_rules.specs.declared.found.Found.{Found}

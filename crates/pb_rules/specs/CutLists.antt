@@ -1,6 +1,7 @@
 -- Lists of cuts: those whose numbers are small, and those that have the same cuts.
 use Rattle.std.specs.Prelude.{◌≡◌, ℤ, pos, negsuc, int_le, Bool, true, ◌&&◌, ◌⊎◌, List, [], ◌∷◌, ◌++◌, map}
 use Rattle.std.specs.List.{Contains}
+use Rattle.pb_text.specs.declared.limits.TheConstants.{LEAST_OFFSET, MOST_OFFSET}
 use Rattle.pb_affine.specs.declared.lin.Base.{Base}
 use Rattle.pb_affine.specs.declared.lin.Base.TheVariants.{Fixed, Param}
 use Rattle.pb_affine.specs.declared.lin.Lin.{Lin}
@@ -10,7 +11,7 @@ use Rattle.pb_rules.specs.declared.offsets.Offsets.{Offsets}
 
 -- no variable, and an offset within 1,000,000 of zero
 abbrev pub is_cut : Lin → Bool
-is_cut l = is_over_n l.base && (int_le (negsuc 999999) l.off && int_le l.off (pos 1000000))
+is_cut l = is_over_n l.base && (int_le LEAST_OFFSET l.off && int_le l.off MOST_OFFSET)
 
 abbrev pub are_cuts : List Lin → Bool
 are_cuts [] = true

@@ -4,37 +4,25 @@ use Rattle.pb_affine.specs.declared.range.NRange.{NRange}
 use Rattle.pb_core_language.specs.declared.protocol.CoreRole.{CoreRole}
 use Rattle.pb_core_language.specs.declared.tree.CoreEnd.{CoreEnd}
 use Rattle.pb_core_language.specs.Plain.{Protocol}
-use Rattle.pb_core_language.specs.Tree.{Mark, StmtTree, message, foreach, loop, again, choice, run, barrier, broadcast, reduce, allreduce, BlockTree, nothing, more, BranchTrees, no_branch, branch}
+use Rattle.pb_core_language.specs.Tree.{is_again, Mark, StmtTree, message, foreach, loop, again, choice, run, barrier, broadcast, reduce, allreduce, BlockTree, nothing, more, BranchTrees, no_branch, branch}
+use Rattle.pb_core_language.specs.declared.tree.Bounds.{Bounds}
 use Rattle.pb_rules.specs.declared.found.Found.{Found}
-use Rattle.pb_rules.specs.declared.ends.Over.{Over}
 use Rattle.pb_rules.specs.declared.walk.Mark as W
-use Rattle.pb_rules.specs.Traps.{over_of, kept_all, role_traps, end_traps, message_traps}
+use Rattle.pb_rules.specs.Traps.{kept_all, role_traps, end_traps, message_traps}
 
 -- a statement with its ends, in a foreach or not
 pub data Site : Type 0 where
-  one : (over : Option Over) (mark : Mark) (at : CoreEnd) → Site
-  two : (over : Option Over) (mark : Mark) (sender receiver : CoreEnd) → Site
+  one : (over : Option Bounds) (mark : Mark) (at : CoreEnd) → Site
+  two : (over : Option Bounds) (mark : Mark) (sender receiver : CoreEnd) → Site
 
 abbrev pub mark_of : W.Mark → Mark
 mark_of m = record { number = m.number; place = m.place }
 
-abbrev pub is_again : StmtTree → Bool
-is_again (message l f t) = false
-is_again (foreach h m items) = false
-is_again (loop id m body) = false
-is_again (again id) = true
-is_again (choice k at bs) = false
-is_again (run k at) = false
-is_again barrier = false
-is_again (broadcast l root) = false
-is_again (reduce l op root) = false
-is_again (allreduce l op) = false
-
 -- what stands behind a continue is never come to
 abbrev mutual
-  pub stmt_sites : Option Over → Mark → StmtTree → List Site
+  pub stmt_sites : Option Bounds → Mark → StmtTree → List Site
   stmt_sites over m (message l f t) = two over m f t ∷ []
-  stmt_sites over m (foreach h k items) = block_sites (Some (over_of h)) items
+  stmt_sites over m (foreach h k items) = block_sites (Some h) items
   stmt_sites over m (loop id k body) = block_sites over body
   stmt_sites over m (again id) = []
   stmt_sites over m (choice k at bs) = one over m at ∷ branches_sites over bs
@@ -44,11 +32,11 @@ abbrev mutual
   stmt_sites over m (reduce l op root) = one over m root ∷ []
   stmt_sites over m (allreduce l op) = []
 
-  pub block_sites : Option Over → BlockTree → List Site
+  pub block_sites : Option Bounds → BlockTree → List Site
   block_sites over nothing = []
   block_sites over (more m s rest) = if is_again s then [] else (stmt_sites over m s ++ block_sites over rest)
 
-  pub branches_sites : Option Over → BranchTrees → List Site
+  pub branches_sites : Option Bounds → BranchTrees → List Site
   branches_sites over no_branch = []
   branches_sites over (branch m b bs) = block_sites over b ++ branches_sites over bs
 

@@ -8,7 +8,8 @@ use Rattle.pb_affine.specs.declared.range.NRange.{NRange}
 use Rattle.pb_affine.specs.Values.{IsNear}
 use Rattle.pb_core_language.specs.declared.protocol.CoreRole.{CoreRole}
 use Rattle.pb_core_language.specs.declared.tree.CoreEnd.{CoreEnd}
-use Rattle.pb_core_language.specs.Tree.{Mark, Bounds}
+use Rattle.pb_core_language.specs.Tree.{Mark}
+use Rattle.pb_core_language.specs.declared.tree.Bounds.{Bounds}
 use Rattle.pb_core_language.specs.Rules.{Breach}
 use Rattle.pb_core_language.specs.Verdict.{Broken, is_before}
 use Rattle.pb_rules.specs.declared.fault.At.{At}
@@ -17,7 +18,6 @@ use Rattle.pb_rules.specs.declared.span.Span.{Span}
 use Rattle.pb_rules.specs.declared.trap.Moving.{Moving}
 use Rattle.pb_rules.specs.declared.trap.Trap.{Trap}
 use Rattle.pb_rules.specs.declared.found.Found.{Found}
-use Rattle.pb_rules.specs.declared.ends.Over.{Over}
 use Rattle.pb_rules.specs.declared.ends.Reach.{Reach}
 use Rattle.pb_rules.specs.Lines.{line_of, raised, value_at, IsShort, whole, at_most, below, first_of}
 use Rattle.pb_rules.specs.Verdict.{seat_if}
@@ -70,17 +70,10 @@ pub record IsFair (t : Trap) : Type 0 where
 
 -- ---- where an end reaches
 
-abbrev pub bounds_if : Option Over → Option Bounds
-bounds_if None = None
-bounds_if (Some o) = Some (record { low = o.low; high = o.high })
-
-abbrev pub over_of : Bounds → Over
-over_of b = record { low = b.low; high = b.high }
-
 abbrev pub still : Line → Reach
 still l = record { varies = false; first = l; last = l }
 
-abbrev pub reach_in : Option Over → Base → ℤ → Reach
+abbrev pub reach_in : Option Bounds → Base → ℤ → Reach
 reach_in None Fixed c = still (line_of (record { base = Fixed; off = c }))
 reach_in None Param c = still (line_of (record { base = Param; off = c }))
 reach_in None Var c = still (line_of (record { base = Var; off = c }))
@@ -89,11 +82,11 @@ reach_in (Some o) Param c = still (line_of (record { base = Param; off = c }))
 reach_in (Some o) Var c = record { varies = true; first = raised (line_of o.low) c; last = raised (line_of o.high) c }
 
 -- from its index at the first value of the variable to that at the last
-abbrev pub reach : Option Over → Lin → Reach
+abbrev pub reach : Option Bounds → Lin → Reach
 reach over l = reach_in over l.base l.off
 
 -- where the variable has a value
-abbrev pub alive : NRange → Option Over → Span
+abbrev pub alive : NRange → Option Bounds → Span
 alive range None = whole range
 alive range (Some o) = at_most (whole range) (line_of o.low) (line_of o.high)
 
@@ -123,7 +116,7 @@ abbrev pub end_traps_in : Span → ℕ → CoreEnd → Option CoreRole → Reach
 end_traps_in live number e None r = []
 end_traps_in live number e (Some role) r = stray_traps live number e (line_of role.low) (line_of role.high) r
 
-abbrev pub end_traps : NRange → List CoreRole → Option Over → ℕ → CoreEnd → List Trap
+abbrev pub end_traps : NRange → List CoreRole → Option Bounds → ℕ → CoreEnd → List Trap
 end_traps range roles over number e = end_traps_in (alive range over) number e (slice_get roles e.role) (reach over e.at)
 
 -- where both vary they meet only at one value of the variable, as well the first
@@ -140,7 +133,7 @@ alike_traps live m role r s =
     ∷ alike_trap m role s.first (at_most (at_most live r.first s.first) s.first r.last)
     ∷ []
 
-abbrev pub message_traps : NRange → Option Over → Mark → CoreEnd → CoreEnd → List Trap
+abbrev pub message_traps : NRange → Option Bounds → Mark → CoreEnd → CoreEnd → List Trap
 message_traps range over m f t =
     if nat_eq f.role t.role
     then alike_traps (alive range over) m f.role (met_with (reach over f.at) (reach over t.at)) (met_with (reach over t.at) (reach over f.at))

@@ -48,3 +48,8 @@ IsFault p NoMemory = Unit {0}
 abbrev pub fault_of : CaseFault → RuleFault
 fault_of C.TooManyCases = TooManyCases
 fault_of C.NoMemory = NoMemory
+
+-- one rule names nobody, and the others a seat
+abbrev pub IsNamedBut : ℕ → ℕ → Option Seat → Type 0
+IsNamedBut alone rule None = rule ≡ alone
+IsNamedBut alone rule (Some s) = rule ≡ alone → ⊥

@@ -2,13 +2,11 @@ ghost use Rattle.std.specs.Prelude.{◌≡◌, ◌++◌, ◌+ℤ◌, [], ◌∷�
 ghost use Rattle.pb_affine.specs.Values.{shifted};
 ghost use Rattle.pb_core_language.specs.Plain.{plain, plain_block, plain_stmt, branches_of};
 ghost use Rattle.pb_core_language.specs.Cuts.{edges, end_cuts, stmt_cuts, block_cuts, branches_cuts, role_cuts, cuts};
-ghost use Rattle.pb_rules.specs.Traps.{bounds_if};
 ghost use Rattle.pb_rules.specs.CutLists.{is_cut, are_cuts, lin_of, listed, HaveSame, AreApart};
 
-use crate::ends::Over;
 use crate::offsets::Offsets;
 use pb_affine::{Base, Lin};
-use pb_core_language::{Core, CoreBlock, CoreEnd, CoreKind, CoreRole, CoreStmt};
+use pb_core_language::{Bounds, Core, CoreBlock, CoreEnd, CoreKind, CoreRole, CoreStmt};
 use pb_text::NoMemory;
 use std::alloc::Global;
 
@@ -112,8 +110,8 @@ fn next_moved_off(lin: Lin, at: Lin) -> i64
     i64::from(lin.off) + i64::from(at.off) + 1
 }
 
-fn add_end(end: &CoreEnd, over: Option<Over>, out: &mut Vec<Wide>) -> Result<(), NoMemory>
-    ensures { OnOk result (map lin_of out.new.items ≡ map lin_of out.old.items ++ end_cuts (bounds_if over) end.now) }
+fn add_end(end: &CoreEnd, over: Option<Bounds>, out: &mut Vec<Wide>) -> Result<(), NoMemory>
+    ensures { OnOk result (map lin_of out.new.items ≡ map lin_of out.old.items ++ end_cuts over end.now) }
 {
     match end.at.base {
         Base::Fixed | Base::Param => add_edges(end.at, end.at, out),
@@ -125,8 +123,8 @@ fn add_end(end: &CoreEnd, over: Option<Over>, out: &mut Vec<Wide>) -> Result<(),
 }
 
 #[cycle(cut_walk)]
-fn add_block(block: &CoreBlock, over: Option<Over>, out: &mut Vec<Wide>) -> Result<(), NoMemory>
-    ensures { OnOk result (map lin_of out.new.items ≡ map lin_of out.old.items ++ block_cuts (bounds_if over) (plain_block block.now).block) }
+fn add_block(block: &CoreBlock, over: Option<Bounds>, out: &mut Vec<Wide>) -> Result<(), NoMemory>
+    ensures { OnOk result (map lin_of out.new.items ≡ map lin_of out.old.items ++ block_cuts over (plain_block block.now).block) }
 {
     for statement in &block.list {
         add_stmt(statement, over, out)?;
@@ -137,10 +135,10 @@ fn add_block(block: &CoreBlock, over: Option<Over>, out: &mut Vec<Wide>) -> Resu
 #[cycle(cut_walk)]
 fn add_branches(
     branches: &[CoreBlock],
-    over: Option<Over>,
+    over: Option<Bounds>,
     out: &mut Vec<Wide>,
 ) -> Result<(), NoMemory>
-    ensures { OnOk result (map lin_of out.new.items ≡ map lin_of out.old.items ++ branches_cuts (bounds_if over) (branches_of (map plain_block branches.now))) }
+    ensures { OnOk result (map lin_of out.new.items ≡ map lin_of out.old.items ++ branches_cuts over (branches_of (map plain_block branches.now))) }
 {
     for branch in branches {
         add_block(branch, over, out)?;
@@ -149,13 +147,13 @@ fn add_branches(
 }
 
 #[cycle(cut_walk)]
-fn add_stmt(statement: &CoreStmt, over: Option<Over>, out: &mut Vec<Wide>) -> Result<(), NoMemory>
-    ensures { OnOk result (map lin_of out.new.items ≡ map lin_of out.old.items ++ stmt_cuts (bounds_if over) (plain_stmt statement.now).stmt) }
+fn add_stmt(statement: &CoreStmt, over: Option<Bounds>, out: &mut Vec<Wide>) -> Result<(), NoMemory>
+    ensures { OnOk result (map lin_of out.new.items ≡ map lin_of out.old.items ++ stmt_cuts over (plain_stmt statement.now).stmt) }
 {
     match &statement.what {
         CoreKind::Message { from, to, .. } => add_ends(from, to, over, out),
         CoreKind::Foreach { low, high, items } => {
-            let inside = Over {
+            let inside = Bounds {
                 low: *low,
                 high: *high,
             };
@@ -177,10 +175,10 @@ fn add_stmt(statement: &CoreStmt, over: Option<Over>, out: &mut Vec<Wide>) -> Re
 fn add_ends(
     from: &CoreEnd,
     to: &CoreEnd,
-    over: Option<Over>,
+    over: Option<Bounds>,
     out: &mut Vec<Wide>,
 ) -> Result<(), NoMemory>
-    ensures { OnOk result (map lin_of out.new.items ≡ map lin_of out.old.items ++ (end_cuts (bounds_if over) from.now ++ end_cuts (bounds_if over) to.now)) }
+    ensures { OnOk result (map lin_of out.new.items ≡ map lin_of out.old.items ++ (end_cuts over from.now ++ end_cuts over to.now)) }
 {
     add_end(from, over, out)?;
     add_end(to, over, out)

@@ -8,14 +8,7 @@ use crate::line::Line;
 use crate::span::Span;
 use crate::trap::{Moving, Trap};
 use pb_affine::{Base, Lin, NRange};
-use pb_core_language::{CoreEnd, CoreRole, Place};
-
-/// The first and the last value of a variable.
-#[derive(Clone, Copy)]
-pub struct Over {
-    pub low: Lin,
-    pub high: Lin,
-}
+use pb_core_language::{Bounds, CoreEnd, CoreRole, Place};
 
 /// The indices of an end: the first and the last, which are one unless the end varies.
 #[derive(Clone, Copy)]
@@ -47,7 +40,7 @@ impl Reach {
     }
 
     /// The indices of a lin in a foreach, or outside.
-    fn of(at: Lin, over: Option<Over>) -> Reach
+    fn of(at: Lin, over: Option<Bounds>) -> Reach
         ensures is { result ≡ reach over at }
         ensures first { IsShort result.first.off }
         ensures last { IsShort result.last.off }
@@ -86,7 +79,7 @@ impl Reach {
 }
 
 /// The N at which a foreach has a value, or all.
-fn alive(range: NRange, over: Option<Over>) -> Span
+fn alive(range: NRange, over: Option<Bounds>) -> Span
     ensures is { result ≡ alive range over }
     ensures near { IsNear result.from }
 {
@@ -143,7 +136,7 @@ fn stray_kept(
 /// The earlier of the best so far and the first breach of rule 7 at the end with this number.
 pub fn end_kept(
     setting: &Setting,
-    over: Option<Over>,
+    over: Option<Bounds>,
     number: u64,
     end: &CoreEnd,
     best: Option<Found>,
@@ -205,7 +198,7 @@ fn alike_kept(
 /// The earlier of the best so far and the first breach of rule 8 at the message.
 pub fn message_kept(
     setting: &Setting,
-    over: Option<Over>,
+    over: Option<Bounds>,
     number: u32,
     place: Place,
     from: &CoreEnd,

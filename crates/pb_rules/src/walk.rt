@@ -1,13 +1,13 @@
 ghost use Rattle.std.specs.Prelude.{◌≡◌, ◌<◌, ◌*◌, ◌^◌, map};
 ghost use Rattle.pb_core_language.specs.Plain.{plain_block, plain_stmt, branches_of};
 ghost use Rattle.pb_rules.specs.Traps.{role_traps, kept_all};
-ghost use Rattle.pb_rules.specs.Sites.{is_again, stmt_sites, block_sites, branches_sites, kept_site, kept_sites, mark_of};
+ghost use Rattle.pb_rules.specs.Sites.{stmt_sites, block_sites, branches_sites, kept_site, kept_sites, mark_of};
 ghost use Rattle.pb_rules.specs.Sites.{one as one_site, two as two_site};
 
-use crate::ends::{Over, Setting, end_kept, message_kept, role_kept};
+use crate::ends::{Setting, end_kept, message_kept, role_kept};
 use crate::found::Found;
 use pb_affine::NRange;
-use pb_core_language::{CoreBlock, CoreEnd, CoreKind, CoreRole, CoreStmt, Place};
+use pb_core_language::{Bounds, CoreBlock, CoreEnd, CoreKind, CoreRole, CoreStmt, Place};
 
 /// The number and the place of a statement.
 #[derive(Clone, Copy)]
@@ -33,14 +33,14 @@ pub fn roles_kept(range: NRange, roles: &[CoreRole], best: Option<Found>) -> Opt
 pub fn block_kept(
     block: &CoreBlock,
     setting: &Setting,
-    over: Option<Over>,
+    over: Option<Bounds>,
     best: Option<Found>,
 ) -> Option<Found>
     ensures { result ≡ kept_sites setting.now.range setting.now.roles.now (block_sites over (plain_block block.now).block) best }
 {
     let mut best = best;
     for statement in &block.list {
-        if is_again(statement) {
+        if statement.is_again() {
             return best;
         }
         best = stmt_kept(statement, setting, over, best);
@@ -53,7 +53,7 @@ pub fn block_kept(
 fn branches_kept(
     branches: &[CoreBlock],
     setting: &Setting,
-    over: Option<Over>,
+    over: Option<Bounds>,
     best: Option<Found>,
 ) -> Option<Found>
     ensures { result ≡ kept_sites setting.now.range setting.now.roles.now (branches_sites over (branches_of (map plain_block branches.now))) best }
@@ -69,7 +69,7 @@ fn branches_kept(
 fn stmt_kept(
     statement: &CoreStmt,
     setting: &Setting,
-    over: Option<Over>,
+    over: Option<Bounds>,
     best: Option<Found>,
 ) -> Option<Found>
     ensures { result ≡ kept_sites setting.now.range setting.now.roles.now (stmt_sites over (plain_stmt statement.now).mark (plain_stmt statement.now).stmt) best }
@@ -81,7 +81,7 @@ fn stmt_kept(
     match &statement.what {
         CoreKind::Message { from, to, .. } => two_kept(mark, from, to, setting, over, best),
         CoreKind::Foreach { low, high, items } => {
-            let inside = Over {
+            let inside = Bounds {
                 low: *low,
                 high: *high,
             };
@@ -103,7 +103,7 @@ fn one_kept(
     mark: Mark,
     end: &CoreEnd,
     setting: &Setting,
-    over: Option<Over>,
+    over: Option<Bounds>,
     best: Option<Found>,
 ) -> Option<Found>
     ensures { result ≡ kept_site setting.now.range setting.now.roles.now (one_site over (mark_of mark) end.now) best }
@@ -116,7 +116,7 @@ fn two_kept(
     from: &CoreEnd,
     to: &CoreEnd,
     setting: &Setting,
-    over: Option<Over>,
+    over: Option<Bounds>,
     best: Option<Found>,
 ) -> Option<Found>
     ensures { result ≡ kept_site setting.now.range setting.now.roles.now (two_site over (mark_of mark) from.now to.now) best }
@@ -133,21 +133,4 @@ fn first_number(mark: Mark) -> u64
     ensures fits { result < 2 ^ 33 }
 {
     2 * u64::from(mark.number)
-}
-
-fn is_again(statement: &CoreStmt) -> bool
-    ensures { result ≡ is_again (plain_stmt statement.now).stmt }
-{
-    match &statement.what {
-        CoreKind::Again { .. } => true,
-        CoreKind::Message { .. }
-        | CoreKind::Foreach { .. }
-        | CoreKind::Loop { .. }
-        | CoreKind::Choice { .. }
-        | CoreKind::Run { .. }
-        | CoreKind::Barrier
-        | CoreKind::Broadcast { .. }
-        | CoreKind::Reduce { .. }
-        | CoreKind::Allreduce { .. } => false,
-    }
 }

@@ -7,9 +7,12 @@ use Rattle.pb_sched.specs.declared.format.Format.{Format}
 use Rattle.pb_sched.specs.declared.format.Format.TheVariants.{One, Two}
 use Rattle.pb_sched.specs.declared.schedule.Turn.{Turn}
 use Rattle.pb_sched.specs.Formats.{head_line, seed_line, ending, turn_line, HasMode, IsTurn}
-use Rattle.pb_sched.specs.Parts.{◌>>=◌, strip, number_at, or_else, with, head_at, seed_at, mode_at, turn_of, turn_at}
-use Rattle.pb_sched.proofs.Spelled.{begins_digit, number_again, number_sound, Spelled}
-use Rattle.pb_sched.proofs.Strips.{strip_sound, with_sound, some_pair}
+use Rattle.pb_text_read.specs.Fronts.{◌>>=◌, strip}
+use Rattle.pb_text_read.proofs.Digits.{begins_digit}
+use Rattle.pb_text_read.proofs.Strips.{strip_sound}
+use Rattle.pb_sched.specs.Parts.{number_at, or_else, with, head_at, seed_at, mode_at, turn_of, turn_at}
+use Rattle.pb_sched.proofs.Spelled.{number_again, number_sound, Spelled}
+use Rattle.pb_sched.proofs.Strips.{with_sound, some_pair}
 
 -- ---- heads
 

@@ -1,63 +1,27 @@
 -- A number in front of a text is spelled in decimal, and each number that is spelled so is read.
-use Rattle.std.proofs.Common.{◌≡◌, ℕ, ◌+◌, ◌-◌, ◌*◌, ◌^◌, ◌<◌, ◌≤◌, ltb-true, lt-ltb, Bool, true, false, cond, List, [], ◌∷◌, ◌++◌, length, get_or, Option, Some, None, refl, sym, ap, ap₂, subst, ◌∙◌, arith, eqb-true, rules}
-use Rattle.std.specs.Prelude.{nat_eq, nat_lt, decimal, ◌&&◌}
+use Rattle.std.proofs.Common.{◌≡◌, ℕ, ◌+◌, ◌-◌, ◌*◌, ◌^◌, ◌<◌, ltb-true, Bool, true, false, cond, List, [], ◌∷◌, ◌++◌, length, get_or, Option, Some, None, refl, sym, ap, ap₂, subst, ◌∙◌, arith, eqb-true}
+use Rattle.std.specs.Prelude.{nat_eq, nat_lt, decimal}
 use Rattle.std.specs.Char.{is_ascii_digit}
 use Rattle.std.specs.Str.{all_ascii_digits}
 use Rattle.std.proofs.lemmas.Bool.Decides.{nat_tests}
-use Rattle.std.proofs.lemmas.Str.Parse.{IsNumeralModel, numerals_by_fold}
-use Rattle.std.proofs.lemmas.Fmt.{digits_decimal, digits_value-decimal, decimal-digits_value, decimal_digit, first_decimal}
-use Rattle.pb_sched.specs.Parts.{digits_at, number_at}
+use Rattle.std.proofs.lemmas.Fmt.{decimal-digits_value, decimal_digit, first_decimal}
+use Rattle.pb_text.specs.Lexemes.{value_from}
+use Rattle.pb_text_read.specs.Fronts.{digits_below, number_below}
+use Rattle.pb_text_read.proofs.Digits.{begins_digit, own, number_again as below_again}
+use Rattle.pb_sched.specs.Parts.{number_at}
 use Rattle.pb_sched.proofs.Strips.{some_pair}
-
-abbrev pub begins_digit : List ℕ → Bool
-begins_digit [] = false
-begins_digit (c ∷ cs) = is_ascii_digit c
-
-abbrev read_on : ℕ → List ℕ → ℕ
-read_on n [] = n
-read_on n (c ∷ cs) = read_on (10 * n + (c - 48)) cs
-
-own : IsNumeralModel (λ ds. all_ascii_digits ds ≡ true) (read_on 0)
-own = numerals_by_fold _ (search rules) read_on (search rules)
-
-and_left : (a b : Bool) → (a && b) ≡ true → a ≡ true
-and_left true b e = refl
-and_left false b e = absurd cc
-
-and_right : (a b : Bool) → (a && b) ≡ true → b ≡ true
-and_right true b e = e
-and_right false b e = absurd cc
-
-stops : (n : ℕ) (rest : List ℕ) → begins_digit rest ≡ false → digits_at n rest ≡ Some (n, rest)
-stops n [] e = refl
-stops n (c ∷ cs) e = rw e refl
-
-grows : (ds : List ℕ) (n : ℕ) → n ≤ read_on n ds
-grows [] n = omega arith
-grows (c ∷ cs) n = omega (arith, grows cs (10 * n + (c - 48)))
-
-along : (ds rest : List ℕ) (n : ℕ) → all_ascii_digits ds ≡ true → begins_digit rest ≡ false → read_on n ds < 2 ^ 64 → digits_at n (ds ++ rest) ≡ Some (read_on n ds, rest)
-along [] rest n all ends small = stops n rest ends
-along (c ∷ cs) rest n all ends small =
-    let d : is_ascii_digit c ≡ true = and_left _ _ all in
-    let fits : nat_lt (10 * n + (c - 48)) (2 ^ 64) ≡ true = lt-ltb _ _ (omega (arith, small, grows cs (10 * n + (c - 48)))) in
-    rw (d, fits) (along cs rest (10 * n + (c - 48)) (and_right _ _ all) ends small)
 
 not_zero : (c : ℕ) → 48 < c → nat_eq c 48 ≡ false
 not_zero c h = grind (arith, nat_tests)
 
-digits_again : (ds rest : List ℕ) → all_ascii_digits ds ≡ true → 48 < get_or ds 0 0 → begins_digit rest ≡ false → read_on 0 ds < 2 ^ 64 → number_at (ds ++ rest) ≡ Some (read_on 0 ds, rest)
-digits_again [] rest all some ends small = absurd (omega (arith, some))
-digits_again (c ∷ cs) rest all some ends small =
-    let d : is_ascii_digit c ≡ true = and_left _ _ all in
-    let z : nat_eq c 48 ≡ false = not_zero c some in
-    let k : c - 48 ≡ 10 * 0 + (c - 48) = omega arith in
-    rw (z, d) (ap (λ n. digits_at n (cs ++ rest)) k ∙ along cs rest (10 * 0 + (c - 48)) (and_right _ _ all) ends small)
+-- a zero in front is a number of its own
+without_zero : (ds rest : List ℕ) → 48 < get_or ds 0 0 → number_at (ds ++ rest) ≡ number_below (2 ^ 64) (ds ++ rest)
+without_zero [] rest some = absurd (omega (arith, some))
+without_zero (c ∷ cs) rest some = rw (not_zero c some) refl
 
 positive_again : (n : ℕ) (rest : List ℕ) → 0 < n → n < 2 ^ 64 → begins_digit rest ≡ false → number_at (decimal n ++ rest) ≡ Some (n, rest)
 positive_again n rest some small ends =
-    let value : read_on 0 (decimal n) ≡ n = digits_value-decimal own n small in
-    digits_again (decimal n) rest (digits_decimal own n small) (first_decimal n some small) ends (omega (arith, value, small)) ∙ ap (λ k. Some (k, rest)) value
+    without_zero (decimal n) rest (first_decimal n some small) ∙ below_again (2 ^ 64) n rest small small ends
 
 pub number_again : (n : ℕ) (rest : List ℕ) → n < 2 ^ 64 → begins_digit rest ≡ false → number_at (decimal n ++ rest) ≡ Some (n, rest)
 number_again n rest small ends = by_test (nat_lt 0 n) refl
@@ -72,7 +36,7 @@ record Digits (n : ℕ) (cs : List ℕ) (v : ℕ) (rest : List ℕ) : Type 0 whe
   ds : List ℕ
   is : cs ≡ ds ++ rest
   all : all_ascii_digits ds ≡ true
-  value : v ≡ read_on n ds
+  value : v ≡ value_from n ds
   small : v < 2 ^ 64
 
 no_more : (n v : ℕ) (cs rest : List ℕ) → n < 2 ^ 64 → ◌≡◌ {A = Option (ℕ × List ℕ)} (Some (n, cs)) (Some (v, rest)) → Digits n cs v rest
@@ -81,17 +45,17 @@ no_more n v cs rest s h = let p = some_pair h in record { ds = []; is = p.1; all
 one_more : (n c v : ℕ) (cs rest : List ℕ) → is_ascii_digit c ≡ true → Digits (10 * n + (c - 48)) cs v rest → Digits n (c ∷ cs) v rest
 one_more n c v cs rest d r = record { ds = c ∷ r.ds; is = ap (λ xs. c ∷ xs) r.is; all = rw d r.all; value = r.value; small = r.small }
 
-digits_sound : (n : ℕ) (cs : List ℕ) (v : ℕ) (rest : List ℕ) → n < 2 ^ 64 → digits_at n cs ≡ Some (v, rest) → Digits n cs v rest
+digits_sound : (n : ℕ) (cs : List ℕ) (v : ℕ) (rest : List ℕ) → n < 2 ^ 64 → digits_below (2 ^ 64) n cs ≡ Some (v, rest) → Digits n cs v rest
 digits_sound n [] v rest s h = no_more n v [] rest s h
 digits_sound n (c ∷ cs) v rest s h = go (is_ascii_digit c) refl h (digits_sound (10 * n + (c - 48)) cs v rest)
   where
-    fits : (b : Bool) → nat_lt (10 * n + (c - 48)) (2 ^ 64) ≡ b → cond b (digits_at (10 * n + (c - 48)) cs) None ≡ Some (v, rest)
-        → (10 * n + (c - 48) < 2 ^ 64 → digits_at (10 * n + (c - 48)) cs ≡ Some (v, rest) → Digits (10 * n + (c - 48)) cs v rest) → Digits (10 * n + (c - 48)) cs v rest
+    fits : (b : Bool) → nat_lt (10 * n + (c - 48)) (2 ^ 64) ≡ b → cond b (digits_below (2 ^ 64) (10 * n + (c - 48)) cs) None ≡ Some (v, rest)
+        → (10 * n + (c - 48) < 2 ^ 64 → digits_below (2 ^ 64) (10 * n + (c - 48)) cs ≡ Some (v, rest) → Digits (10 * n + (c - 48)) cs v rest) → Digits (10 * n + (c - 48)) cs v rest
     fits true e g more = more (ltb-true _ _ e) g
     fits false e g more = absurd cc
 
-    go : (b : Bool) → is_ascii_digit c ≡ b → cond b (cond (nat_lt (10 * n + (c - 48)) (2 ^ 64)) (digits_at (10 * n + (c - 48)) cs) None) (Some (n, c ∷ cs)) ≡ Some (v, rest)
-        → (10 * n + (c - 48) < 2 ^ 64 → digits_at (10 * n + (c - 48)) cs ≡ Some (v, rest) → Digits (10 * n + (c - 48)) cs v rest) → Digits n (c ∷ cs) v rest
+    go : (b : Bool) → is_ascii_digit c ≡ b → cond b (cond (nat_lt (10 * n + (c - 48)) (2 ^ 64)) (digits_below (2 ^ 64) (10 * n + (c - 48)) cs) None) (Some (n, c ∷ cs)) ≡ Some (v, rest)
+        → (10 * n + (c - 48) < 2 ^ 64 → digits_below (2 ^ 64) (10 * n + (c - 48)) cs ≡ Some (v, rest) → Digits (10 * n + (c - 48)) cs v rest) → Digits n (c ∷ cs) v rest
     go true e g more = one_more n c v cs rest e (fits (nat_lt (10 * n + (c - 48)) (2 ^ 64)) refl g more)
     go false e g more = no_more n v (c ∷ cs) rest s g
 
@@ -110,7 +74,7 @@ zero_spelled c n cs rest e h =
 digits_spelled : (c n : ℕ) (cs rest : List ℕ) → nat_eq c 48 ≡ false → is_ascii_digit c ≡ true → Digits (c - 48) cs n rest → Spelled n (c ∷ cs) rest
 digits_spelled c n cs rest e d r =
     let k : c - 48 ≡ 10 * 0 + (c - 48) = omega arith in
-    let v : n ≡ read_on 0 (c ∷ r.ds) = r.value ∙ ap (λ m. read_on m r.ds) k in
+    let v : n ≡ value_from 0 (c ∷ r.ds) = r.value ∙ ap (λ m. value_from m r.ds) k in
     let zero : get_or (c ∷ r.ds) 0 0 ≡ 48 → length (c ∷ r.ds) ≡ 1 = λ z. absurd (apart c z e) in
     let text = decimal-digits_value own (c ∷ r.ds) (rw d r.all) (omega arith) zero (omega (arith, v, r.small)) in
     record { is = ap (λ xs. c ∷ xs) r.is ∙ sym (ap (λ ds. ds ++ rest) (ap (λ m. decimal m) v ∙ text)); small = r.small }
@@ -122,10 +86,10 @@ pub number_sound : (text : List ℕ) (n : ℕ) (rest : List ℕ) → number_at t
 number_sound [] n rest h = absurd cc
 number_sound (c ∷ cs) n rest h = go (nat_eq c 48) refl h
   where
-    other : nat_eq c 48 ≡ false → (b : Bool) → is_ascii_digit c ≡ b → cond b (digits_at (c - 48) cs) None ≡ Some (n, rest) → Spelled n (c ∷ cs) rest
+    other : nat_eq c 48 ≡ false → (b : Bool) → is_ascii_digit c ≡ b → cond b (digits_below (2 ^ 64) (c - 48) cs) None ≡ Some (n, rest) → Spelled n (c ∷ cs) rest
     other e true d g = digits_spelled c n cs rest e d (digits_sound (c - 48) cs n rest (digit_small c d) g)
     other e false d g = absurd cc
 
-    go : (b : Bool) → nat_eq c 48 ≡ b → cond b (Some (0, cs)) (cond (is_ascii_digit c) (digits_at (c - 48) cs) None) ≡ Some (n, rest) → Spelled n (c ∷ cs) rest
+    go : (b : Bool) → nat_eq c 48 ≡ b → cond b (Some (0, cs)) (cond (is_ascii_digit c) (digits_below (2 ^ 64) (c - 48) cs) None) ≡ Some (n, rest) → Spelled n (c ∷ cs) rest
     go true e g = zero_spelled c n cs rest e g
     go false e g = other e (is_ascii_digit c) refl g

@@ -1,6 +1,7 @@
 -- What bytes are: the text of a schedule, or a text with a first line at fault.
 use Rattle.std.specs.Prelude.{◌≡◌, ◌≢◌, ℕ, ◌+◌, ◌<◌, ◌≤◌, ◌^◌, ⊤, List, [], ◌++◌, length, Result, Ok, Err}
 use Rattle.std.specs.List.{AllByRecursion}
+use Rattle.pb_text.specs.declared.limits.TheConstants.{MOST_EVENTS}
 use Rattle.pb_sched.specs.declared.fault.ScheduleFault.{ScheduleFault}
 use Rattle.pb_sched.specs.declared.fault.ScheduleFault.TheVariants.{BadLine, TooMany, NoMemory}
 use Rattle.pb_sched.specs.declared.format.Format.{Format}
@@ -13,7 +14,7 @@ pub record BeginsWith (bytes : List ℕ) (format : Format) (seed : ℕ) (turns :
   pub is : bytes ≡ layout format seed turns ++ rest
   pub seed_fits : seed < 2 ^ 64
   pub each : AllByRecursion (IsTurn format) turns
-  pub most : length turns ≤ 1000000
+  pub most : length turns ≤ MOST_EVENTS
 
 -- the bytes are the layout of this schedule, in one of the formats
 abbrev pub IsSchedule : List ℕ → ℕ → List Turn → Type 0
@@ -37,7 +38,7 @@ pub data IsBadLine (bytes : List ℕ) (n : ℕ) : Type 0 where
 -- line n is that of event 1,000,001, and the lines up to it are in the form
 pub data IsTooMany (bytes : List ℕ) (n : ℕ) : Type 0 where
   beyond : (format : Format) (seed : ℕ) (turns : List Turn) (rest : List ℕ) → n ≡ length turns + 3 → BeginsWith bytes format seed turns rest
-      → length turns ≡ 1000000 → BeginsTurn format rest → IsTooMany bytes n
+      → length turns ≡ MOST_EVENTS → BeginsTurn format rest → IsTooMany bytes n
 
 pub data Outcome : Type 0 where
   schedule : (seed : ℕ) (turns : List Turn) → Outcome

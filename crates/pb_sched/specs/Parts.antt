@@ -1,9 +1,10 @@
 -- What a text begins with: a head, a seed, an event. Each is read with the bytes behind it.
-use Rattle.std.specs.Prelude.{◌≡◌, ℕ, ◌+◌, ◌-◌, ◌*◌, ◌≤◌, ◌^◌, ◌⊎◌, nat_eq, nat_lt, Bool, true, false, cond, is_some, List, [], ◌∷◌, ◌++◌, length, Option, Some, None, codes}
-use Rattle.std.specs.Char.{is_ascii_digit}
+use Rattle.std.specs.Prelude.{◌≡◌, ℕ, ◌+◌, ◌≤◌, ◌^◌, ◌⊎◌, nat_eq, nat_lt, Bool, true, false, cond, is_some, List, [], ◌∷◌, ◌++◌, length, Option, Some, None, codes}
 use Rattle.std.specs.List.{AllByRecursion, flat_map}
+use Rattle.pb_text_read.specs.Fronts.{◌>>=◌, strip, number_below}
 use Rattle.pb_text.specs.declared.mode.Mode.{Mode}
 use Rattle.pb_text.specs.declared.mode.Mode.TheVariants.{Eager, Waiting}
+use Rattle.pb_text.specs.declared.limits.TheConstants.{MOST_EVENTS}
 use Rattle.pb_sched.specs.declared.fault.ScheduleFault.{ScheduleFault}
 use Rattle.pb_sched.specs.declared.fault.ScheduleFault.TheVariants.{BadLine, TooMany}
 use Rattle.pb_sched.specs.declared.format.Format.{Format}
@@ -11,26 +12,10 @@ use Rattle.pb_sched.specs.declared.format.Format.TheVariants.{One, Two}
 use Rattle.pb_sched.specs.declared.schedule.Turn.{Turn}
 use Rattle.pb_sched.specs.Formats.{turn_line, IsTurn}
 
-infixl 10 ◌>>=◌
-abbrev pub ◌>>=◌ : {A B : Type 0} → Option A → (A → Option B) → Option B
-(Some x) >>= f = f x
-None >>= f = None
-
--- the bytes behind a text
-abbrev pub strip : List ℕ → List ℕ → Option (List ℕ)
-strip [] bytes = Some bytes
-strip (p ∷ ps) [] = None
-strip (p ∷ ps) (b ∷ bytes) = cond (nat_eq p b) (strip ps bytes) None
-
--- more digits, up to a number that fits 64 bits
-abbrev pub digits_at : ℕ → List ℕ → Option (ℕ × List ℕ)
-digits_at n [] = Some (n, [])
-digits_at n (c ∷ cs) = cond (is_ascii_digit c) (cond (nat_lt (10 * n + (c - 48)) (2 ^ 64)) (digits_at (10 * n + (c - 48)) cs) None) (Some (n, c ∷ cs))
-
--- a number: a zero ends it
+-- a number that fits 64 bits: a zero ends it
 abbrev pub number_at : List ℕ → Option (ℕ × List ℕ)
 number_at [] = None
-number_at (c ∷ cs) = cond (nat_eq c 48) (Some (0, cs)) (cond (is_ascii_digit c) (digits_at (c - 48) cs) None)
+number_at (c ∷ cs) = cond (nat_eq c 48) (Some (0, cs)) (number_below (2 ^ 64) (c ∷ cs))
 
 -- the first that is there
 abbrev pub or_else : {A : Type 0} → Option A → Option A → Option A
@@ -62,12 +47,12 @@ turn_at format text = number_at text >>= λ rank. cond (nat_lt rank.0 (2 ^ 32)) 
 pub record HasFront (format : Format) (text : List ℕ) (turns : List Turn) (rest : List ℕ) : Type 0 where
   pub is : text ≡ flat_map (turn_line format) turns ++ rest
   pub each : AllByRecursion (IsTurn format) turns
-  pub most : length turns ≤ 1000000
+  pub most : length turns ≤ MOST_EVENTS
 
 -- and there are no more, or 1,000,000
 pub record HasTurns (format : Format) (text : List ℕ) (turns : List Turn) (rest : List ℕ) : Type 0 where
   pub front : HasFront format text turns rest
-  pub stops : (length turns ≡ 1000000) ⊎ (turn_at format rest ≡ None)
+  pub stops : (length turns ≡ MOST_EVENTS) ⊎ (turn_at format rest ≡ None)
 
 abbrev pub fault_by : ℕ → Bool → ScheduleFault
 fault_by line true = TooMany line

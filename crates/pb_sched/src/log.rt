@@ -5,9 +5,8 @@ ghost use Rattle.pb_local.specs.Tables.{label_at, kernel_at};
 ghost use Rattle.pb_local.specs.Tree.{program_of};
 ghost use Rattle.pb_sched.specs.Logged.{signed_text, word_text, words_text, label_text, joint_text, action_text, log_line};
 
-use crate::numbers::push_decimal;
 use pb_ctree::{CTree, Local, Payload};
-use pb_text::{Action, Joint, NoMemory};
+use pb_text::{Action, Joint, NoMemory, push_decimal};
 use std::alloc::Global;
 
 fn push_signed(out: &mut Vec<u8>, word: u32) -> Result<(), NoMemory>

@@ -1,19 +1,12 @@
 //! The lines of a schedule, read from the front of a text.
 
-ghost use Rattle.std.specs.Prelude.{◌≡◌, Some, None, MatchOption};
-ghost use Rattle.pb_sched.specs.Parts.{strip, head_at, seed_at, mode_at, turn_at, GivesTo};
+ghost use Rattle.pb_sched.specs.Parts.{head_at, seed_at, mode_at, turn_at, GivesTo};
 
 use crate::format::Format;
 use crate::numbers::number;
 use crate::schedule::Turn;
 use pb_text::Mode;
-
-#[tactic(auto, using(crate::proofs::Strips::strip_is))]
-fn strip<'a>(text: &[u8], bytes: &'a [u8]) -> Option<&'a [u8]>
-    ensures { MatchOption result (strip text.now bytes.now ≡ None) (λ rest. strip text.now bytes.now ≡ Some rest.now) }
-{
-    bytes.strip_prefix(text)
-}
+use pb_text_read::strip;
 
 /// The format that the first line tells, and the rest.
 pub fn head(text: &[u8]) -> Option<(Format, &[u8])>

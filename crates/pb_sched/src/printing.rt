@@ -2,13 +2,13 @@
 
 ghost use Rattle.std.specs.Prelude.{◌≡◌, ◌<◌, ◌≤◌, ◌^◌, [], ◌∷◌, ◌++◌, OnOk, IfOk, length};
 ghost use Rattle.std.specs.List.{AllByRecursion, flat_map};
+ghost use Rattle.pb_text.specs.declared.limits.TheConstants.{MOST_EVENTS};
 ghost use Rattle.pb_sched.specs.declared.format.Format.TheVariants.{Two};
 ghost use Rattle.pb_sched.specs.Formats.{head_line, seed_line, ending, turn_line, layout, IsTurn};
 ghost use Rattle.pb_sched.specs.Outcomes.{IsSchedule};
 
-use crate::numbers::push_decimal;
 use crate::schedule::{Schedule, Turn};
-use pb_text::{Mode, NoMemory};
+use pb_text::{Mode, NoMemory, push_decimal};
 use std::alloc::Global;
 
 fn push_head(out: &mut Vec<u8>, seed: u64) -> Result<(), NoMemory>
@@ -52,7 +52,7 @@ fn push_turns(out: &mut Vec<u8>, turns: &[Turn]) -> Result<(), NoMemory>
 
 /// The text of a schedule in format 2, which `read_schedule` reads as this schedule.
 pub fn print_schedule(alloc: Global, schedule: &Schedule) -> Result<Vec<u8>, NoMemory>
-    requires { length schedule.now.turns.items ≤ 1000000 }
+    requires { length schedule.now.turns.items ≤ MOST_EVENTS }
     ensures layout { IfOk result (λ bytes. bytes.items ≡ layout Two schedule.now.seed schedule.now.turns.items) }
     ensures again { IfOk result (λ bytes. IsSchedule bytes.items schedule.now.seed schedule.now.turns.items) }
 {

@@ -8,11 +8,8 @@ use crate::fault::ScheduleFault;
 use crate::format::Format;
 use crate::parts::{head, seed, turn};
 use crate::schedule::{Schedule, Turn};
-use pb_text::NoMemory;
+use pb_text::{MOST_EVENTS, NoMemory};
 use std::alloc::Global;
-
-/// The most events of a schedule.
-const MOST: usize = 1_000_000;
 
 /// Reads the events in front of a text, up to 1,000,000, and gives the rest.
 fn fill<'a>(turns: &mut Vec<Turn>, format: Format, text: &'a [u8]) -> Result<&'a [u8], NoMemory>
@@ -20,7 +17,7 @@ fn fill<'a>(turns: &mut Vec<Turn>, format: Format, text: &'a [u8]) -> Result<&'a
     ensures { IfOk result (λ rest. HasTurns format text.now turns.new.items rest.now) }
 {
     let mut rest = text;
-    while turns.len() < MOST {
+    while turns.len() < MOST_EVENTS as usize {
         match turn(format, rest) {
             Some((next, after)) => {
                 turns.push(next)?;
@@ -34,7 +31,7 @@ fn fill<'a>(turns: &mut Vec<Turn>, format: Format, text: &'a [u8]) -> Result<&'a
 
 /// What is wrong with the line after so many events, if the text doesn't end there.
 fn fault_at(format: Format, count: usize, rest: &[u8]) -> Option<ScheduleFault>
-    requires { count ≤ 1000000 }
+    requires { count ≤ MOST_EVENTS }
     ensures { result ≡ fault_at format count rest.now }
 {
     if rest.is_empty() {
@@ -53,7 +50,8 @@ fn fault_at(format: Format, count: usize, rest: &[u8]) -> Option<ScheduleFault>
 /// Format 2 has the line `pabble schedule 2`, the line `seed B`, and a line for each event: its rank, a space, and `e`
 /// for eager or `w` for waiting. Format 1 has `pabble schedule 1` and the rank alone; each event is eager. Numbers are
 /// decimal without leading zeros, the seed below 2^64 and ranks below 2^32; each line ends with a line feed. `BadLine`
-/// is the first line that isn't so, `TooMany` the line of event 1,000,001 if the lines up to it are.
+/// is the first line that isn't so, `TooMany` the line of event 1,000,001 if the lines up to it are. The same as `read`,
+/// with the clause that each text of a schedule is read.
 pub fn read_schedule(alloc: Global, bytes: &[u8]) -> Result<Schedule, ScheduleFault>
     ensures ok { IfOk result (λ s. IsSchedule bytes.now s.seed s.turns.items) }
     ensures fault { IfErr result (λ fault. IsFault bytes.now fault) }

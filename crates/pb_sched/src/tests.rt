@@ -3,6 +3,7 @@ use super::{
     print_schedule, read_schedule,
 };
 use pb_ctree::{CoreKernel, CoreLabel, Formula, KernelKind, Local, NRange, Name, Payload};
+use pb_text::MOST_EVENTS;
 use std::alloc::Global;
 use std::test::Fail;
 
@@ -17,7 +18,7 @@ fn reads_what_is_printed(rt: HostRuntime) -> Result<(), Fail> {
     match read_schedule(rt.alloc(), text) {
         Ok(schedule) => {
             assert_eq!(rt; schedule.turns.len(), 6);
-            if schedule.turns.len() <= 1_000_000 {
+            if schedule.turns.len() <= MOST_EVENTS as usize {
                 let printed = print_schedule(rt.alloc(), &schedule)?;
                 assert_eq!(rt; printed.as_slice(), text.as_slice());
             }

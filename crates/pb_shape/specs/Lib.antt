@@ -1,3 +1,10 @@
+pub mod Places
+pub mod Guards
+pub mod Items
+pub mod Segments
+pub mod Pieces
+pub mod Loops
+pub mod Choices
 pub mod Shape
 pub mod Ways
 pub mod Straight

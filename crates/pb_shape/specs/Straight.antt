@@ -1,25 +1,28 @@
 -- That the code of a straight statement does a rank's part of it.
 use Rattle.std.specs.Prelude.{◌≡◌, ℕ, ◌+◌, ◌*◌, ◌≤◌, ℤ, pos, negsuc, ◌≤ℤ◌, Bool, true, false, List}
+use Rattle.pb_text.specs.declared.limits.TheConstants.{MOST_NUMBER}
 use Rattle.pb_affine.specs.Values.{value}
 use Rattle.pb_world.specs.Actions.{Kind}
 use Rattle.pb_core_language.specs.declared.tree.CoreEnd.{CoreEnd}
 use Rattle.pb_core_language.specs.Ranks.{total}
 use Rattle.pb_core_language.specs.Tree as T
-use Rattle.pb_core_language.specs.Tree.{Mark, Bounds, StmtTree, BlockTree, BranchTrees}
+use Rattle.pb_core_language.specs.Tree.{Mark, StmtTree, BlockTree, BranchTrees, is_again}
+use Rattle.pb_core_language.specs.declared.tree.Bounds.{Bounds}
 use Rattle.pb_core_language.specs.Plain.{Protocol}
 use Rattle.pb_core_language.specs.Flat.{stop}
 use Rattle.pb_core_language.specs.FlatOf.{flat_stmt}
 use Rattle.pb_core_language.specs.Sound.{is_sound, is_bound, is_end, rows_of}
 use Rattle.pb_core_language.specs.Verdict.{IsIn}
 use Rattle.pb_core_flat.specs.Seated.{rank, is_rank}
-use Rattle.pb_core_flat.specs.GoesOn.{is_again}
 use Rattle.pb_local.specs.Ranks.{Seat}
 use Rattle.pb_local.specs.Tree.{Codes, size_all, Program}
 use Rattle.pb_local.specs.WellMade as W
 use Rattle.pb_local.specs.WellMade.{AreMade, IsWellMade}
 use Rattle.pb_local.specs.Machine.{Todo, pushed, Rank, machine}
 use Rattle.pb_local.specs.Family.{most_silent}
-use Rattle.pb_shape.specs.Shape.{Here, Piece, scope_of, HasShape}
+use Rattle.pb_shape.specs.Places.{Here, scope_of}
+use Rattle.pb_shape.specs.Pieces.{Piece}
+use Rattle.pb_shape.specs.Shape.{HasShape}
 use Rattle.pb_shape.specs.Ways.{mine, Way, renewed}
 
 -- rank r of the program at N = n, with its role and index
@@ -28,7 +31,7 @@ pub record IsSeated (p : Protocol) (l : Program) (n : ℤ) (r : ℕ) (me : Seat)
   pub shape : HasShape p l
   pub made : IsWellMade l
   pub within : IsIn p.range n
-  pub few : total p.roles n ≤ 2000000000
+  pub few : total p.roles n ≤ MOST_NUMBER
   pub is : is_rank p.roles n me.role me.index ≡ true
   pub number : rank p.roles n me.role me.index ≡ r
 

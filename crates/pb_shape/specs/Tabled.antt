@@ -9,7 +9,7 @@ use Rattle.pb_core_language.specs.Tree.{StmtTree, BlockTree, BranchTrees}
 use Rattle.pb_core_language.specs.Plain.{Protocol}
 use Rattle.pb_local.specs.Names.{is_name}
 use Rattle.pb_local.specs.WellMade.{IsRange, AreRoles, AreLabels, AreKernels, HasWords, GoesWith}
-use Rattle.pb_shape.specs.Shape.{role_of}
+use Rattle.pb_shape.specs.Places.{role_of}
 
 abbrev pub label_at : Protocol → ℕ → CoreLabel
 label_at p n = get_or p.labels n (record { name = []; payload = NoWords })

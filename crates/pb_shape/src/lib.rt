@@ -1,5 +1,6 @@
-//! The shape of a projection: which endpoint programs belong to a protocol. `specs/` has `Shape` (the relation), `Ways` and
-//! `Straight` (what the code of a straight statement does), and `Theorem` (what the ranks of such a program do).
+//! The shape of a projection: which endpoint programs belong to a protocol. `specs/` has `Shape` (the relation, with its parts in
+//! `Places`, `Guards`, `Items`, `Segments`, `Pieces`, `Loops` and `Choices`), `Ways` and `Straight` (what the code of a straight
+//! statement does), and `Theorem` (what the ranks of such a program do).
 #![tactic(auto)]
 
 ghost use Rattle.std.specs.Prelude.{◌≡◌};

@@ -1,18 +1,18 @@
 -- What a text does next in a block, beside what the endpoint does next in it.
 use Rattle.std.proofs.Common.{◌≡◌, ◌≤◌, ◌<◌, ℕ, zero, suc, ◌+◌, ℤ, pos, Bool, true, false, ◌||◌, cond, nat_eq, List, ◌∷◌, length, Option, refl, sym, ap, subst, arith}
 use Rattle.std.proofs.lemmas.Bool.Decides.{nat_tests}
+use Rattle.std.proofs.lemmas.Bool.{and_parts}
 use Rattle.pb_world.specs.Carry.{Quietly, here, further}
 use Rattle.pb_core_language.specs.Ranks.{total}
 use Rattle.pb_core_language.specs.Tree as T
-use Rattle.pb_core_language.specs.Tree.{Mark, StmtTree, BlockTree}
+use Rattle.pb_core_language.specs.Tree.{Mark, StmtTree, BlockTree, is_again}
 use Rattle.pb_core_language.specs.Plain.{Protocol}
-use Rattle.pb_core_language.specs.Flat.{Block, stop, nth, takes_part}
+use Rattle.pb_core_language.specs.Lists.{nth}
+use Rattle.pb_core_language.specs.Flat.{Block, stop, takes_part}
 use Rattle.pb_core_language.specs.FlatOf.{flat_block, between}
 use Rattle.pb_core_language.specs.Run.{at_rank}
-use Rattle.pb_core_flat.specs.GoesOn.{is_again}
 use Rattle.pb_core_endpoint.specs.Core.{has_simple_items, have_simple_items}
 use Rattle.pb_core_endpoint.specs.Endpoint.{Code, Part, loop, again, return_to}
-use Rattle.pb_core_endpoint.proofs.Progress.{and_both}
 use Rattle.pb_local.specs.Ranks.{Seat}
 use Rattle.pb_local.specs.Tree as L
 use Rattle.pb_local.specs.Tree.{Codes, nothing, more, size_all, Program}
@@ -21,8 +21,14 @@ use Rattle.pb_local.specs.WellMade.{AreMade}
 use Rattle.pb_local.specs.Machine as X
 use Rattle.pb_local.specs.Machine.{Todo, Rank, pushed, back_to, move}
 use Rattle.pb_local.proofs.Moves.{move_is}
+use Rattle.pb_shape.specs.Items as I
+use Rattle.pb_shape.specs.Pieces as P
 use Rattle.pb_shape.specs.Shape as S
-use Rattle.pb_shape.specs.Shape.{Here, inside, Around, in_loop, number_at, takers, alone, scope_of, One, Piece, Shape}
+use Rattle.pb_shape.specs.Places.{Here, inside, scope_of}
+use Rattle.pb_shape.specs.Guards.{alone, One}
+use Rattle.pb_shape.specs.Pieces.{Piece}
+use Rattle.pb_shape.specs.Loops.{Around, in_loop, number_at, takers}
+use Rattle.pb_shape.specs.Shape.{Shape}
 use Rattle.pb_shape.specs.Straight.{IsVariable, at_todo}
 use Rattle.pb_shape_follow.proofs.Stacks.{weight, weight_pushed, all, me_rank, held, flat, coded, IsAround, IsMadeIn, Sits, Stands, IsFresh, Sim, body, Back, go_back}
 use Rattle.pb_shape_follow.proofs.Fronts.{debt, Budget, stands, quiets}
@@ -46,17 +52,17 @@ module _ (p : Protocol) (l : Program) (n : ℤ) (me : Seat) (g : Given p l n me)
   made_later a codes tail m h = record { at = h.at; made = h.made; below = λ k lt. let x = m.below k lt in let y = h.later in omega arith }
 
   piece_goes : {h : Here} {s : StmtTree} {tail codes : Codes} → Piece (scope_of p) h tail s codes → is_again s ≡ false
-  piece_goes (S.item (S.message a b)) = refl
-  piece_goes (S.item (S.run a)) = refl
-  piece_goes (S.foreach w) = refl
-  piece_goes S.barrier = refl
-  piece_goes S.broadcast = refl
-  piece_goes S.reduce = refl
-  piece_goes S.allreduce = refl
+  piece_goes (P.item (I.message a b)) = refl
+  piece_goes (P.item (I.run a)) = refl
+  piece_goes (P.foreach w) = refl
+  piece_goes P.barrier = refl
+  piece_goes P.broadcast = refl
+  piece_goes P.reduce = refl
+  piece_goes P.allreduce = refl
 
   pub sits_piece : {h : Here} {a : Around} {m : Mark} {s : StmtTree} {rest : BlockTree} {tail codes : Codes} → Piece (scope_of p) h tail s codes → (x : Sits p l n me h a (T.more m s rest) codes) → Left l x.made.at codes tail → Sits p l n me h a rest tail
   sits_piece {a = a} {m = m} {s = s} {rest = rest} {tail = tail} {codes = codes} piece x left =
-      let both = and_both (has_simple_items s) (have_simple_items rest) x.simple in
+      let both = and_parts (has_simple_items s) (have_simple_items rest) x.simple in
       record {
         fine = x.fine.1 (piece_goes piece);
         here = x.here;
@@ -109,7 +115,7 @@ module _ (p : Protocol) (l : Program) (n : ℤ) (me : Seat) (g : Given p l n me)
       let taker : takers (scope_of p) a m (T.loop id mark whole) n (pos 0) me.role me.index ≡ true = ap (λ b. b || false) e in record {
         fine = z.fine.0;
         here = record { at = z.here.at; comes = λ i. rw taker (z.here.comes i) };
-        simple = (and_both (have_simple_items whole) (have_simple_items rest) z.simple).0;
+        simple = (and_parts (have_simple_items whole) (have_simple_items rest) z.simple).0;
         around = around_loop a id x whole e z.around;
         keeps = z.keeps.0;
         made = made_loop a id x whole inner s below made;
@@ -119,7 +125,7 @@ module _ (p : Protocol) (l : Program) (n : ℤ) (me : Seat) (g : Given p l n me)
   sits_behind_loop {a = a} {whole = whole} {rest = rest} {tail = tail} {codes = codes} z left = record {
     fine = z.fine.1 refl;
     here = z.here;
-    simple = (and_both (have_simple_items whole) (have_simple_items rest) z.simple).1;
+    simple = (and_parts (have_simple_items whole) (have_simple_items rest) z.simple).1;
     around = z.around;
     keeps = z.keeps.1;
     made = made_later a codes tail z.made left;
@@ -166,12 +172,12 @@ module _ (p : Protocol) (l : Program) (n : ℤ) (me : Seat) (g : Given p l n me)
           let q = room.enough in
           let r = room.small in
           let last = at_todo me i (pushed start inner (X.end_of x start inner t')) in
-          let m' = move_is l n (at_todo me i (X.next at_number (L.loop x inner) t')) in
+          let m' = move_is l n (at_todo me i (X.do_next at_number (L.loop x inner) t')) in
           quiets refl (λ h'. record {
             j = 1;
             i = k';
             z = last;
-            steps = further (ap X.next_in m') (subst (λ y. Quietly (X.machine l n) 0 y last) (sym (ap (X.quiet_in (at_todo me i (X.next at_number (L.loop x inner) t'))) m')) here);
+            steps = further (ap X.next_in m') (subst (λ y. Quietly (X.machine l n) 0 y last) (sym (ap (X.quiet_in (at_todo me i (X.do_next at_number (L.loop x inner) t'))) m')) here);
             few = omega arith;
             rel = record {
               twin = last;
@@ -190,7 +196,7 @@ module _ (p : Protocol) (l : Program) (n : ℤ) (me : Seat) (g : Given p l n me)
   again_front {h = h} {a = a} {m = m} {id = id} {rest = rest} {o = o} {K = K} {t = t} c (suc k) number i z over near room =
       let e = between id a.opens in
       let x = number_at a.numbers e in
-      let first = at_todo me i (X.next number (L.again x) t) in
+      let first = at_todo me i (X.do_next number (L.again x) t) in
       let last = at_todo me i (back_to x t) in
       let deep : e < length a.opens = subst (λ d. e < d) z.around.deep z.keeps in
       let sim = over.on_top {h = h} {core = T.more m (T.again id) rest} number (record { shape = S.again; sits = z }) in

@@ -1,26 +1,28 @@
 -- The branches of a choice: in the core, in the endpoint and in the text.
 use Rattle.std.proofs.Common.{◌≡◌, ◌≤◌, ◌<◌, ℕ, zero, suc, ◌+◌, ◌==◌, ℤ, pos, Bool, true, false, cond, MatchBool, List, ◌∷◌, Some, refl, ap, ◌∙◌, subst, arith}
 use Rattle.std.proofs.lemmas.Bool.Decides.{nat_tests}
+use Rattle.std.proofs.lemmas.Bool.{or_left, and_parts}
 use Rattle.pb_core_language.specs.declared.protocol.CoreRole.{CoreRole}
 use Rattle.pb_core_language.specs.Tree as T
 use Rattle.pb_core_language.specs.Tree.{BlockTree, BranchTrees}
 use Rattle.pb_core_language.specs.Plain.{Protocol}
 use Rattle.pb_core_language.specs.Flat.{Block, stop, message, compute, together, choice, looped, again, Branches, no_branch, branch, takes_part, takes_part_among, count, branch_at}
 use Rattle.pb_core_language.specs.FlatOf.{flat_block, flat_branches}
-use Rattle.pb_core_language.specs.Outcomes.{firsts, labels_of, is_among}
+use Rattle.pb_core_language.specs.Lists.{is_among}
+use Rattle.pb_core_language.specs.Outcomes.{firsts, labels_of}
 use Rattle.pb_core_language.specs.Run.{Env}
 use Rattle.pb_core_endpoint.specs.Core.{have_simple_items, branches_have_simple_items}
 use Rattle.pb_core_endpoint.specs.Endpoint.{Code, code, arms, count_arms, arm_at, arm_of}
 use Rattle.pb_core_endpoint.proofs.Kept.{Receives_first, Receives_each, first_label, first_label_among, Apart, Keeps, Keeps_each}
 use Rattle.pb_core_endpoint.proofs.Moves.{arm_is as arm_is_branch, among_at}
-use Rattle.pb_core_endpoint.proofs.Progress.{and_both}
-use Rattle.pb_core_endpoint.proofs.Branches.{or_left}
 use Rattle.pb_local.specs.Tree.{Codes, nothing, size_all, size_parts, Parts, no_part, part, Program}
 use Rattle.pb_local.specs.WellMade as W
 use Rattle.pb_local.specs.WellMade.{AreMade, ArePartsMade, count_parts}
 use Rattle.pb_local.specs.Machine.{Todo, pushed, entered}
 use Rattle.pb_shape.specs.Shape as S
-use Rattle.pb_shape.specs.Shape.{Scope, Here, Around, Shape, Shapes}
+use Rattle.pb_shape.specs.Places.{Scope, Here}
+use Rattle.pb_shape.specs.Loops.{Around}
+use Rattle.pb_shape.specs.Shape.{Shape, Shapes}
 use Rattle.pb_shape.specs.Straight.{AreFine, BranchesAreFine}
 
 -- ---- by the branch's number
@@ -54,8 +56,8 @@ fine_at p n (T.branch m b bs) (suc y) h = fine_at p n bs y h.1
 
 pub simple_at : (bs : BranchTrees) (y : ℕ) → branches_have_simple_items bs ≡ true → have_simple_items (tree_at y bs) ≡ true
 simple_at T.no_branch y h = refl
-simple_at (T.branch m b bs) zero h = (and_both (have_simple_items b) (branches_have_simple_items bs) h).0
-simple_at (T.branch m b bs) (suc y) h = simple_at bs y (and_both (have_simple_items b) (branches_have_simple_items bs) h).1
+simple_at (T.branch m b bs) zero h = (and_parts (have_simple_items b) (branches_have_simple_items bs) h).0
+simple_at (T.branch m b bs) (suc y) h = simple_at bs y (and_parts (have_simple_items b) (branches_have_simple_items bs) h).1
 
 -- where a branch's code is made
 pub record MadeAt (l : Program) (s : W.Scope) (codes : Codes) : Type 0 where

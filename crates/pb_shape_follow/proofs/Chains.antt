@@ -4,7 +4,8 @@ use Rattle.pb_affine.specs.Values.{value, range}
 use Rattle.pb_world.specs.Actions.{Kind, Sends, Receives, Runs, Enters, Leaves, Chooses}
 use Rattle.pb_core_language.specs.declared.protocol.CoreRole.{CoreRole}
 use Rattle.pb_core_language.specs.Tree as T
-use Rattle.pb_core_language.specs.Tree.{Mark, Bounds, StmtTree, BlockTree}
+use Rattle.pb_core_language.specs.Tree.{Mark, StmtTree, BlockTree}
+use Rattle.pb_core_language.specs.declared.tree.Bounds.{Bounds}
 use Rattle.pb_core_language.specs.Flat.{Block, stop, message, compute, together, choice, looped, again}
 use Rattle.pb_core_language.specs.FlatOf.{rank_of, for_each, flat_stmt, flat_block}
 use Rattle.pb_core_language.specs.Run.{Env}
@@ -12,8 +13,10 @@ use Rattle.pb_core_endpoint.specs.Core.{are_simple, has_simple_items}
 use Rattle.pb_core_endpoint.specs.Endpoint.{Code, send, receive, run, code}
 use Rattle.pb_core_endpoint.proofs.Kept.{Keeps}
 use Rattle.pb_local.specs.Tree.{Codes}
-use Rattle.pb_shape.specs.Shape as S
-use Rattle.pb_shape.specs.Shape.{Scope, Here, Piece}
+use Rattle.pb_shape.specs.Items as I
+use Rattle.pb_shape.specs.Pieces as P
+use Rattle.pb_shape.specs.Places.{Scope, Here}
+use Rattle.pb_shape.specs.Pieces.{Piece}
 use Rattle.pb_shape.specs.Ways.{mine}
 use Rattle.pb_shape_follow.proofs.Fronts.{AreStraight, laid}
 
@@ -134,20 +137,20 @@ module _ (roles : List CoreRole) (n : ℤ) (r : ℕ) where
   -- the code of a straight statement before the rest
   pub piece_code : {sc : Scope} {h : Here} {tail codes : Codes} (held : List Bool) (opens : List ℕ) (m : Mark) (s : StmtTree) → Piece sc h tail s codes → has_simple_items s ≡ true → (g : Block) →
       code held r (flat_stmt roles n opens (pos 0) m s g) ≡ laid (mine r (flat_stmt roles n opens (pos 0) m s stop)) (code held r g)
-  piece_code held opens m _ (S.item (S.message {l = l} {f = f} {t = t} a b)) h g = message_laid (rank_of roles n f (pos 0) == r) (rank_of roles n t (pos 0) == r) (rank_of roles n f (pos 0)) (rank_of roles n t (pos 0)) l [] (code held r g)
-  piece_code held opens m _ (S.item (S.run {k = k} {e = e} a)) h g = run_laid (rank_of roles n e (pos 0) == r) k [] (code held r g)
-  piece_code held opens m _ (S.foreach {b = b} {items = items} w) h g = each_code opens items h held (range (value b.low n (pos 0)) (value b.high n (pos 0))) g
-  piece_code held opens m _ S.barrier h g = refl
-  piece_code held opens m _ S.broadcast h g = refl
-  piece_code held opens m _ S.reduce h g = refl
-  piece_code held opens m _ S.allreduce h g = refl
+  piece_code held opens m _ (P.item (I.message {l = l} {f = f} {t = t} a b)) h g = message_laid (rank_of roles n f (pos 0) == r) (rank_of roles n t (pos 0) == r) (rank_of roles n f (pos 0)) (rank_of roles n t (pos 0)) l [] (code held r g)
+  piece_code held opens m _ (P.item (I.run {k = k} {e = e} a)) h g = run_laid (rank_of roles n e (pos 0) == r) k [] (code held r g)
+  piece_code held opens m _ (P.foreach {b = b} {items = items} w) h g = each_code opens items h held (range (value b.low n (pos 0)) (value b.high n (pos 0))) g
+  piece_code held opens m _ P.barrier h g = refl
+  piece_code held opens m _ P.broadcast h g = refl
+  piece_code held opens m _ P.reduce h g = refl
+  piece_code held opens m _ P.allreduce h g = refl
 
   pub piece_keeps : {sc : Scope} {h : Here} {tail codes : Codes} (world : ℕ) (env : Env) (opens : List ℕ) (m : Mark) (s : StmtTree) → Piece sc h tail s codes → has_simple_items s ≡ true → (g : Block) →
       Keeps world env (flat_stmt roles n opens (pos 0) m s g) → Keeps world env g
-  piece_keeps world env opens m _ (S.item (S.message {l = l} {f = f} {t = t} a b)) h g k = k.3
-  piece_keeps world env opens m _ (S.item (S.run a)) h g k = k.1
-  piece_keeps world env opens m _ (S.foreach {b = b} {items = items} w) h g k = each_keeps opens items h world env (range (value b.low n (pos 0)) (value b.high n (pos 0))) g k
-  piece_keeps world env opens m _ S.barrier h g k = k.1
-  piece_keeps world env opens m _ S.broadcast h g k = k.1
-  piece_keeps world env opens m _ S.reduce h g k = k.1
-  piece_keeps world env opens m _ S.allreduce h g k = k.1
+  piece_keeps world env opens m _ (P.item (I.message {l = l} {f = f} {t = t} a b)) h g k = k.3
+  piece_keeps world env opens m _ (P.item (I.run a)) h g k = k.1
+  piece_keeps world env opens m _ (P.foreach {b = b} {items = items} w) h g k = each_keeps opens items h world env (range (value b.low n (pos 0)) (value b.high n (pos 0))) g k
+  piece_keeps world env opens m _ P.barrier h g k = k.1
+  piece_keeps world env opens m _ P.broadcast h g k = k.1
+  piece_keeps world env opens m _ P.reduce h g k = k.1
+  piece_keeps world env opens m _ P.allreduce h g k = k.1

@@ -1,6 +1,8 @@
 -- What a text does next at a choice, beside what the endpoint does next at it.
-use Rattle.std.proofs.Common.{◌≡◌, ◌≤◌, ◌<◌, ℕ, zero, suc, ◌+◌, ◌==◌, ℤ, pos, ◌+ℤ◌, Bool, true, false, ◌&&◌, ◌||◌, if◌then◌else◌, nat_eq, unwrap_or, List, [], ◌∷◌, Option, Some, None, refl, sym, ap, ◌∙◌, subst, lt-ltb, arith}
+use Rattle.std.proofs.Common.{◌≡◌, ◌≤◌, ◌<◌, ℕ, zero, suc, ◌+◌, ◌==◌, ℤ, pos, ◌+ℤ◌, Bool, true, false, ◌&&◌, if◌then◌else◌, nat_eq, unwrap_or, List, [], ◌∷◌, Option, Some, None, refl, sym, ap, ◌∙◌, subst, lt-ltb, arith}
 use Rattle.std.specs.Ordering.{int_eq}
+use Rattle.std.proofs.lemmas.Bool.{and_parts}
+use Rattle.std.proofs.Math.Bool.{or-false}
 use Rattle.pb_affine.specs.declared.guard.Guard.{Guard}
 use Rattle.pb_affine.specs.declared.lin.Base.{Base}
 use Rattle.pb_affine.specs.declared.lin.Base.TheVariants.{Fixed, Param, Var}
@@ -22,7 +24,6 @@ use Rattle.pb_core_flat.proofs.Seats.{end_is_at, seat_of_rank, is_below}
 use Rattle.pb_core_endpoint.specs.Core.{have_simple_items, branches_have_simple_items}
 use Rattle.pb_core_endpoint.specs.Endpoint.{Code, Arms, Part, code, arms, count_arms, choose, told, arm_at, arm_of, branch_of, chosen}
 use Rattle.pb_core_endpoint.proofs.Kept.{IsTold}
-use Rattle.pb_core_endpoint.proofs.Progress.{and_both}
 use Rattle.pb_local.specs.declared.stmt.Test.{Test}
 use Rattle.pb_local.specs.declared.stmt.Relay.{Relay}
 use Rattle.pb_local.specs.Ranks.{Seat}
@@ -36,7 +37,11 @@ use Rattle.pb_local.specs.Machine as X
 use Rattle.pb_local.specs.Machine.{Todo, Rank, pushed, entered, move, move_from}
 use Rattle.pb_local.specs.Family.{most_silent}
 use Rattle.pb_local.proofs.Moves.{move_is}
-use Rattle.pb_shape.specs.Shape.{Here, inside, Around, takers, told_by, peer_of, is_end, is_told, guards_of, Names, Tests, Relays, scope_of, Shape, Shapes}
+use Rattle.pb_shape.specs.Places.{Here, inside, peer_of, is_end, scope_of}
+use Rattle.pb_shape.specs.Guards.{Names}
+use Rattle.pb_shape.specs.Loops.{Around, takers}
+use Rattle.pb_shape.specs.Choices.{told_by, is_told, guards_of, Tests, Relays}
+use Rattle.pb_shape.specs.Shape.{Shape, Shapes}
 use Rattle.pb_shape.specs.Straight.{IsVariable, at_todo, IsEnd}
 use Rattle.pb_shape_follow.proofs.Stacks.{weight, weight_pushed, all, me_rank, held, coded, Sits, Sim, block}
 use Rattle.pb_shape_follow.proofs.Fronts.{debt, Budget, Rel, stands, acts, asks}
@@ -81,7 +86,7 @@ module _ (p : Protocol) (l : Program) (n : ℤ) (me : Seat) (g : Given p l n me)
         let mine = made_at l parts y s made in record {
           fine = fine_at p n bs y x.sits.fine.0.1;
           here = record { at = x.sits.here.at; comes = λ i. rw x.takes (x.sits.here.comes i) };
-          simple = simple_at bs y (and_both (branches_have_simple_items bs) (have_simple_items rest) x.sits.simple).0;
+          simple = simple_at bs y (and_parts (branches_have_simple_items bs) (have_simple_items rest) x.sits.simple).0;
           around = x.sits.around;
           keeps = keeps_at p.roles n a.opens (total p.roles n) x.sits.around.env bs y x.sits.keeps.3;
           made = record { at = mine.at; made = mine.made; below = λ k lt. let b = x.sits.made.below k lt in let e = mine.later in omega arith };
@@ -120,13 +125,9 @@ module _ (p : Protocol) (l : Program) (n : ℤ) (me : Seat) (g : Given p l n me)
         go Param h = refl
         go Var h = cc
 
-    or_false : (b : Bool) → b ≡ b || false
-    or_false true = refl
-    or_false false = refl
-
     chooses_is : (x : IsThere) (j : ℤ) → is_for n me j who ≡ (rank_of p.roles n from (pos 0) == me_rank p l n me)
     chooses_is x j =
-        or_false (is_for n me j who) ∙ x.names n j me.role me.index g.seated.within g.seated.is (x.sits.here.at j)
+        sym (or-false (is_for n me j who)) ∙ x.names n j me.role me.index g.seated.within g.seated.is (x.sits.here.at j)
         ∙ ap (λ v. nat_eq from.role me.role && int_eq v me.index) (steady x.sits.fine.0.0 j)
         ∙ sym (end_is_at p.roles n (pos 0) from me.role me.index g.seated.is)
 
@@ -148,9 +149,9 @@ module _ (p : Protocol) (l : Program) (n : ℤ) (me : Seat) (g : Given p l n me)
     branch_in_is (Leave j ws) = refl
 
     pub choose_front : {o : Option Code} {K : List Part} {t : Todo} (x : IsThere) (c : Bool) (k number behind : ℕ) (j : ℤ) → IsVariable j → (rank_of p.roles n from (pos 0) == me_rank p l n me) ≡ true → Over p l n me a o K t → Room c k (pushed behind tail t) →
-        Ahead p l n me g k c (at_todo me j (X.next number text (pushed behind tail t))) (record { body = o; code = choose kern my_arms (coded p l n me a rest) } ∷ K)
+        Ahead p l n me g k c (at_todo me j (X.do_next number text (pushed behind tail t))) (record { body = o; code = choose kern my_arms (coded p l n me a rest) } ∷ K)
     choose_front {o = o} {K = K} {t = t} x c k number behind j near mine over room =
-        let z = at_todo me j (X.next number text (pushed behind tail t)) in
+        let z = at_todo me j (X.do_next number text (pushed behind tail t)) in
         let made = text_made x.sits.made.at relays x.made in
         let to : ℕ → Rank = λ b. at_todo me j (entered (suc number) b parts (pushed behind tail t)) in
         let m' : move l n z ≡ X.chooses kern (count_parts parts) to = move_is l n z ∙ rw (g.guard j near who made.choice.guard, chooses_is x j ∙ mine) refl in
@@ -213,13 +214,13 @@ module _ (p : Protocol) (l : Program) (n : ℤ) (me : Seat) (g : Given p l n me)
 
     pub ask_front : {o : Option Code} {K : List Part} {t : Todo} (x : IsThere) (c : Bool) (k number behind : ℕ) (j : ℤ) → IsVariable j → IsFound p l n me g j relays → (rank_of p.roles n from (pos 0) == me_rank p l n me) ≡ false →
         takes_part_among (held p l n me a) (me_rank p l n me) flats ≡ true → Over p l n me a o K t → Room c k (pushed behind tail t) →
-        Ahead p l n me g k c (at_todo me j (X.next number text (pushed behind tail t))) (record { body = o; code = told teller_at my_arms (coded p l n me a rest) } ∷ K)
+        Ahead p l n me g k c (at_todo me j (X.do_next number text (pushed behind tail t))) (record { body = o; code = told teller_at my_arms (coded p l n me a rest) } ∷ K)
     ask_front {o = o} {K = K} {t = t} x c k number behind j near found other among over room =
         let r = me_rank p l n me in
         let bits = held p l n me a in
         let env = x.sits.around.env in
         let t' = pushed behind tail t in
-        let z = at_todo me j (X.next number text t') in
+        let z = at_todo me j (X.do_next number text t') in
         let made = text_made x.sits.made.at relays x.made in
         let within : r < total p.roles n = (seat_of_rank p.roles n (record { role = me.role; index = me.index }) g.seated.is).0 in
         let is_told' : IsTold bits r flats = subst (λ b. IsTold b r flats) x.sits.around.same (x.sits.keeps.2 r within other (subst (λ b. takes_part_among b r flats ≡ true) (sym x.sits.around.same) among)) in

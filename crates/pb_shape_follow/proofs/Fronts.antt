@@ -12,7 +12,7 @@ use Rattle.pb_local.specs.Tree.{Program}
 use Rattle.pb_local.specs.Machine.{Todo, Rank, Move, silent, does, chooses, probes, ends, undefined, move_from, move, next_in, quiet_in, read_in, act_in, machine}
 use Rattle.pb_local.specs.Family.{most_silent}
 use Rattle.pb_local.proofs.Moves.{move_is}
-use Rattle.pb_shape.specs.Shape.{Around}
+use Rattle.pb_shape.specs.Loops.{Around}
 use Rattle.pb_shape.specs.Straight.{IsVariable, at_todo}
 use Rattle.pb_shape.specs.Ways.{Way}
 use Rattle.pb_shape_follow.proofs.Stacks.{weight, all, Sim}

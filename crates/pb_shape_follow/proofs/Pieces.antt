@@ -1,12 +1,19 @@
 -- What is left of well-made code behind a straight statement.
 use Rattle.std.proofs.Common.{◌≤◌, ℕ, ℤ, List, arith}
 use Rattle.pb_core_language.specs.declared.protocol.CoreRole.{CoreRole}
-use Rattle.pb_core_language.specs.Tree.{Bounds, StmtTree, BlockTree}
+use Rattle.pb_core_language.specs.Tree.{StmtTree, BlockTree}
+use Rattle.pb_core_language.specs.declared.tree.Bounds.{Bounds}
 use Rattle.pb_local.specs.Tree.{Codes, size_all, Program}
 use Rattle.pb_local.specs.WellMade as W
 use Rattle.pb_local.specs.WellMade.{AreMade}
-use Rattle.pb_shape.specs.Shape as S
-use Rattle.pb_shape.specs.Shape.{Scope, Here, Who, One, there, gone, Item, OfRole, Segments, ForEach, Piece}
+use Rattle.pb_shape.specs.Items as I
+use Rattle.pb_shape.specs.Segments as E
+use Rattle.pb_shape.specs.Pieces as P
+use Rattle.pb_shape.specs.Places.{Scope, Here, Who}
+use Rattle.pb_shape.specs.Guards.{One, there, gone}
+use Rattle.pb_shape.specs.Items.{Item}
+use Rattle.pb_shape.specs.Segments.{OfRole, Segments}
+use Rattle.pb_shape.specs.Pieces.{ForEach, Piece}
 
 module _ (l : Program) where
   pub record Left (s : W.Scope) (codes tail : Codes) : Type 0 where
@@ -27,26 +34,26 @@ module _ (l : Program) where
     one_leaves {codes = codes} s (gone nobody) made = leaves_all s codes made
 
     item_leaves : {st : StmtTree} {tail codes : Codes} (s : W.Scope) → Item sc h tail st codes → AreMade l s codes → Left s codes tail
-    item_leaves s (S.message a b) made = let x = one_leaves s a made in leaves_two x (one_leaves x.at b x.made)
-    item_leaves s (S.run a) made = one_leaves s a made
+    item_leaves s (I.message a b) made = let x = one_leaves s a made in leaves_two x (one_leaves x.at b x.made)
+    item_leaves s (I.run a) made = one_leaves s a made
 
     of_role_leaves : {b : Bounds} {items : BlockTree} {k : ℕ} {tail : Codes} {cs : List ℤ} {codes : Codes} (s : W.Scope) → OfRole sc h b items k tail cs codes → AreMade l s codes → Left s codes tail
-    of_role_leaves {codes = codes} s S.none made = leaves_all s codes made
-    of_role_leaves s (S.segment a w) made = let x = one_leaves s a made in leaves_two x (of_role_leaves x.at w x.made)
+    of_role_leaves {codes = codes} s E.none made = leaves_all s codes made
+    of_role_leaves s (E.segment a w) made = let x = one_leaves s a made in leaves_two x (of_role_leaves x.at w x.made)
 
     segments_leave : {b : Bounds} {items : BlockTree} {tail : Codes} {k : ℕ} {roles : List CoreRole} {codes : Codes} (s : W.Scope) → Segments sc h b items tail k roles codes → AreMade l s codes → Left s codes tail
-    segments_leave {codes = codes} s S.none made = leaves_all s codes made
-    segments_leave s (S.of_role a w) made = let x = of_role_leaves s a made in leaves_two x (segments_leave x.at w x.made)
+    segments_leave {codes = codes} s E.none made = leaves_all s codes made
+    segments_leave s (E.of_role a w) made = let x = of_role_leaves s a made in leaves_two x (segments_leave x.at w x.made)
 
     foreach_leaves : {b : Bounds} {items : BlockTree} {tail codes : Codes} (s : W.Scope) → ForEach sc h b items tail codes → AreMade l s codes → Left s codes tail
-    foreach_leaves s (S.both names some first other) made = record { at = _; made = made.1; later = omega arith; fewer = omega arith }
-    foreach_leaves s (S.segments nobody w) made = segments_leave s w made
-    foreach_leaves {codes = codes} s (S.neither nobody w) made = leaves_all s codes made
+    foreach_leaves s (P.both names some first other) made = record { at = _; made = made.1; later = omega arith; fewer = omega arith }
+    foreach_leaves s (P.segments nobody w) made = segments_leave s w made
+    foreach_leaves {codes = codes} s (P.neither nobody w) made = leaves_all s codes made
 
     pub piece_leaves : {st : StmtTree} {tail codes : Codes} (s : W.Scope) → Piece sc h tail st codes → AreMade l s codes → Left s codes tail
-    piece_leaves s (S.item w) made = item_leaves s w made
-    piece_leaves s (S.foreach w) made = foreach_leaves s w made
-    piece_leaves s S.barrier made = record { at = _; made = made.1; later = omega arith; fewer = omega arith }
-    piece_leaves s S.broadcast made = record { at = _; made = made.1; later = omega arith; fewer = omega arith }
-    piece_leaves s S.reduce made = record { at = _; made = made.1; later = omega arith; fewer = omega arith }
-    piece_leaves s S.allreduce made = record { at = _; made = made.1; later = omega arith; fewer = omega arith }
+    piece_leaves s (P.item w) made = item_leaves s w made
+    piece_leaves s (P.foreach w) made = foreach_leaves s w made
+    piece_leaves s P.barrier made = record { at = _; made = made.1; later = omega arith; fewer = omega arith }
+    piece_leaves s P.broadcast made = record { at = _; made = made.1; later = omega arith; fewer = omega arith }
+    piece_leaves s P.reduce made = record { at = _; made = made.1; later = omega arith; fewer = omega arith }
+    piece_leaves s P.allreduce made = record { at = _; made = made.1; later = omega arith; fewer = omega arith }

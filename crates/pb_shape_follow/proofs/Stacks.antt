@@ -4,7 +4,8 @@ use Rattle.std.proofs.lemmas.Bool.Decides.{nat_tests}
 use Rattle.pb_core_language.specs.Ranks.{total}
 use Rattle.pb_core_language.specs.Tree.{BlockTree}
 use Rattle.pb_core_language.specs.Plain.{Protocol}
-use Rattle.pb_core_language.specs.Flat.{Block, stop, nth}
+use Rattle.pb_core_language.specs.Lists.{nth}
+use Rattle.pb_core_language.specs.Flat.{Block, stop}
 use Rattle.pb_core_language.specs.FlatOf.{flat_block}
 use Rattle.pb_core_language.specs.Run.{Env, at_rank}
 use Rattle.pb_core_flat.specs.Seated.{rank}
@@ -15,8 +16,10 @@ use Rattle.pb_local.specs.Ranks.{Seat}
 use Rattle.pb_local.specs.Tree.{Codes, nothing, more, size, size_all, Program}
 use Rattle.pb_local.specs.WellMade as W
 use Rattle.pb_local.specs.WellMade.{AreMade}
-use Rattle.pb_local.specs.Machine.{Todo, finished, next, round_of, end_of, leave, pushed, back_to}
-use Rattle.pb_shape.specs.Shape.{Here, Around, outermost, in_loop, number_at, scope_of, Shape}
+use Rattle.pb_local.specs.Machine.{Todo, finished, do_next, round_of, end_of, leave, pushed, back_to}
+use Rattle.pb_shape.specs.Places.{Here, scope_of}
+use Rattle.pb_shape.specs.Loops.{Around, outermost, in_loop, number_at}
+use Rattle.pb_shape.specs.Shape.{Shape}
 use Rattle.pb_shape.specs.Straight.{AreFine, IsOpenTo}
 
 -- ---- what is still to do
@@ -24,7 +27,7 @@ use Rattle.pb_shape.specs.Straight.{AreFine, IsOpenTo}
 -- how many statements
 abbrev pub weight : Todo → ℕ
 weight finished = 0
-weight (next k c rest) = size c + weight rest
+weight (do_next k c rest) = size c + weight rest
 weight (round_of high k body rest) = weight rest
 weight (end_of x k body rest) = weight rest
 weight (leave joint rest) = weight rest

@@ -25,7 +25,9 @@ use Rattle.pb_local.specs.Ranks.{Seat}
 use Rattle.pb_local.specs.Tree.{Program}
 use Rattle.pb_local.specs.WellMade as W
 use Rattle.pb_local.specs.WellMade.{IsWellMade}
-use Rattle.pb_shape.specs.Shape.{HasShape, everywhere, outermost}
+use Rattle.pb_shape.specs.Places.{everywhere, role_of}
+use Rattle.pb_shape.specs.Loops.{outermost}
+use Rattle.pb_shape.specs.Shape.{HasShape}
 use Rattle.pb_shape.specs.Straight.{IsSeated, at_todo}
 use Rattle.pb_shape_straight.proofs.Ends.{ends_are_fine}
 use Rattle.pb_shape_straight.proofs.Fits.{guard_fits, guards_fit}
@@ -40,7 +42,6 @@ use Rattle.pb_shape_follow.proofs.Simulated.{up}
 use Rattle.std.proofs.lemmas.List.{length-map}
 use Rattle.pb_core_language.specs.declared.protocol.CoreRole.{CoreRole}
 use Rattle.pb_affine.specs.Values.{value, range}
-use Rattle.pb_shape.specs.Shape.{role_of}
 
 -- ---- ranks
 

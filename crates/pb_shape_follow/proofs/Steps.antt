@@ -1,6 +1,7 @@
 -- The steps of a text before a loop or a choice, and through a straight statement.
 use Rattle.std.proofs.Common.{◌≡◌, ◌≤◌, ℕ, zero, suc, ◌+◌, ℤ, pos, ◌+ℤ◌, Bool, true, false, List, [], ◌∷◌, Option, refl, sym, ◌∙◌, subst, arith}
 use Rattle.std.proofs.lemmas.Int.{ints}
+use Rattle.std.proofs.lemmas.Bool.{both_ways}
 use Rattle.pb_affine.specs.declared.guard.Guard.{Guard}
 use Rattle.pb_affine.specs.Values.{value, count_of}
 use Rattle.pb_world.specs.Actions.{Action, Kind, Sends, Receives, Runs, Enters, Leaves, Chooses}
@@ -21,7 +22,10 @@ use Rattle.pb_local.specs.WellMade.{AreMade, AreGuards, IsGuard, IsPeer}
 use Rattle.pb_local.specs.Machine as X
 use Rattle.pb_local.specs.Machine.{Todo, Rank, pushed, move, move_from}
 use Rattle.pb_local.specs.Family.{most_silent}
-use Rattle.pb_shape.specs.Shape.{Here, Around, Who, One, there, gone, scope_of, told_by, alone}
+use Rattle.pb_shape.specs.Places.{Here, Who, scope_of}
+use Rattle.pb_shape.specs.Guards.{One, there, gone, alone}
+use Rattle.pb_shape.specs.Loops.{Around}
+use Rattle.pb_shape.specs.Choices.{told_by}
 use Rattle.pb_shape.specs.Straight.{IsSeated, IsVariable, at_todo, IsOpenTo, StraightPasses}
 use Rattle.pb_shape.specs.Ways as V
 use Rattle.pb_shape.specs.Ways.{Way, renewed}
@@ -121,9 +125,6 @@ module _ (p : Protocol) (l : Program) (n : ℤ) (me : Seat) (g : Given p l n me)
 
   -- ---- the `If` before a loop or a choice
 
-  not_both : (b : Bool) → b ≡ true → b ≡ false → ⊥
-  not_both b x y = cc
-
   -- a rank that doesn't take part passes it
   pub one_skips : {h : Here} {who : Who} {first tail codes : Codes} {c : Bool} {K : List Part} (number : ℕ) (i : ℤ) (t : Todo) (s : W.Scope) (k : ℕ) → One (scope_of p) h who first tail codes → IsOpenTo h n me → AreMade l s codes →
       who n i me.role me.index ≡ false → IsVariable i → Budget p l n me c k (pushed number codes t) →
@@ -144,7 +145,7 @@ module _ (p : Protocol) (l : Program) (n : ℤ) (me : Seat) (g : Given p l n me)
   pub one_enters : {h : Here} {who : Who} {first tail codes : Codes} {c : Bool} {K : List Part} (number : ℕ) (i : ℤ) (t : Todo) (s : W.Scope) (k : ℕ) → One (scope_of p) h who first tail codes → IsOpenTo h n me → AreMade l s codes →
       who n i me.role me.index ≡ true → IsVariable i → Budget p l n me c k (pushed number codes t) →
       ((inner behind k' : ℕ) → k ≡ suc k' → suc (size_all first + size_all tail) ≤ size_all codes → AreMade l s first → Ahead k' c (at i (pushed inner first (pushed behind tail t))) K) → Ahead k c (at i (pushed number codes t)) K
-  one_enters number i t s k (gone nobody) open' made yes' near room go = absurd (not_both _ yes' (nobody n i me.role me.index g.seated.within g.seated.is (open'.at i) (open'.comes i)))
+  one_enters number i t s k (gone nobody) open' made yes' near room go = absurd (both_ways _ (nobody n i me.role me.index g.seated.within g.seated.is (open'.at i) (open'.comes i)) yes')
   one_enters number i t s zero (there {gs = gs} names some) open' made yes' near room go = absurd (let a = room.enough in omega arith)
   one_enters {first = first} {tail = tail} {c = c} {K = K} number i t s (suc k) (there {gs = gs} names some) open' made yes' near room go =
       let behind = number + L.size (L.when gs first nothing) in
@@ -160,13 +161,13 @@ module _ (p : Protocol) (l : Program) (n : ℤ) (me : Seat) (g : Given p l n me)
     by_index : {r : Relay} {rs : List Relay} → i ≡ me.index → IsFound i (r ∷ rs)
 
   pub told_front : {c : Bool} {K : List Part} (number : ℕ) (i : ℤ) (t : Todo) (k : ℕ) (relays : List Relay) (code : L.Code) → IsVariable i → size_all (told_by relays code) ≤ k →
-      ((j : ℤ) (number' k' : ℕ) → IsVariable j → IsFound j relays → k + size_all (alone code) ≤ k' + size_all (told_by relays code) → k' ≤ k → Ahead k' c (at j (X.next number' code t)) K) → Ahead k c (at i (pushed number (told_by relays code) t)) K
+      ((j : ℤ) (number' k' : ℕ) → IsVariable j → IsFound j relays → k + size_all (alone code) ≤ k' + size_all (told_by relays code) → k' ≤ k → Ahead k' c (at j (X.do_next number' code t)) K) → Ahead k c (at i (pushed number (told_by relays code) t)) K
   told_front number i t k [] code near le go = go i number k near plainly (omega arith) (omega arith)
   told_front number i t zero (r ∷ rs) code near le go = absurd (omega arith)
   told_front {c = c} {K = K} number i t (suc k) (r ∷ rs) code near le go =
       let e : me.index +ℤ pos 0 ≡ me.index = omega (arith, ints) in
       let near' = subst IsVariable (sym e) g.index in
-      step p l n me (at i (pushed number (told_by (r ∷ rs) code) t)) (at (me.index +ℤ pos 0) (X.next (number + 1) code t)) (own_fits near') (go (me.index +ℤ pos 0) (number + 1) k near' (by_index e) (omega arith) (omega arith))
+      step p l n me (at i (pushed number (told_by (r ∷ rs) code) t)) (at (me.index +ℤ pos 0) (X.do_next (number + 1) code t)) (own_fits near') (go (me.index +ℤ pos 0) (number + 1) k near' (by_index e) (omega arith) (omega arith))
     where
-      own_fits : IsVariable (me.index +ℤ pos 0) → move_from l n (at i (pushed number (told_by (r ∷ rs) code) t)) (pushed number (told_by (r ∷ rs) code) t) ≡ X.silent (at (me.index +ℤ pos 0) (X.next (number + 1) code t))
+      own_fits : IsVariable (me.index +ℤ pos 0) → move_from l n (at i (pushed number (told_by (r ∷ rs) code) t)) (pushed number (told_by (r ∷ rs) code) t) ≡ X.silent (at (me.index +ℤ pos 0) (X.do_next (number + 1) code t))
       own_fits h = rw (variable_fits (me.index +ℤ pos 0) h) refl

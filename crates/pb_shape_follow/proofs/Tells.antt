@@ -2,6 +2,8 @@
 use Rattle.std.proofs.Common.{◌≡◌, ℕ, ℤ, Bool, true, false, ◌&&◌, ◌||◌, nat_eq, if◌then◌else◌, Some, All, List, [], ◌∷◌, ◌++◌, refl, sym, ◌∙◌, ap, arith}
 use Rattle.std.proofs.lemmas.Bool.Decides.{nat_tests}
 use Rattle.std.proofs.lemmas.List.Elements.{All-head, All-tail}
+use Rattle.std.proofs.lemmas.Bool.{or_right, and_parts}
+use Rattle.std.proofs.Math.Bool.{or_assoc}
 use Rattle.pb_affine.specs.declared.guard.Guard.{Guard}
 use Rattle.pb_affine.specs.Values.{holds}
 use Rattle.pb_local.specs.declared.stmt.Peer.{Peer}
@@ -11,17 +13,14 @@ use Rattle.pb_local.specs.Ranks.{Seat}
 use Rattle.pb_local.specs.Tree.{Program}
 use Rattle.pb_local.specs.Computed.{all_fit, is_for_some, numbers_of, source_of, relay_numbers, branch_for}
 use Rattle.pb_local.specs.WellMade.{AreGuards, IsPeer, IsRelay, IsTest}
-use Rattle.pb_shape.specs.Shape.{guards_of}
+use Rattle.pb_shape.specs.Choices.{guards_of}
 
 module _ (l : Program) (n : ℤ) (me : Seat) (i : ℤ) (fit : (gs : List Guard) → AreGuards l gs → all_fit (numbers_of n me i gs) ≡ true) where
   -- ---- tests
 
   both_hold : (gs hs : List Guard) → is_for_some n me i (gs ++ hs) ≡ is_for_some n me i gs || is_for_some n me i hs
   both_hold [] hs = refl
-  both_hold (g ∷ gs) hs = rw (both_hold gs hs) (or_or (holds g n i me.role me.index) (is_for_some n me i gs) (is_for_some n me i hs))
-    where
-      or_or : (a b c : Bool) → a || (b || c) ≡ a || b || c
-      or_or a b c = grind arith
+  both_hold (g ∷ gs) hs = rw (both_hold gs hs) (sym (or_assoc (holds g n i me.role me.index) (is_for_some n me i gs) (is_for_some n me i hs)))
 
   hold_step : (b label : ℕ) (t : Test) (ts : List Test) →
       is_for_some n me i (guards_of b label (t ∷ ts)) ≡ (nat_eq b t.branch && nat_eq label t.label && is_for_some n me i t.guards) || is_for_some n me i (guards_of b label ts)
@@ -42,10 +41,7 @@ module _ (l : Program) (n : ℤ) (me : Seat) (i : ℤ) (fit : (gs : List Guard) 
       fits = let m = All-head (IsTest l branches) t ts made in fit t.guards m.guards
 
       later : (b : ℕ) → is_for_some n me i (guards_of b label ts) ≡ true → b ≡ y
-      later b e = one b (hold_step b label t ts ∙ or_true (nat_eq b t.branch && nat_eq label t.label && is_for_some n me i t.guards) (is_for_some n me i (guards_of b label ts)) e)
-        where
-          or_true : (a b : Bool) → b ≡ true → a || b ≡ true
-          or_true a b e = grind arith
+      later b e = one b (hold_step b label t ts ∙ or_right (nat_eq b t.branch && nat_eq label t.label && is_for_some n me i t.guards) (is_for_some n me i (guards_of b label ts)) e)
 
       left : (a c h' r : Bool) → c && h' ≡ false → (a && c && h') || r ≡ true → r ≡ true
       left a c h' r e e' = grind arith
@@ -63,13 +59,7 @@ module _ (l : Program) (n : ℤ) (me : Seat) (i : ℤ) (fit : (gs : List Guard) 
 
   both_fit : (xs ys : List ℤ) → all_fit xs ≡ true → all_fit ys ≡ true → all_fit (xs ++ ys) ≡ true
   both_fit [] ys a b = b
-  both_fit (x ∷ xs) ys a b = rw (first _ (all_fit xs) a, both_fit xs ys (second _ (all_fit xs) a) b) refl
-    where
-      first : (s t : Bool) → s && t ≡ true → s ≡ true
-      first s t h = grind arith
-
-      second : (s t : Bool) → s && t ≡ true → t ≡ true
-      second s t h = grind arith
+  both_fit (x ∷ xs) ys a b = rw ((and_parts _ (all_fit xs) a).0, both_fit xs ys (and_parts _ (all_fit xs) a).1 b) refl
 
   if_fits : (b : Bool) (xs ys : List ℤ) → all_fit xs ≡ true → all_fit ys ≡ true → all_fit (if b then xs else ys) ≡ true
   if_fits true xs ys a b = a

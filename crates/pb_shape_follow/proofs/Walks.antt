@@ -1,5 +1,6 @@
 -- The text of a rank does next what its endpoint does next, and so simulates it.
 use Rattle.std.proofs.Common.{◌≡◌, ◌≤◌, ◌<◌, ℕ, zero, suc, ◌+◌, ◌==◌, ℤ, pos, Bool, true, false, ◌||◌, cond, List, [], ◌∷◌, length, Option, refl, sym, ap, ◌∙◌, subst, true≢false, arith}
+use Rattle.std.proofs.lemmas.Bool.{and_parts}
 use Rattle.pb_affine.specs.declared.guard.Guard.{Guard}
 use Rattle.pb_world.specs.Actions.{Action}
 use Rattle.pb_world.specs.Once.{Once}
@@ -13,7 +14,6 @@ use Rattle.pb_core_language.specs.FlatOf.{flat_stmt, flat_branches, rank_of, bet
 use Rattle.pb_core_language.specs.Outcomes.{firsts_among, source_of}
 use Rattle.pb_core_endpoint.specs.Core.{has_simple_items, have_simple_items, branches_have_simple_items}
 use Rattle.pb_core_endpoint.specs.Endpoint.{Code, Part, arms, done, choose, told, again}
-use Rattle.pb_core_endpoint.proofs.Progress.{and_both}
 use Rattle.pb_local.specs.declared.stmt.Test.{Test}
 use Rattle.pb_local.specs.declared.stmt.Relay.{Relay}
 use Rattle.pb_local.specs.Ranks.{Seat}
@@ -25,7 +25,12 @@ use Rattle.pb_local.specs.Machine.{Todo, Rank, pushed, move, move_from}
 use Rattle.pb_local.specs.Family.{most_silent}
 use Rattle.pb_local.proofs.Moves.{move_is}
 use Rattle.pb_shape.specs.Shape as S
-use Rattle.pb_shape.specs.Shape.{Here, Around, outermost, takers, alone, told_by, peer_of, is_end, Names, Tests, Relays, scope_of, One, Piece, Shape, Shapes, number_at, inside}
+use Rattle.pb_shape.specs.Places.{Here, peer_of, is_end, scope_of, inside}
+use Rattle.pb_shape.specs.Guards.{alone, Names, One}
+use Rattle.pb_shape.specs.Pieces.{Piece}
+use Rattle.pb_shape.specs.Loops.{Around, outermost, takers, number_at}
+use Rattle.pb_shape.specs.Choices.{told_by, Tests, Relays}
+use Rattle.pb_shape.specs.Shape.{Shape, Shapes}
 use Rattle.pb_shape.specs.Straight.{IsVariable, at_todo}
 use Rattle.pb_shape.specs.Ways.{mine}
 use Rattle.pb_shape_follow.proofs.Stacks.{weight, weight_pushed, all, me_rank, held, flat, coded, Sits, Stands, Sim, empty}
@@ -44,20 +49,20 @@ module _ (p : Protocol) (l : Program) (n : ℤ) (me : Seat) (g : Given p l n me)
 
   same_next : (i : ℤ) (u v t : Todo) → move_from l n (at_todo me i u) t ≡ move_from l n (at_todo me i v) t
   same_next i u v X.finished = refl
-  same_next i u v (X.next k (L.when gs a b) t) = refl
-  same_next i u v (X.next k (L.for_each low high body) t) = refl
-  same_next i u v (X.next k (L.own off) t) = refl
-  same_next i u v (X.next k (L.loop id body) t) = refl
-  same_next i u v (X.next k (L.again id) t) = refl
-  same_next i u v (X.next k (L.choice who kernel relays source [] parts) t) = refl
-  same_next i u v (X.next k (L.choice who kernel relays source (x ∷ tests) parts) t) = refl
-  same_next i u v (X.next k (L.send lab to) t) = refl
-  same_next i u v (X.next k (L.recv lab source) t) = refl
-  same_next i u v (X.next k (L.run kernel) t) = refl
-  same_next i u v (X.next k L.barrier t) = refl
-  same_next i u v (X.next k (L.broadcast lab root) t) = refl
-  same_next i u v (X.next k (L.reduce lab op root) t) = refl
-  same_next i u v (X.next k (L.allreduce lab op) t) = refl
+  same_next i u v (X.do_next k (L.when gs a b) t) = refl
+  same_next i u v (X.do_next k (L.for_each low high body) t) = refl
+  same_next i u v (X.do_next k (L.own off) t) = refl
+  same_next i u v (X.do_next k (L.loop id body) t) = refl
+  same_next i u v (X.do_next k (L.again id) t) = refl
+  same_next i u v (X.do_next k (L.choice who kernel relays source [] parts) t) = refl
+  same_next i u v (X.do_next k (L.choice who kernel relays source (x ∷ tests) parts) t) = refl
+  same_next i u v (X.do_next k (L.send lab to) t) = refl
+  same_next i u v (X.do_next k (L.recv lab source) t) = refl
+  same_next i u v (X.do_next k (L.run kernel) t) = refl
+  same_next i u v (X.do_next k L.barrier t) = refl
+  same_next i u v (X.do_next k (L.broadcast lab root) t) = refl
+  same_next i u v (X.do_next k (L.reduce lab op root) t) = refl
+  same_next i u v (X.do_next k (L.allreduce lab op) t) = refl
   same_next i u v (X.round_of high k body t) = refl
   same_next i u v (X.end_of id k body t) = same_next i u v t
   same_next i u v (X.leave joint t) = refl
@@ -127,7 +132,7 @@ module _ (p : Protocol) (l : Program) (n : ℤ) (me : Seat) (g : Given p l n me)
   sits_behind_choice {a = a} {bs = bs} {rest = rest} {tail = tail} {codes = codes} z left = record {
     fine = z.fine.1 refl;
     here = z.here;
-    simple = (and_both (branches_have_simple_items bs) (have_simple_items rest) z.simple).1;
+    simple = (and_parts (branches_have_simple_items bs) (have_simple_items rest) z.simple).1;
     around = z.around;
     keeps = z.keeps.4;
     made = made_later p l n me g a codes tail z.made left;
@@ -144,7 +149,7 @@ module _ (p : Protocol) (l : Program) (n : ℤ) (me : Seat) (g : Given p l n me)
   block_front c k number i (S.unreached nobody) z over near room = absurd (true≢false (nobody n i me.role me.index g.seated.within g.seated.is (z.here.at i) (z.here.comes i)))
   block_front {a = a} {codes = codes} {o = o} {K = K} {t = t} c k number i (S.piece {m = m} {s = s} {rest = rest} {tail = tail} piece shape) z over near room =
       let r = me_rank p l n me in
-      let both = and_both (has_simple_items s) (have_simple_items rest) z.simple in
+      let both = and_parts (has_simple_items s) (have_simple_items rest) z.simple in
       let left = piece_leaves l z.made.at piece z.made.made in
       let sits = sits_piece p l n me g piece z left in
       let kinds = mine r (flat_stmt p.roles n a.opens (pos 0) m s stop) in

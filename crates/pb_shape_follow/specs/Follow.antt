@@ -1,5 +1,6 @@
 -- What a rank of a program of the shape follows.
 use Rattle.std.specs.Prelude.{◌≡◌, ℕ, ◌<◌, ◌≤◌, ℤ, Bool, true, List, []}
+use Rattle.pb_text.specs.declared.limits.TheConstants.{MOST_NUMBER}
 use Rattle.pb_world.specs.Actions.{Action}
 use Rattle.pb_world.specs.Machine.{Follows}
 use Rattle.pb_world.specs.Once.{once_start, once}
@@ -23,6 +24,6 @@ use Rattle.pb_shape.specs.Shape.{HasShape}
 -- program of the projection's shape follows, with at most four silent steps for each statement before each action
 abbrev pub RankFollows : Type 0
 RankFollows =
-    (p : Protocol) (l : Program) (n : ℤ) → is_sound p ≡ true → IsProper p → HasShape p l → IsWellMade l → IsIn p.range n → total p.roles n ≤ 2000000000 → breaches p n ≡ [] →
+    (p : Protocol) (l : Program) (n : ℤ) → is_sound p ≡ true → IsProper p → HasShape p l → IsWellMade l → IsIn p.range n → total p.roles n ≤ MOST_NUMBER → breaches p n ≡ [] →
     (r : ℕ) → r < total p.roles n → (allowed : Action → Bool) (s : List Action) (ends : Bool) → Follows (once is_at_again E.machine) allowed (once_start (endpoint (flat_at p n) r)) s ends →
     FollowsWithin (most_silent l) (machine l n) allowed (most_silent l) (start l n r) s ends

@@ -11,8 +11,15 @@ use Rattle.pb_core_flat.proofs.Seats.{seat_in_role}
 use Rattle.pb_local.specs.Computed.{source_of}
 use Rattle.pb_local.specs.Tree as L
 use Rattle.pb_local.specs.Tree.{nothing, more}
+use Rattle.pb_shape.specs.Guards as G
+use Rattle.pb_shape.specs.Items as I
+use Rattle.pb_shape.specs.Pieces as Q
 use Rattle.pb_shape.specs.Shape as S
-use Rattle.pb_shape.specs.Shape.{Here, Who, Around, outermost, in_loop, takers, inside, Names, Somebody, is_end, is_told, teller, peer_of, guards_of, scope_of, everywhere, One, Tests, Relays, Shape, Shapes, HasShape}
+use Rattle.pb_shape.specs.Places.{Here, Who, inside, is_end, peer_of, scope_of, everywhere}
+use Rattle.pb_shape.specs.Guards.{Names, Somebody, One}
+use Rattle.pb_shape.specs.Loops.{Around, outermost, in_loop, takers}
+use Rattle.pb_shape.specs.Choices.{is_told, teller, guards_of, Tests, Relays}
+use Rattle.pb_shape.specs.Shape.{Shape, Shapes, HasShape}
 use Rattle.pb_shape_ranks.specs.Worked.{mark_of, w, workers}
 use Rattle.pb_shape_ranks.specs.Rounds.{three, end_at, told_on, both_ways, round, rounds, everybody, just, at_second, on_from_second, at_third, told_text, relays, test_of, tests, round_text, rounds_text}
 
@@ -58,18 +65,18 @@ somebody h who k is at so = record { n = pos 3; i = pos 0; role = 0; index = pos
 -- ---- the messages
 
 one_first : {h : Here} {first tail : _} → h.at (pos 3) (pos 0) ≡ true → One (scope_of rounds) h (is_end (end_at 0)) first tail (more (L.when (just 0 ∷ []) first nothing) tail)
-one_first {h = h} at = S.there (each_names h (just 0 ∷ []) (is_end (end_at 0)) (λ i. refl) (λ i. refl) (λ i. refl)) (somebody h _ 0 refl at refl)
+one_first {h = h} at = G.there (each_names h (just 0 ∷ []) (is_end (end_at 0)) (λ i. refl) (λ i. refl) (λ i. refl)) (somebody h _ 0 refl at refl)
 
 one_second : {h : Here} {first tail : _} → h.at (pos 3) (pos 0) ≡ true → One (scope_of rounds) h (is_end (end_at 1)) first tail (more (L.when (just 1 ∷ []) first nothing) tail)
-one_second {h = h} at = S.there (each_names h (just 1 ∷ []) (is_end (end_at 1)) (λ i. refl) (λ i. refl) (λ i. refl)) (somebody h _ 1 refl at refl)
+one_second {h = h} at = G.there (each_names h (just 1 ∷ []) (is_end (end_at 1)) (λ i. refl) (λ i. refl) (λ i. refl)) (somebody h _ 1 refl at refl)
 
 one_third : {h : Here} {first tail : _} → h.at (pos 3) (pos 0) ≡ true → One (scope_of rounds) h (is_end (end_at 2)) first tail (more (L.when (just 2 ∷ []) first nothing) tail)
-one_third {h = h} at = S.there (each_names h (just 2 ∷ []) (is_end (end_at 2)) (λ i. refl) (λ i. refl) (λ i. refl)) (somebody h _ 2 refl at refl)
+one_third {h = h} at = G.there (each_names h (just 2 ∷ []) (is_end (end_at 2)) (λ i. refl) (λ i. refl) (λ i. refl)) (somebody h _ 2 refl at refl)
 
 told_shape : {h : Here} {a : Around} {rest : T.BlockTree} {tail : L.Codes} (j k : ℕ) → h.at (pos 3) (pos 0) ≡ true → Shape (scope_of rounds) h a rest tail → Shape (scope_of rounds) h a (told_on j k rest) (told_text j k tail)
 told_shape {tail = tail} j k at shape =
-    S.piece {tail = on_from_second k (at_third k tail)} (S.item (S.message {middle = at_second j (on_from_second k (at_third k tail))} (one_first at) (one_second at)))
-    (S.piece {tail = tail} (S.item (S.message {middle = at_third k tail} (one_second at) (one_third at))) shape)
+    S.piece {tail = on_from_second k (at_third k tail)} (Q.item (I.message {middle = at_second j (on_from_second k (at_third k tail))} (one_first at) (one_second at)))
+    (S.piece {tail = tail} (Q.item (I.message {middle = at_third k tail} (one_second at) (one_third at))) shape)
 
 -- ---- the tests
 
@@ -128,7 +135,7 @@ in_loop_here = inside everywhere (takers (scope_of rounds) outermost (mark_of 6)
 
 round_shape : Shape (scope_of rounds) in_loop_here in_round round round_text
 round_shape =
-    S.choice (just 0) relays tests (S.there (each_names in_loop_here (everybody ∷ []) (takers (scope_of rounds) in_round (mark_of 5) (T.choice 0 (end_at 0) both_ways)) (λ i. refl) (λ i. refl) (λ i. refl)) (somebody in_loop_here _ 0 refl refl refl)) (each_names in_loop_here (just 0 ∷ []) (is_end (end_at 0)) (λ i. refl) (λ i. refl) (λ i. refl)) (tested in_loop_here) relayed
+    S.choice (just 0) relays tests (G.there (each_names in_loop_here (everybody ∷ []) (takers (scope_of rounds) in_round (mark_of 5) (T.choice 0 (end_at 0) both_ways)) (λ i. refl) (λ i. refl) (λ i. refl)) (somebody in_loop_here _ 0 refl refl refl)) (each_names in_loop_here (just 0 ∷ []) (is_end (end_at 0)) (λ i. refl) (λ i. refl) (λ i. refl)) (tested in_loop_here) relayed
     (S.branch (told_shape 0 1 refl S.again) (S.branch (told_shape 2 3 refl S.none) S.no_shape)) S.none
 
 pub rounds_shape : HasShape rounds rounds_text
@@ -138,5 +145,5 @@ rounds_shape = record {
   roles = refl;
   labels = refl;
   kernels = refl;
-  body = S.loop (S.there (each_names everywhere (everybody ∷ []) (takers (scope_of rounds) outermost (mark_of 6) (T.loop 0 (mark_of 3) round)) (λ i. refl) (λ i. refl) (λ i. refl)) (somebody everywhere _ 0 refl refl refl)) round_shape S.none;
+  body = S.loop (G.there (each_names everywhere (everybody ∷ []) (takers (scope_of rounds) outermost (mark_of 6) (T.loop 0 (mark_of 3) round)) (λ i. refl) (λ i. refl) (λ i. refl)) (somebody everywhere _ 0 refl refl refl)) round_shape S.none;
 }

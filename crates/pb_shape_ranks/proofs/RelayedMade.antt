@@ -2,6 +2,7 @@
 use Rattle.std.proofs.Common.{◌≡◌, ◌≢◌, ℕ, zero, suc, ◌+◌, ◌<◌, ℤ, pos, negsuc, ◌≤ℤ◌, inl, inr, Contains, List, [], ◌∷◌, slice_index_or, IsTrue, codes, refl, sym, ap, ◌∙◌, arith}
 use Rattle.std.proofs.lemmas.Int.{ints}
 use Rattle.std.proofs.lemmas.List.Elements.{All-nil, All-cons}
+use Rattle.pb_text.specs.Spellings as spellings
 use Rattle.pb_affine.specs.declared.guard.Guard.{Guard}
 use Rattle.pb_affine.specs.Values.{IsSmall}
 use Rattle.pb_syntax.specs.declared.core_label.CoreKernel.{CoreKernel}
@@ -13,7 +14,8 @@ use Rattle.pb_local.specs.Tree as L
 use Rattle.pb_local.specs.Tree.{Codes, nothing, more}
 use Rattle.pb_local.specs.WellMade as W
 use Rattle.pb_local.specs.WellMade.{Scope, IsRole, IsGuard, AreGuards, IsPeer, IsRelay, IsTest, IsChoice, IsMade, AreMade, IsWellMade, IsLabelRow, AreLabels}
-use Rattle.pb_shape.specs.Shape.{peer_of, alone}
+use Rattle.pb_shape.specs.Places.{peer_of}
+use Rattle.pb_shape.specs.Guards.{alone}
 use Rattle.pb_shape.specs.Theorem.{DoesRun}
 use Rattle.pb_shape_ranks.specs.Worked.{signal}
 use Rattle.pb_shape_ranks.specs.Rounds.{end_at, rounds, everybody, just, told_text, relays, test_of, tests, choosing, rounds_text}
@@ -66,6 +68,7 @@ apart i j less lt e =
     omega arith
 
 labels_made : AreLabels rounds_text.labels
+unfolding spellings.keys
 labels_made = record {
   most = omega arith;
   distinct = apart;
@@ -102,6 +105,7 @@ abbrev IsNamed : CoreKernel → Type 0
 IsNamed k = IsTrue (is_name k.name)
 
 made : IsWellMade rounds_text
+unfolding spellings.keys
 made = record {
   protocol = refl;
   range = record { some = omega arith; most = omega arith; high = (omega arith, omega arith) };

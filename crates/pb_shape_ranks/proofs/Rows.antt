@@ -4,6 +4,7 @@ use Rattle.std.proofs.lemmas.Int.{ints}
 use Rattle.std.proofs.lemmas.Bool.Decides.{nat_tests}
 use Rattle.std.proofs.lemmas.List.Elements.{All-nil, All-cons}
 use Rattle.std.specs.Ordering.{int_eq}
+use Rattle.pb_text.specs.Spellings as spellings
 use Rattle.pb_affine.specs.declared.lin.Lin.{Lin}
 use Rattle.pb_affine.specs.Values.{value, IsSmall}
 use Rattle.pb_core_language.specs.Laws.{Numbered, Totalled}
@@ -11,8 +12,13 @@ use Rattle.pb_core_endpoint.specs.Core.{IsProper}
 use Rattle.pb_local.specs.Tree as L
 use Rattle.pb_local.specs.Tree.{nothing, more}
 use Rattle.pb_local.specs.WellMade.{IsRole, IsGuard, AreGuards, IsMade, IsWellMade, IsLabelRow, outermost}
+use Rattle.pb_shape.specs.Guards as G
+use Rattle.pb_shape.specs.Items as I
+use Rattle.pb_shape.specs.Pieces as P
 use Rattle.pb_shape.specs.Shape as S
-use Rattle.pb_shape.specs.Shape.{Names, Somebody, is_end, peer_of, scope_of, everywhere, HasShape}
+use Rattle.pb_shape.specs.Places.{is_end, peer_of, scope_of, everywhere}
+use Rattle.pb_shape.specs.Guards.{Names, Somebody}
+use Rattle.pb_shape.specs.Shape.{HasShape}
 use Rattle.pb_shape.specs.Theorem.{DoesRun}
 use Rattle.pb_shape_ranks.specs.Worked.{number, from_n, worker, only, signal, first_to_last, receiver, first_to_last_text}
 use Rattle.pb_shape_ranks.proofs.Theorem.{text_ranks}
@@ -39,7 +45,7 @@ shape = record {
   roles = refl;
   labels = refl;
   kernels = refl;
-  body = S.piece (S.item (S.message {middle = receiver} (S.there (names (number (pos 0))) first_is) (S.there (names (from_n (negsuc 0))) last_is))) S.none;
+  body = S.piece (P.item (I.message {middle = receiver} (G.there (names (number (pos 0))) first_is) (G.there (names (from_n (negsuc 0))) last_is))) S.none;
 }
 
 -- ---- it is well made
@@ -51,6 +57,7 @@ guard_made : (x : Lin) → IsSmall x.off → AreGuards first_to_last_text (only 
 guard_made x h = record { some = omega arith; each = All-cons (IsGuard first_to_last_text) (only x) [] (record { role = omega arith; small = record { low = h; high = h }; from = tt; to = tt }) (All-nil (IsGuard first_to_last_text)) }
 
 made : IsWellMade first_to_last_text
+unfolding spellings.keys
 made = record {
   protocol = refl;
   range = record { some = omega arith; most = omega arith; high = tt };

@@ -12,7 +12,8 @@ use Rattle.pb_local.specs.declared.stmt.Test.{Test}
 use Rattle.pb_local.specs.declared.stmt.Relay.{Relay}
 use Rattle.pb_local.specs.Tree as L
 use Rattle.pb_local.specs.Tree.{Code, Codes, nothing, more, Parts, no_part, part, Program}
-use Rattle.pb_shape.specs.Shape.{peer_of, alone}
+use Rattle.pb_shape.specs.Places.{peer_of}
+use Rattle.pb_shape.specs.Guards.{alone}
 use Rattle.pb_shape_ranks.specs.Worked.{mark_of, number, from_n, worker, only, workers, signal}
 
 abbrev pub three : NRange

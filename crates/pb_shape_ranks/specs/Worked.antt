@@ -14,7 +14,7 @@ use Rattle.pb_core_language.specs.Tree.{Mark}
 use Rattle.pb_core_language.specs.Plain.{Protocol}
 use Rattle.pb_local.specs.Tree as L
 use Rattle.pb_local.specs.Tree.{Codes, nothing, more, Program}
-use Rattle.pb_shape.specs.Shape.{peer_of}
+use Rattle.pb_shape.specs.Places.{peer_of}
 
 abbrev pub somewhere : Place
 somewhere = record { line = 1; col = 1 }

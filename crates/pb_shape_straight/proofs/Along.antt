@@ -7,7 +7,7 @@ use Rattle.pb_local.specs.Ranks.{Seat}
 use Rattle.pb_local.specs.Tree.{Codes, size_all, Program}
 use Rattle.pb_local.specs.Tree as L
 use Rattle.pb_local.specs.Computed.{all_fit, numbers_of, is_for_some}
-use Rattle.pb_local.specs.Machine.{Todo, next, Rank, silent, does, pushed, move, move_from, next_in, quiet_in, act_in, machine}
+use Rattle.pb_local.specs.Machine.{Todo, do_next, Rank, silent, does, pushed, move, move_from, next_in, quiet_in, act_in, machine}
 use Rattle.pb_local.proofs.Moves.{move_is}
 use Rattle.pb_shape.specs.Ways as W
 use Rattle.pb_shape.specs.Ways.{Way, renewed}
@@ -78,14 +78,14 @@ module _ (l : Program) (n : ℤ) (bound : ℕ) (me : Seat) where
 
   pub when_held : {k number : ℕ} {i j : ℤ} (gs : List Guard) (a b : Codes) (rest : Todo) {last : Todo} {c : ℕ} {s : List Kind} →
       all_fit (numbers_of n me i gs) ≡ true → is_for_some n me i gs ≡ true →
-      Goes k i j (pushed (suc number) a rest) last c s → Goes (suc k) i j (next number (L.when gs a b) rest) last (suc c) s
+      Goes k i j (pushed (suc number) a rest) last c s → Goes (suc k) i j (do_next number (L.when gs a b) rest) last (suc c) s
   when_held gs a b rest fit held g = quiet_first (rw (fit, held) refl) g
 
   pub when_not : {k number : ℕ} {i j : ℤ} (gs : List Guard) (a b : Codes) (rest : Todo) {last : Todo} {c : ℕ} {s : List Kind} →
       all_fit (numbers_of n me i gs) ≡ true → is_for_some n me i gs ≡ false →
-      Goes k i j (pushed (suc number + size_all a) b rest) last c s → Goes (suc k) i j (next number (L.when gs a b) rest) last (suc c) s
+      Goes k i j (pushed (suc number + size_all a) b rest) last c s → Goes (suc k) i j (do_next number (L.when gs a b) rest) last (suc c) s
   when_not gs a b rest fit held g = quiet_first (rw (fit, held) refl) g
 
   pub owns : {k number : ℕ} {i j : ℤ} (off : ℤ) (rest : Todo) {last : Todo} {c : ℕ} {s : List Kind} →
-      all_fit ((me.index +ℤ off) ∷ []) ≡ true → Goes k (me.index +ℤ off) j rest last c s → Goes (suc k) i j (next number (L.own off) rest) last (suc c) s
+      all_fit ((me.index +ℤ off) ∷ []) ≡ true → Goes k (me.index +ℤ off) j rest last c s → Goes (suc k) i j (do_next number (L.own off) rest) last (suc c) s
   owns off rest fit g = quiet_first (rw fit refl) g

@@ -1,6 +1,7 @@
 -- A foreach, in the text: the For of the fixed ranks, and the segments of the others.
 use Rattle.std.proofs.Common.{◌≡◌, ◌≤◌, ℕ, zero, suc, ◌+◌, ◌*◌, ℤ, pos, negsuc, ◌+ℤ◌, ◌-ℤ◌, ◌≤ℤ◌, ◌<ℤ◌, Bool, true, false, ◌&&◌, nat_eq, int_le, List, [], ◌∷◌, ◌++◌, refl, sym, ◌∙◌, ap, subst, arith, append_assoc}
 use Rattle.std.proofs.lemmas.Int.{ints}
+use Rattle.std.proofs.lemmas.Bool.{and_from, and_parts}
 use Rattle.pb_affine.specs.declared.lin.Base.{Base}
 use Rattle.pb_affine.specs.declared.lin.Base.TheVariants.{Fixed, Param, Var}
 use Rattle.pb_affine.specs.declared.lin.Lin.{Lin}
@@ -8,7 +9,8 @@ use Rattle.pb_affine.specs.Values.{value, base_value, count_from, count_of, IsSm
 use Rattle.pb_world.specs.Actions.{Kind, Runs, Sends, Receives}
 use Rattle.pb_core_language.specs.declared.protocol.CoreRole.{CoreRole}
 use Rattle.pb_core_language.specs.Tree as T
-use Rattle.pb_core_language.specs.Tree.{Bounds, StmtTree, BlockTree}
+use Rattle.pb_core_language.specs.Tree.{StmtTree, BlockTree}
+use Rattle.pb_core_language.specs.declared.tree.Bounds.{Bounds}
 use Rattle.pb_core_language.specs.Plain.{Protocol}
 use Rattle.pb_core_language.specs.FlatOf.{rank_of}
 use Rattle.pb_core_language.specs.Sound.{is_over_n}
@@ -17,8 +19,12 @@ use Rattle.pb_local.specs.Tree.{Code, Codes, nothing, more, size_all, Program}
 use Rattle.pb_local.specs.Tree as L
 use Rattle.pb_local.specs.Computed.{fits, is_for_some}
 use Rattle.pb_local.specs.Machine.{Todo, round_of, pushed, turn, move_from, machine}
-use Rattle.pb_shape.specs.Shape.{Here, Who, One, peer_of, scope_of, is_at_offset, fixed_in, put, segment_codes, offsets, in_segment, OfRole, Segments, in_for, but_fixed, Rounds, rounds, nowhere, ForEach}
-use Rattle.pb_shape.specs.Shape as S
+use Rattle.pb_shape.specs.Places.{Here, Who, peer_of, scope_of}
+use Rattle.pb_shape.specs.Guards.{One}
+use Rattle.pb_shape.specs.Segments.{is_at_offset, put, segment_codes, offsets, in_segment, OfRole, Segments}
+use Rattle.pb_shape.specs.Pieces.{fixed_in, in_for, but_fixed, Rounds, rounds, nowhere, ForEach}
+use Rattle.pb_shape.specs.Segments as E
+use Rattle.pb_shape.specs.Pieces as P
 use Rattle.pb_shape.specs.Ways as Y
 use Rattle.pb_shape.specs.Ways.{Way, renewed}
 use Rattle.pb_shape.specs.Straight.{IsVariable, AreItems, IsEach, IsOpenTo, at_todo}
@@ -26,7 +32,7 @@ use Rattle.pb_shape_straight.proofs.Order.{gathered, gathered_nothing}
 use Rattle.pb_shape_straight.proofs.Segment.{IsSome, if_so, parts, my_parts, segment_does, roles_do, iterations, segments_are, fixed_acts}
 use Rattle.pb_shape_straight.proofs.Along.{joined, silently, Goes, goes_joined, stays, costs, when_held, when_not, owns}
 use Rattle.pb_shape_straight.proofs.Fits.{IsSize, fits_is, value_fits, guards_fit}
-use Rattle.pb_shape_straight.proofs.Peers.{and_first, bound_near, bound_small}
+use Rattle.pb_shape_straight.proofs.Peers.{bound_near, bound_small}
 use Rattle.pb_shape_straight.proofs.Passing.{Setting, Comes, Made, never, Done, Room, room_left, nothing_done, one_yes, one_no, one_made, IsAct, send_act, recv_act, run_act, items_done}
 
 -- without the variable a lin has one value
@@ -55,11 +61,8 @@ int_above v hi h = grind (arith, ints)
 int_upto : (v hi : ℤ) → v ≤ℤ hi → int_le v hi ≡ true
 int_upto v hi h = grind (arith, ints)
 
-both_true : (a b : Bool) → a ≡ true → b ≡ true → a && b ≡ true
-both_true a b e e' = rw (e, e') refl
-
 is_between : (low high v : ℤ) → low ≤ℤ v → v ≤ℤ high → int_le low v && int_le v high ≡ true
-is_between low high v l u = both_true (int_le low v) (int_le v high) (int_upto low v l) (int_upto v high u)
+is_between low high v l u = and_from (int_le low v) (int_le v high) (int_upto low v l) (int_upto v high u)
 
 variable_fits : (v : ℤ) → IsVariable v → fits v ≡ true
 variable_fits v near = fits_is v (omega (arith, ints, near.low)) (omega (arith, ints, near.high))
@@ -216,19 +219,19 @@ module _ (p : Protocol) (l : Program) (n : ℤ) (me : Seat) (g : Setting p l n m
 
     of_role_done : (role : ℕ) (tail : Codes) (cs : List ℤ) (codes : Codes) (rest : Todo) (k number : ℕ) (i : ℤ) → OfRole (scope_of p) h b items role tail cs codes → IsVariable i → Made l codes → Room p l n me g bound k codes →
         Ends k number i codes tail rest (gathered cs (segment_does p.roles n me b items role))
-    of_role_done role tail [] codes rest k number i S.none near made room = record { last = i; near = near; done = nothing_done p l n me g bound k number i tail rest }
-    of_role_done role tail (c ∷ cs) codes rest k number i (S.segment {middle = middle} one more') near made room =
+    of_role_done role tail [] codes rest k number i E.none near made room = record { last = i; near = near; done = nothing_done p l n me g bound k number i tail rest }
+    of_role_done role tail (c ∷ cs) codes rest k number i (E.segment {middle = middle} one more') near made room =
         ends_joined room (segment_done role c middle codes rest k number i one near made room)
         (λ k' number' i' near' room'. of_role_done role tail cs middle rest k' number' i' more' near' (one_made p l n me g bound one made) room')
 
     of_role_made : (role : ℕ) (tail : Codes) (cs : List ℤ) (codes : Codes) → OfRole (scope_of p) h b items role tail cs codes → Made l codes → Made l tail
-    of_role_made role tail [] codes S.none made = made
-    of_role_made role tail (c ∷ cs) codes (S.segment {middle = middle} one more') made = of_role_made role tail cs middle more' (one_made p l n me g bound one made)
+    of_role_made role tail [] codes E.none made = made
+    of_role_made role tail (c ∷ cs) codes (E.segment {middle = middle} one more') made = of_role_made role tail cs middle more' (one_made p l n me g bound one made)
 
     segments_done : (role : ℕ) (rs : List CoreRole) (tail codes : Codes) (rest : Todo) (k number : ℕ) (i : ℤ) → Segments (scope_of p) h b items tail role rs codes → IsVariable i → Made l codes → Room p l n me g bound k codes →
         Ends k number i codes tail rest (roles_do p.roles n me b items role rs)
-    segments_done role [] tail codes rest k number i S.none near made room = record { last = i; near = near; done = nothing_done p l n me g bound k number i tail rest }
-    segments_done role (r ∷ rs) tail codes rest k number i (S.of_role {middle = middle} one more') near made room =
+    segments_done role [] tail codes rest k number i E.none near made room = record { last = i; near = near; done = nothing_done p l n me g bound k number i tail rest }
+    segments_done role (r ∷ rs) tail codes rest k number i (E.of_role {middle = middle} one more') near made room =
         ends_joined room (of_role_done role middle (offsets role items) codes rest k number i one near made room)
         (λ k' number' i' near' room'. segments_done (suc role) rs tail middle rest k' number' i' more' near' (of_role_made role middle (offsets role items) codes one made) room')
 
@@ -258,8 +261,8 @@ module _ (p : Protocol) (l : Program) (n : ℤ) (me : Seat) (g : Setting p l n m
         let y = bound_near b.high n g.size.low good.high in
         let m = count_of (hi +ℤ pos 1 -ℤ lo) in
         let t = turns l n bound me g.size b.high (suc number) body rest lo hi (size_all body) (λ v. my_parts p.roles n me v items) (bound_small b.high good.high)
-        (λ j. same_value b.high n j (pos 0) (and_first (is_over_n b.high.base) _ good.high)) (omega (arith, ints, y.1, g.size.high)) (omega (arith, room')) done
-        (λ v c d. fixed_acts p.roles n me v items fixed) m k i lo (pushed number first rest) (starts (value b.low n i) (same_value b.low n i (pos 0) (and_first (is_over_n b.low.base) _ good.low))) refl
+        (λ j. same_value b.high n j (pos 0) (and_parts (is_over_n b.high.base) _ good.high).0) (omega (arith, ints, y.1, g.size.high)) (omega (arith, room')) done
+        (λ v c d. fixed_acts p.roles n me v items fixed) m k i lo (pushed number first rest) (starts (value b.low n i) (same_value b.low n i (pos 0) (and_parts (is_over_n b.low.base) _ good.low).0)) refl
         (omega (arith, ints)) (record { low = omega (arith, ints, x.0); high = omega (arith, ints, x.1, g.size.high) }) (omega (arith, room)) in (
           t.last,
           t.near,
@@ -274,7 +277,7 @@ module _ (p : Protocol) (l : Program) (n : ℤ) (me : Seat) (g : Setting p l n m
         starts v e = ap (λ w. turn l n (at_todo me i (pushed number first rest)) w b.high (suc number) body rest) e
 
         within : (v : ℤ) → IsVariable v → lo ≤ℤ v → v ≤ℤ hi → Comes (in_for h b items) n me v
-        within v near c d = record { near = near; at = is_between lo hi v c d; comes = both_true (fixed_in items n me.role me.index) (h.comes n v me.role me.index) fixed (open'.comes v) }
+        within v near c d = record { near = near; at = is_between lo hi v c d; comes = and_from (fixed_in items n me.role me.index) (h.comes n v me.role me.index) fixed (open'.comes v) }
 
         done : (k : ℕ) (v : ℤ) → IsVariable v → lo ≤ℤ v → v ≤ℤ hi → size_all body ≤ k →
             Goes l n bound me k v v (pushed (suc number) body (round_of b.high (suc number) body rest)) (round_of b.high (suc number) body rest) (size_all body) (my_parts p.roles n me v items)
@@ -293,17 +296,17 @@ module _ (p : Protocol) (l : Program) (n : ℤ) (me : Seat) (g : Setting p l n m
         last_of low high v x y = grind (arith, ints)
 
         none : (v : ℤ) → lo ≤ℤ v → v ≤ℤ hi → my_parts p.roles n me v items ≡ []
-        none v x y = absurd (never (nobody n v me.role me.index g.within g.is (is_between lo hi v x y) (both_true (fixed_in items n me.role me.index) (h.comes n v me.role me.index) fixed (open'.comes v))))
+        none v x y = absurd (never (nobody n v me.role me.index g.within g.is (is_between lo hi v x y) (and_from (fixed_in items n me.role me.index) (h.comes n v me.role me.index) fixed (open'.comes v))))
 
     free_done : fixed_in items n me.role me.index ≡ false → roles_do p.roles n me b items 0 p.roles ≡ all_rounds
     free_done free = segments_are p.roles n me b items free g.in_role
 
     pub each_done : (tail codes : Codes) (rest : Todo) (k number : ℕ) (i : ℤ) → ForEach (scope_of p) h b items tail codes → IsVariable i → Made l codes → size_all codes ≤ k → 2 * size_all codes ≤ bound →
         Ends k number i codes tail rest all_rounds
-    each_done tail codes rest k number i (S.segments nobody segs) near made room room' =
+    each_done tail codes rest k number i (P.segments nobody segs) near made room room' =
         subst (λ s. Ends k number i codes tail rest s) (free_done (nobody n i me.role me.index g.within g.is (open'.at i) (open'.comes i)))
         (segments_done h b items open' good 0 p.roles tail codes rest k number i segs near made (record { now = room; ever = omega (arith, room') }))
-    each_done tail codes rest k number i (S.neither nobody segs) near made room room' = at (fixed_in items n me.role me.index) refl
+    each_done tail codes rest k number i (P.neither nobody segs) near made room room' = at (fixed_in items n me.role me.index) refl
       where
         at : (t : Bool) → fixed_in items n me.role me.index ≡ t → Ends k number i tail tail rest all_rounds
         at true e =
@@ -312,8 +315,8 @@ module _ (p : Protocol) (l : Program) (n : ℤ) (me : Seat) (g : Setting p l n m
         at false e =
             subst (λ s. Ends k number i tail tail rest s) (free_done e)
             (segments_done (but_fixed h items) b items (record { at = open'.at; comes = λ i. rw e (open'.comes i) }) good 0 p.roles tail tail rest k number i segs near made (record { now = room; ever = omega (arith, room') }))
-    each_done tail codes rest zero number i (S.both {gs = gs} {first = first} {other = other} names some rnds segs) near made room room' = absurd (omega (arith, room))
-    each_done tail codes rest (suc k) number i (S.both {gs = gs} {first = first} {other = other} names some rnds segs) near made room room' = at (fixed_in items n me.role me.index) refl
+    each_done tail codes rest zero number i (P.both {gs = gs} {first = first} {other = other} names some rnds segs) near made room room' = absurd (omega (arith, room))
+    each_done tail codes rest (suc k) number i (P.both {gs = gs} {first = first} {other = other} names some rnds segs) near made room room' = at (fixed_in items n me.role me.index) refl
       where
         behind : ℕ
         behind = number + L.size (L.when gs first other)

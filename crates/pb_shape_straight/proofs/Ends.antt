@@ -1,22 +1,20 @@
 -- Where the rules on ends are kept, each end is a rank, and no message goes from a rank to itself.
 use Rattle.std.proofs.Common.{◌≡◌, ℕ, zero, suc, ◌+◌, ◌*◌, cond, ℤ, pos, ◌+ℤ◌, ◌-ℤ◌, ◌≤ℤ◌, ◌<ℤ◌, Bool, true, false, ◌&&◌, not, nat_lt, nat_le, length, if◌then◌else◌, List, [], ◌∷◌, ◌++◌, map, ◌⊎◌, inl, inr, refl, sym, ◌∙◌, subst, arith}
 use Rattle.std.proofs.lemmas.Int.{ints}
-use Rattle.std.proofs.lemmas.Bool.{eq-eqb}
+use Rattle.std.proofs.lemmas.Bool.{eq-eqb, and_parts}
 use Rattle.pb_affine.specs.Values.{value, count_from, count_of}
 use Rattle.pb_core_language.specs.declared.tree.CoreEnd.{CoreEnd}
 use Rattle.pb_core_language.specs.Ranks.{Seat, seat_eq, seats}
 use Rattle.pb_core_language.specs.Tree as T
-use Rattle.pb_core_language.specs.Tree.{Mark, StmtTree, BlockTree, BranchTrees}
+use Rattle.pb_core_language.specs.Tree.{Mark, StmtTree, BlockTree, BranchTrees, is_again}
 use Rattle.pb_core_language.specs.Plain.{Protocol}
 use Rattle.pb_core_language.specs.Flat.{Asked, Block, stop, Branches}
 use Rattle.pb_core_language.specs.FlatOf.{seat, asked, from_one, from_two, for_each, flat_stmt, flat_block, flat_branches}
 use Rattle.pb_core_language.specs.Rules.{is_seat, each_origin, each_origin_among, strays, loners, somebody, flat_at, broken_6, broken_7, broken_8, broken_9, broken_10, broken_11, broken_12}
 use Rattle.pb_core_language.specs.Sound.{is_end, is_bound, is_item, is_stmt, is_block, are_branches, has_branch, rows_of, are_roles, is_range}
-use Rattle.pb_core_flat.specs.GoesOn.{is_again}
 use Rattle.pb_core_flat.proofs.Seats.{same_number}
 use Rattle.pb_shape.specs.Straight.{IsEnd, IsItem, AreItems, IsFine, AreFine, BranchesAreFine}
 use Rattle.pb_shape_straight.specs.Ends.{EndsAreFine}
-use Rattle.pb_shape_straight.proofs.Peers.{and_first, and_rest}
 use Rattle.pb_shape_straight.proofs.Passing.{never}
 
 -- ---- lists without elements
@@ -83,7 +81,7 @@ module _ (p : Protocol) (n : ℤ) where
   item_fine : (varies : Bool) (ids opens : List ℕ) (i : ℤ) (m : Mark) (s : StmtTree) (rest : Block) → is_item s ≡ true → is_stmt (rows_of p) varies ids s ≡ true →
       IsClean (flat_stmt p.roles n opens i m s rest) → IsItem p n varies i s × IsClean rest
   item_fine varies ids opens i m (T.message l f t) rest item sound clean =
-      let ends = and_rest (nat_lt l (rows_of p).labels) (is_end (rows_of p) varies f && is_end (rows_of p) varies t) sound in
+      let ends = (and_parts (nat_lt l (rows_of p).labels) (is_end (rows_of p) varies f && is_end (rows_of p) varies t) sound).1 in
       let a = from_two m f t n i in
       let x = asked f (2 * m.number) n i in
       let y = asked t (2 * m.number + 1) n i in
@@ -92,14 +90,14 @@ module _ (p : Protocol) (n : ℤ) where
       let one = seated_first x (y ∷ []) m stray in
       let two = seated_first y [] m (seated_rest x (y ∷ []) m stray) in (
         (
-          record { sound = and_first (is_end (rows_of p) varies f) (is_end (rows_of p) varies t) ends; is = one },
-          record { sound = and_rest (is_end (rows_of p) varies f) (is_end (rows_of p) varies t) ends; is = two },
+          record { sound = (and_parts (is_end (rows_of p) varies f) (is_end (rows_of p) varies t) ends).0; is = one },
+          record { sound = (and_parts (is_end (rows_of p) varies f) (is_end (rows_of p) varies t) ends).1; is = two },
           λ e. not_alike x y m lone (sym (same_number ranks (seat f n i) (seat t n i) two) ∙ eq-eqb _ _ e),
         ),
         record { seated = last_none (strays ranks a) (each_origin (strays ranks) rest) clean.seated; apart = last_none (loners a) (each_origin loners rest) clean.apart },
       )
   item_fine varies ids opens i m (T.run k e) rest item sound clean =
-      let h = one_fine varies i e m rest (and_rest (nat_lt k (rows_of p).kernels) (is_end (rows_of p) varies e) sound) clean.seated clean.apart in (h.end, h.clean)
+      let h = one_fine varies i e m rest (and_parts (nat_lt k (rows_of p).kernels) (is_end (rows_of p) varies e) sound).1 clean.seated clean.apart in (h.end, h.clean)
   item_fine varies ids opens i m (T.foreach b k items) rest item sound clean = cc
   item_fine varies ids opens i m (T.loop id k body) rest item sound clean = cc
   item_fine varies ids opens i m (T.again id) rest item sound clean = cc
@@ -115,9 +113,9 @@ module _ (p : Protocol) (n : ℤ) where
   items_fine ids opens i (T.more m s items) rest sound clean =
       let st = is_stmt (rows_of p) true ids s in
       let bl = is_block (rows_of p) true ids items in
-      let both = and_rest (is_item s) (st && bl) sound in
-      let one = item_fine true ids opens i m s (flat_block p.roles n opens i items rest) (and_first (is_item s) (st && bl) sound) (and_first st bl both) clean in
-      let others = items_fine ids opens i items rest (and_rest st bl both) one.1 in
+      let both = (and_parts (is_item s) (st && bl) sound).1 in
+      let one = item_fine true ids opens i m s (flat_block p.roles n opens i items rest) (and_parts (is_item s) (st && bl) sound).0 (and_parts st bl both).0 clean in
+      let others = items_fine ids opens i items rest (and_parts st bl both).1 one.1 in
       ((one.0, others.0), others.1)
 
   rounds_fine : (ids opens : List ℕ) (c : ℕ) (low : ℤ) (items : BlockTree) (rest : Block) → is_block (rows_of p) true ids items ≡ true →
@@ -146,21 +144,21 @@ module _ (p : Protocol) (n : ℤ) where
     stmt_fine ids opens m (T.foreach b k items) rest sound clean =
         let low = value b.low n (pos 0) in let high = value b.high n (pos 0) in
         let bl = is_block (rows_of p) true ids items in
-        let others = and_rest (is_bound b.low) (is_bound b.high && bl) sound in
-        let h = rounds_fine ids opens (count_of (high +ℤ pos 1 -ℤ low)) low items rest (and_rest (is_bound b.high) bl others) clean in (
-          record { low = and_first (is_bound b.low) (is_bound b.high && bl) sound; high = and_first (is_bound b.high) bl others; each = λ i x y. h.0 i x (counted low high i x y) },
+        let others = (and_parts (is_bound b.low) (is_bound b.high && bl) sound).1 in
+        let h = rounds_fine ids opens (count_of (high +ℤ pos 1 -ℤ low)) low items rest (and_parts (is_bound b.high) bl others).1 clean in (
+          record { low = (and_parts (is_bound b.low) (is_bound b.high && bl) sound).0; high = (and_parts (is_bound b.high) bl others).0; each = λ i x y. h.0 i x (counted low high i x y) },
           λ e. h.1,
         )
     stmt_fine ids opens m (T.loop id k body) rest sound clean =
         let inner = flat_block p.roles n (id ∷ opens) (pos 0) body stop in (
-          block_fine (id ∷ ids) (id ∷ opens) body (and_rest (nat_lt (length ids) 64) (is_block (rows_of p) false (id ∷ ids) body) sound)
+          block_fine (id ∷ ids) (id ∷ opens) body (and_parts (nat_lt (length ids) 64) (is_block (rows_of p) false (id ∷ ids) body) sound).1
               (record { seated = first_none (each_origin (strays ranks) inner) (each_origin (strays ranks) rest) clean.seated; apart = first_none (each_origin loners inner) (each_origin loners rest) clean.apart }),
           λ e. record { seated = last_none (each_origin (strays ranks) inner) (each_origin (strays ranks) rest) clean.seated; apart = last_none (each_origin loners inner) (each_origin loners rest) clean.apart },
         )
     stmt_fine ids opens m (T.again id) rest sound clean = (tt, λ e. absurd (never e))
     stmt_fine ids opens m (T.choice k at bs) rest sound clean =
         let among = has_branch bs && are_branches (rows_of p) ids bs in
-        let ends = and_rest (nat_lt k (rows_of p).kernels) (is_end (rows_of p) false at && among) sound in
+        let ends = (and_parts (nat_lt k (rows_of p).kernels) (is_end (rows_of p) false at && among) sound).1 in
         let fs = flat_branches p.roles n opens (pos 0) bs in
         let seated_in = each_origin_among (strays ranks) fs in
         let apart_in = each_origin_among loners fs in
@@ -168,19 +166,19 @@ module _ (p : Protocol) (n : ℤ) where
         let inner = last_none (strays ranks a) (seated_in ++ each_origin (strays ranks) rest) clean.seated in (
           (
             record {
-              sound = and_first (is_end (rows_of p) false at) among ends;
+              sound = (and_parts (is_end (rows_of p) false at) among ends).0;
               is = seated_first (asked at (2 * m.number) n (pos 0)) [] m (first_none (strays ranks a) (seated_in ++ each_origin (strays ranks) rest) clean.seated);
             },
-            branches_fine ids opens bs (and_rest (has_branch bs) (are_branches (rows_of p) ids bs) (and_rest (is_end (rows_of p) false at) among ends))
+            branches_fine ids opens bs (and_parts (has_branch bs) (are_branches (rows_of p) ids bs) (and_parts (is_end (rows_of p) false at) among ends).1).1
                 (record { seated = first_none seated_in (each_origin (strays ranks) rest) inner; apart = first_none apart_in (each_origin loners rest) clean.apart }),
           ),
           λ e. record { seated = last_none seated_in (each_origin (strays ranks) rest) inner; apart = last_none apart_in (each_origin loners rest) clean.apart },
         )
     stmt_fine ids opens m T.barrier rest sound clean = (tt, λ e. record { seated = clean.seated; apart = clean.apart })
     stmt_fine ids opens m (T.broadcast l root) rest sound clean =
-        let h = one_fine false (pos 0) root m rest (and_rest (nat_lt l (rows_of p).labels) (is_end (rows_of p) false root) sound) clean.seated clean.apart in (h.end, λ e. h.clean)
+        let h = one_fine false (pos 0) root m rest (and_parts (nat_lt l (rows_of p).labels) (is_end (rows_of p) false root) sound).1 clean.seated clean.apart in (h.end, λ e. h.clean)
     stmt_fine ids opens m (T.reduce l op root) rest sound clean =
-        let h = one_fine false (pos 0) root m rest (and_rest (nat_lt l (rows_of p).labels) (is_end (rows_of p) false root) sound) clean.seated clean.apart in (h.end, λ e. h.clean)
+        let h = one_fine false (pos 0) root m rest (and_parts (nat_lt l (rows_of p).labels) (is_end (rows_of p) false root) sound).1 clean.seated clean.apart in (h.end, λ e. h.clean)
     stmt_fine ids opens m (T.allreduce l op) rest sound clean = (tt, λ e. record { seated = clean.seated; apart = clean.apart })
 
     block_fine : (ids opens : List ℕ) (b : BlockTree) → is_block (rows_of p) false ids b ≡ true → IsClean (flat_block p.roles n opens (pos 0) b stop) → AreFine p n b
@@ -188,8 +186,8 @@ module _ (p : Protocol) (n : ℤ) where
     block_fine ids opens (T.more m s b) sound clean =
         let st = is_stmt (rows_of p) false ids s in
         let bl = is_block (rows_of p) false ids b in
-        let h = stmt_fine ids opens m s (flat_block p.roles n opens (pos 0) b stop) (and_first st bl sound) clean in
-        (h.0, λ e. block_fine ids opens b (and_rest st bl sound) (h.1 e))
+        let h = stmt_fine ids opens m s (flat_block p.roles n opens (pos 0) b stop) (and_parts st bl sound).0 clean in
+        (h.0, λ e. block_fine ids opens b (and_parts st bl sound).1 (h.1 e))
 
     branches_fine : (ids opens : List ℕ) (bs : BranchTrees) → are_branches (rows_of p) ids bs ≡ true → AreClean (flat_branches p.roles n opens (pos 0) bs) → BranchesAreFine p n bs
     branches_fine ids opens T.no_branch sound clean = tt
@@ -198,17 +196,17 @@ module _ (p : Protocol) (n : ℤ) where
         let others = flat_branches p.roles n opens (pos 0) bs in
         let x = is_block (rows_of p) false ids b in
         let y = are_branches (rows_of p) ids bs in (
-          block_fine ids opens b (and_first x y sound)
+          block_fine ids opens b (and_parts x y sound).0
               (record { seated = first_none (each_origin (strays ranks) one) (each_origin_among (strays ranks) others) clean.seated; apart = first_none (each_origin loners one) (each_origin_among loners others) clean.apart }),
-          branches_fine ids opens bs (and_rest x y sound)
+          branches_fine ids opens bs (and_parts x y sound).1
               (record { seated = last_none (each_origin (strays ranks) one) (each_origin_among (strays ranks) others) clean.seated; apart = last_none (each_origin loners one) (each_origin_among loners others) clean.apart }),
         )
 
 pub ends_are_fine : EndsAreFine
 ends_are_fine p n sound within none =
     let bl = is_block (rows_of p) false [] p.body.block in
-    let others = and_rest (is_range p.range) (nat_le (length p.roles) 64 && (are_roles p.roles && bl)) sound in
-    let body = and_rest (are_roles p.roles) bl (and_rest (nat_le (length p.roles) 64) (are_roles p.roles && bl) others) in
+    let others = (and_parts (is_range p.range) (nat_le (length p.roles) 64 && (are_roles p.roles && bl)) sound).1 in
+    let body = (and_parts (are_roles p.roles) bl (and_parts (nat_le (length p.roles) 64) (are_roles p.roles && bl) others).1).1 in
     let eight_on = broken_8 p n ++ (broken_9 p n ++ (broken_10 p n ++ (broken_11 p n ++ broken_12 p n))) in
     let nine_on = broken_9 p n ++ (broken_10 p n ++ (broken_11 p n ++ broken_12 p n)) in
     let seven = last_none (broken_6 p n) (broken_7 p n ++ eight_on) none in

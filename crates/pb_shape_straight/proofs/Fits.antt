@@ -1,7 +1,8 @@
 -- Numbers that a rank computes are int32s.
-use Rattle.std.proofs.Common.{◌≡◌, ◌^◌, ℤ, pos, negsuc, ◌+ℤ◌, ◌≤ℤ◌, Bool, true, false, ◌&&◌, nat_eq, if◌then◌else◌, Option, Some, None, List, [], ◌∷◌, ◌++◌, All, refl, lt-ltb, arith}
+use Rattle.std.proofs.Common.{◌≡◌, ◌^◌, ℤ, pos, negsuc, ◌+ℤ◌, ◌≤ℤ◌, Bool, true, false, nat_eq, if◌then◌else◌, Option, Some, None, List, [], ◌∷◌, ◌++◌, All, refl, lt-ltb, arith}
 use Rattle.std.proofs.lemmas.Int.{ints}
 use Rattle.std.proofs.lemmas.List.Elements.{All-head, All-tail}
+use Rattle.std.proofs.lemmas.Bool.{and_parts}
 use Rattle.pb_affine.specs.declared.lin.Base.{Base}
 use Rattle.pb_affine.specs.declared.lin.Base.TheVariants.{Fixed, Param, Var}
 use Rattle.pb_affine.specs.declared.lin.Lin.{Lin}
@@ -37,13 +38,7 @@ module _ (l : Program) (n : ℤ) (me : Seat) (i : ℤ) (size : IsSize n) (near :
 
   both_fit : (xs ys : List ℤ) → all_fit xs ≡ true → all_fit ys ≡ true → all_fit (xs ++ ys) ≡ true
   both_fit [] ys a b = b
-  both_fit (x ∷ xs) ys a b = rw (first (fits x) (all_fit xs) a, both_fit xs ys (second (fits x) (all_fit xs) a) b) refl
-    where
-      first : (s t : Bool) → s && t ≡ true → s ≡ true
-      first s t h = grind arith
-
-      second : (s t : Bool) → s && t ≡ true → t ≡ true
-      second s t h = grind arith
+  both_fit (x ∷ xs) ys a b = rw ((and_parts (fits x) (all_fit xs) a).0, both_fit xs ys (and_parts (fits x) (all_fit xs) a).1 b) refl
 
   if_fits : (b : Bool) (xs ys : List ℤ) → all_fit xs ≡ true → all_fit ys ≡ true → all_fit (if b then xs else ys) ≡ true
   if_fits true xs ys a b = a

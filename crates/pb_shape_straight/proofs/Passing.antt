@@ -14,9 +14,11 @@ use Rattle.pb_local.specs.Tree.{Code, Codes, nothing, more, size_all, Program}
 use Rattle.pb_local.specs.Tree as L
 use Rattle.pb_local.specs.WellMade as W
 use Rattle.pb_local.specs.WellMade.{AreMade}
-use Rattle.pb_local.specs.Machine.{Todo, next, does, pushed}
-use Rattle.pb_shape.specs.Shape.{Here, Who, One, there, gone, peer_of, alone, Item, message, Items, scope_of}
-use Rattle.pb_shape.specs.Shape as S
+use Rattle.pb_local.specs.Machine.{Todo, do_next, does, pushed}
+use Rattle.pb_shape.specs.Places.{Here, Who, peer_of, scope_of}
+use Rattle.pb_shape.specs.Guards.{One, there, gone, alone}
+use Rattle.pb_shape.specs.Items.{Item, message, Items}
+use Rattle.pb_shape.specs.Items as I
 use Rattle.pb_shape.specs.Ways.{renewed}
 use Rattle.pb_shape.specs.Straight.{IsVariable, IsItem, AreItems, at_todo}
 use Rattle.pb_shape_straight.proofs.Segment.{if_so, part, is_mine, my_parts}
@@ -109,7 +111,7 @@ module _ (p : Protocol) (l : Program) (n : ℤ) (me : Seat) (g : Setting p l n m
 
   -- the statement is this action
   abbrev pub IsAct : ℤ → Code → Kind → Type 0
-  IsAct i code a = (k number : ℕ) (rest : Todo) → Goes l n bound me k i i (next number code rest) rest 0 (a ∷ [])
+  IsAct i code a = (k number : ℕ) (rest : Todo) → Goes l n bound me k i i (do_next number code rest) rest 0 (a ∷ [])
 
   pub send_act : (i : ℤ) (label : ℕ) (to : CoreEnd) → is_rank p.roles n to.role (value to.at n i) ≡ true → IsAct i (L.send label (peer_of to)) (Sends (rank_of p.roles n to i) label)
   send_act i label to is k number rest =
@@ -136,17 +138,17 @@ module _ (p : Protocol) (l : Program) (n : ℤ) (me : Seat) (g : Setting p l n m
   item_done varies k number i rest (message {l = label} {f = f} {t = t} a b) here' good made room =
       done_joined room (one_part k number i rest (is_mine p.roles n me i f) (Sends (rank_of p.roles n t i) label) a here' refl made room (send_act i label t good.1.is))
       (λ k' number' room'. one_part k' number' i rest (is_mine p.roles n me i t) (Receives (rank_of p.roles n f i) label) b here' refl (one_made a made) room' (recv_act i label f good.0.is))
-  item_done varies k number i rest (S.run {k = kernel} {e = e} a) here' good made room =
+  item_done varies k number i rest (I.run {k = kernel} {e = e} a) here' good made room =
       one_part k number i rest (is_mine p.roles n me i e) (Runs kernel) a here' refl made room (run_act i kernel)
 
   pub item_made : {h : Here} {s : StmtTree} {tail codes : Codes} → Item (scope_of p) h tail s codes → Made l codes → Made l tail
   item_made (message a b) made = one_made b (one_made a made)
-  item_made (S.run a) made = one_made a made
+  item_made (I.run a) made = one_made a made
 
   -- the items of one iteration
   pub items_done : (varies : Bool) (i : ℤ) {h : Here} {items : BlockTree} {codes : Codes} (k number : ℕ) (rest : Todo) →
       Items (scope_of p) h items codes → Comes h n me i → AreItems p n varies i items → Made l codes → Room k codes → Done k number i i codes nothing rest (my_parts p.roles n me i items)
-  items_done varies i k number rest S.none here' good made room = nothing_done k number i nothing rest
-  items_done varies i k number rest (S.item a b) here' good made room =
+  items_done varies i k number rest I.none here' good made room = nothing_done k number i nothing rest
+  items_done varies i k number rest (I.item a b) here' good made room =
       done_joined room (item_done varies k number i rest a here' good.0 made room) (λ k' number' room'. items_done varies i k' number' rest b here' good.1 (item_made a made) room')
-  items_done varies i k number rest (S.unreached nobody) here' good made room = absurd (never (nobody n i me.role me.index g.within g.is here'.at here'.comes))
+  items_done varies i k number rest (I.unreached nobody) here' good made room = absurd (never (nobody n i me.role me.index g.within g.is here'.at here'.comes))

@@ -5,6 +5,7 @@ use Rattle.std.proofs.lemmas.Int.{ints}
 use Rattle.std.proofs.lemmas.Bool.Decides.{nat_tests}
 use Rattle.std.proofs.lemmas.List.{length-append, length-map}
 use Rattle.std.proofs.lemmas.List.Elements.{All-head, All-tail}
+use Rattle.std.proofs.lemmas.Bool.{and_parts}
 use lib.IntN.{suc_ℤ-*ℤ, zero-*ℤ}
 use Rattle.pb_affine.specs.declared.lin.Base.{Base}
 use Rattle.pb_affine.specs.declared.lin.Base.TheVariants.{Fixed, Param, Var}
@@ -29,7 +30,8 @@ use Rattle.pb_local.specs.Computed.{fits, all_fit, place_at, peer_number, peer_n
 use Rattle.pb_local.specs.Tree.{Program}
 use Rattle.pb_local.specs.WellMade as W
 use Rattle.pb_local.specs.WellMade.{IsRange, IsInRange, IsRole, IsWellMade}
-use Rattle.pb_shape.specs.Shape.{role_of, HasShape}
+use Rattle.pb_shape.specs.Places.{role_of}
+use Rattle.pb_shape.specs.Shape.{HasShape}
 use Rattle.pb_shape.specs.Straight.{IsVariable}
 use Rattle.pb_shape_straight.proofs.Fits.{IsSize, fits_is}
 
@@ -110,21 +112,15 @@ record IsLittle (x : ℤ) : Type 0 where
 little : (x : ℤ) → is_small x ≡ true → IsLittle x
 little x h = record { low = grind (arith, ints); high = grind (arith, ints) }
 
-pub and_first : (a b : Bool) → a && b ≡ true → a ≡ true
-and_first a b h = grind arith
-
-pub and_rest : (a b : Bool) → a && b ≡ true → b ≡ true
-and_rest a b h = grind arith
-
 bound_little : (l : Lin) → is_bound l ≡ true → IsLittle l.off
-bound_little l h = little l.off (and_rest (is_over_n l.base) (is_small l.off) h)
+bound_little l h = little l.off (and_parts (is_over_n l.base) (is_small l.off) h).1
 
 pub bound_small : (l : Lin) → is_bound l ≡ true → IsSmall l.off
 bound_small l h = let s = bound_little l h in record { low = omega (arith, ints, s.low); high = omega (arith, ints, s.high) }
 
 -- between which numbers the ends of a role, or of a foreach, are
 pub bound_near : (l : Lin) (n : ℤ) → pos 1 ≤ℤ n → is_bound l ≡ true → (negsuc 99999 ≤ℤ value l n (pos 0)) × (value l n (pos 0) ≤ℤ (n +ℤ pos 100000))
-bound_near l n size h = by l.base l.off (bound_little l h) (and_first (is_over_n l.base) (is_small l.off) h)
+bound_near l n size h = by l.base l.off (bound_little l h) (and_parts (is_over_n l.base) (is_small l.off) h).0
   where
     by : (b : Base) (off : ℤ) → IsLittle off → is_over_n b ≡ true → (negsuc 99999 ≤ℤ (off +ℤ base_value b n (pos 0))) × ((off +ℤ base_value b n (pos 0)) ≤ℤ (n +ℤ pos 100000))
     by Fixed off s e = (omega (arith, ints, s.low), omega (arith, ints, s.high, size))
@@ -139,12 +135,12 @@ record AreLittle (low high : Lin) : Type 0 where
 
 first_little : (r : CoreRole) (rs : List CoreRole) → are_roles (r ∷ rs) ≡ true → AreLittle r.low r.high
 first_little r rs h =
-    let a = and_first (is_bound r.low) _ h in
-    let b = and_first (is_bound r.high) (are_roles rs) (and_rest (is_bound r.low) _ h) in
+    let a = (and_parts (is_bound r.low) _ h).0 in
+    let b = (and_parts (is_bound r.high) (are_roles rs) (and_parts (is_bound r.low) _ h).1).0 in
     record { low_is = a; high_is = b; from = bound_little r.low a; to = bound_little r.high b }
 
 others_little : (r : CoreRole) (rs : List CoreRole) → are_roles (r ∷ rs) ≡ true → are_roles rs ≡ true
-others_little r rs h = and_rest (is_bound r.high) (are_roles rs) (and_rest (is_bound r.low) _ h)
+others_little r rs h = (and_parts (is_bound r.high) (are_roles rs) (and_parts (is_bound r.low) _ h).1).1
 
 -- the constant of a role's place, and of the number of all ranks
 place_off : (rs : List CoreRole) (j k : ℕ) (f : Formula) (n x : ℤ) → are_roles rs ≡ true → IsInRole k rs n x → ((pos 0 -ℤ pos (j * 200001)) ≤ℤ f.b) × (f.b ≤ℤ pos (j * 200001)) →
@@ -234,13 +230,13 @@ peer_fits num t x m b e b' near lt few =
 
 module _ (number_is : Numbered) (total_is : Totalled) (p : Protocol) (l : Program) (n : ℤ) (sound : is_sound p ≡ true) (shape : HasShape p l) (made : IsWellMade l) (within : IsIn p.range n) (few : total p.roles n ≤ 2000000000) where
   few_roles : length p.roles ≤ 64
-  few_roles = by (length p.roles) (and_first (nat_le (length p.roles) 64) _ (and_rest (is_range p.range) _ sound))
+  few_roles = by (length p.roles) (and_parts (nat_le (length p.roles) 64) _ (and_parts (is_range p.range) _ sound).1).0
     where
       by : (k : ℕ) → nat_le k 64 ≡ true → k ≤ 64
       by k h = grind (arith, nat_tests)
 
   small_roles : are_roles p.roles ≡ true
-  small_roles = and_first (are_roles p.roles) _ (and_rest (nat_le (length p.roles) 64) _ (and_rest (is_range p.range) _ sound))
+  small_roles = (and_parts (are_roles p.roles) _ (and_parts (nat_le (length p.roles) 64) _ (and_parts (is_range p.range) _ sound).1).1).0
 
   range_made : IsRange p.range
   range_made = subst (λ r. IsRange r) shape.range made.range

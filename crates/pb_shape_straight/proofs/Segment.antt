@@ -1,7 +1,7 @@
 -- A foreach, seen by one rank: which of its iterations have something for it.
-use Rattle.std.proofs.Common.{◌≡◌, ◌<◌, ℕ, zero, suc, ◌+◌, ◌==◌, cond, ℤ, pos, ◌+ℤ◌, ◌-ℤ◌, ◌≤ℤ◌, ◌<ℤ◌, Bool, true, false, ◌&&◌, ◌||◌, not, nat_eq, ◌⊎◌, inl, inr, List, [], ◌∷◌, ◌++◌, refl, sym, ◌∙◌, ap, ap₂, arith, append_assoc, append-nil, int_le, int_lt}
+use Rattle.std.proofs.Common.{◌≡◌, ◌<◌, ℕ, zero, suc, ◌+◌, ◌==◌, cond, ℤ, pos, ◌+ℤ◌, ◌-ℤ◌, ◌≤ℤ◌, ◌<ℤ◌, Bool, true, false, ◌&&◌, not, nat_eq, ◌⊎◌, inl, inr, List, [], ◌∷◌, ◌++◌, refl, sym, ◌∙◌, ap, ap₂, arith, append_assoc, append-nil, int_le, int_lt}
 use Rattle.std.specs.Ordering.{int_eq}
-use Rattle.std.proofs.lemmas.Bool.{eqb-true}
+use Rattle.std.proofs.lemmas.Bool.{eqb-true, or_parts, or_cases}
 use Rattle.std.proofs.lemmas.Int.{ints}
 use Rattle.pb_affine.specs.declared.lin.Base.{Base}
 use Rattle.pb_affine.specs.declared.lin.Base.TheVariants.{Fixed, Param, Var}
@@ -11,7 +11,8 @@ use Rattle.pb_core_language.specs.declared.protocol.CoreRole.{CoreRole}
 use Rattle.pb_core_language.specs.declared.tree.CoreEnd.{CoreEnd}
 use Rattle.pb_core_language.specs.Laws.{IsInRole}
 use Rattle.pb_core_language.specs.Tree as T
-use Rattle.pb_core_language.specs.Tree.{Bounds, StmtTree, BlockTree}
+use Rattle.pb_core_language.specs.Tree.{StmtTree, BlockTree}
+use Rattle.pb_core_language.specs.declared.tree.Bounds.{Bounds}
 use Rattle.pb_core_language.specs.Plain.{Protocol}
 use Rattle.pb_core_language.specs.Flat.{Block}
 use Rattle.pb_core_language.specs.FlatOf.{for_each, rank_of, flat_stmt, flat_block}
@@ -19,7 +20,8 @@ use Rattle.pb_core_flat.specs.Seated.{rank, is_rank, is_at}
 use Rattle.pb_core_flat.specs.Meets.{is_var, is_moving}
 use Rattle.pb_core_flat.proofs.Seats.{end_is_at}
 use Rattle.pb_local.specs.Ranks.{Seat}
-use Rattle.pb_shape.specs.Shape.{is_fixed, is_fixed_at, fixed_in, is_at_offset, put_in, put_end, offsets, in_segment}
+use Rattle.pb_shape.specs.Segments.{is_at_offset, put_in, put_end, offsets, in_segment}
+use Rattle.pb_shape.specs.Pieces.{is_fixed, is_fixed_at, fixed_in}
 use Rattle.pb_shape.specs.Ways.{mine}
 use Rattle.pb_shape.specs.Straight.{IsItem, AreItems}
 use Rattle.pb_shape_straight.proofs.Order.{gathered, only_if, is_within, IsBelow, Descends, is_in, Only, in_order}
@@ -211,11 +213,8 @@ module _ (roles : List CoreRole) (n : ℤ) where
                 right : (a b : Bool) → a && b ≡ a && (b && true)
                 right a b = grind arith
 
-    neither : (a b : Bool) → a || b ≡ false → (a ≡ false) × (b ≡ false)
-    neither a b h = (grind arith, grind arith)
-
     part_free : (i : ℤ) (s : StmtTree) → is_fixed_at s n me.role me.index ≡ false → part (is_mine i) i s ≡ part (is_at_offset me.role (me.index -ℤ i)) i s
-    part_free i (T.message l f t) h = let a = neither _ _ h in rw (at_offset f i a.0, at_offset t i a.1) refl
+    part_free i (T.message l f t) h = let a = or_parts _ _ h in rw (at_offset f i a.0, at_offset t i a.1) refl
     part_free i (T.run k e) h = rw (at_offset e i h) refl
     part_free i (T.foreach b m items) h = refl
     part_free i (T.loop id m body) h = refl
@@ -228,7 +227,7 @@ module _ (roles : List CoreRole) (n : ℤ) where
 
     mine_is : (i : ℤ) (items : BlockTree) → fixed_in items n me.role me.index ≡ false → my_parts i items ≡ parts (is_at_offset me.role (me.index -ℤ i)) i items
     mine_is i T.nothing h = refl
-    mine_is i (T.more m s rest) h = let a = neither _ _ h in ap₂ (λ u v. u ++ v) (part_free i s a.0) (mine_is i rest a.1)
+    mine_is i (T.more m s rest) h = let a = or_parts _ _ h in ap₂ (λ u v. u ++ v) (part_free i s a.0) (mine_is i rest a.1)
 
     gathered_same : (xs : List ℤ) (f g : ℤ → List Kind) → ((x : ℤ) → f x ≡ g x) → gathered xs f ≡ gathered xs g
     gathered_same [] f g h = refl
@@ -312,10 +311,6 @@ module _ (roles : List CoreRole) (n : ℤ) where
     some_if : (b : Bool) (a : Kind) → b ≡ true → IsSome (if_so b a)
     some_if b a e = rw e tt
 
-    either : (a b : Bool) → a || b ≡ true → (a ≡ true) ⊎ (b ≡ true)
-    either true b h = inl refl
-    either false b h = inr h
-
     fixed_end : (e : CoreEnd) (i : ℤ) → is_fixed e n me.role me.index ≡ true → is_mine i e ≡ true
     fixed_end e i h = by e.at.base e.at.off h
       where
@@ -329,7 +324,7 @@ module _ (roles : List CoreRole) (n : ℤ) where
     fixed_part i (T.message l f t) h =
         let a = if_so (is_mine i f) (Sends (rank_of roles n t i) l) in
         let b = if_so (is_mine i t) (Receives (rank_of roles n f i) l) in
-        elim (either (is_fixed f n me.role me.index) (is_fixed t n me.role me.index) h) [
+        elim (or_cases (is_fixed f n me.role me.index) (is_fixed t n me.role me.index) h) [
           | inl e ↦ some_first a b (some_if (is_mine i f) (Sends (rank_of roles n t i) l) (fixed_end f i e))
           | inr e ↦ some_last a b (some_if (is_mine i t) (Receives (rank_of roles n f i) l) (fixed_end t i e))
         ]
@@ -346,7 +341,7 @@ module _ (roles : List CoreRole) (n : ℤ) where
     pub fixed_acts : (i : ℤ) (items : BlockTree) → fixed_in items n me.role me.index ≡ true → IsSome (my_parts i items)
     fixed_acts i T.nothing h = cc
     fixed_acts i (T.more m s rest) h =
-        elim (either (is_fixed_at s n me.role me.index) (fixed_in rest n me.role me.index) h) [
+        elim (or_cases (is_fixed_at s n me.role me.index) (fixed_in rest n me.role me.index) h) [
           | inl h' ↦ some_first (part (is_mine i) i s) (my_parts i rest) (fixed_part i s h')
           | inr h' ↦ some_last (part (is_mine i) i s) (my_parts i rest) (fixed_acts i rest h')
         ]

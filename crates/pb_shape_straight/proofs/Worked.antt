@@ -3,6 +3,7 @@ use Rattle.std.proofs.Common.{◌≡◌, ℕ, ℤ, pos, negsuc, ◌+ℤ◌, ◌-
 use Rattle.std.proofs.lemmas.Int.{ints}
 use Rattle.std.proofs.lemmas.Bool.Decides.{nat_tests}
 use Rattle.std.proofs.lemmas.List.Elements.{All-nil, All-cons}
+use Rattle.pb_text.specs.Spellings as spellings
 use Rattle.pb_affine.specs.declared.lin.Base.TheVariants.{Fixed, Param, Var}
 use Rattle.pb_affine.specs.declared.guard.Guard.{Guard}
 use Rattle.pb_affine.specs.Values.{IsSmall}
@@ -12,7 +13,8 @@ use Rattle.pb_world.specs.Actions.{Sends, Receives}
 use Rattle.pb_core_language.specs.declared.tree.CoreEnd.{CoreEnd}
 use Rattle.pb_core_language.specs.Laws.{Numbered, Totalled}
 use Rattle.pb_core_language.specs.Tree as T
-use Rattle.pb_core_language.specs.Tree.{Mark, Bounds, StmtTree, BlockTree}
+use Rattle.pb_core_language.specs.Tree.{Mark, StmtTree, BlockTree}
+use Rattle.pb_core_language.specs.declared.tree.Bounds.{Bounds}
 use Rattle.pb_core_language.specs.Plain.{Protocol}
 use Rattle.pb_core_flat.specs.Seated.{is_rank}
 use Rattle.pb_core_flat.proofs.Seats.{seat_in_role}
@@ -21,8 +23,15 @@ use Rattle.pb_local.specs.Tree as L
 use Rattle.pb_local.specs.Tree.{Codes, nothing, more, Program}
 use Rattle.pb_local.specs.Machine.{finished}
 use Rattle.pb_local.specs.WellMade.{IsRole, IsGuard, AreGuards, IsMade, IsWellMade, IsLabelRow, outermost}
+use Rattle.pb_shape.specs.Guards as G
+use Rattle.pb_shape.specs.Segments as E
+use Rattle.pb_shape.specs.Pieces as P
 use Rattle.pb_shape.specs.Shape as S
-use Rattle.pb_shape.specs.Shape.{Who, Names, Somebody, One, peer_of, alone, in_segment, Segments, OfRole, ForEach, Piece, scope_of, role_of, everywhere, HasShape}
+use Rattle.pb_shape.specs.Places.{Who, peer_of, scope_of, role_of, everywhere}
+use Rattle.pb_shape.specs.Guards.{Names, Somebody, One, alone}
+use Rattle.pb_shape.specs.Segments.{in_segment, Segments, OfRole}
+use Rattle.pb_shape.specs.Pieces.{ForEach, Piece}
+use Rattle.pb_shape.specs.Shape.{HasShape}
 use Rattle.pb_shape.specs.Straight.{IsSeated, IsFine, IsItem, Passes, AreFine}
 use Rattle.pb_shape_straight.proofs.Peers.{same_rank}
 use Rattle.pb_shape_straight.proofs.Pieces.{straight_passes}
@@ -123,9 +132,9 @@ somebody c l u = record {
     by = grind (arith, ints, nat_tests)
 
 piece : Piece (scope_of protocol) everywhere nothing passed_on text
-piece = S.foreach (S.segments (λ n i role x within is at comes. refl)
-    (S.of_role {middle = nothing} (S.segment {middle = senders} (S.there (names (pos 1) (negsuc 0) refl) (somebody (pos 1) (omega (arith, ints)) (omega (arith, ints))))
-    (S.segment {middle = nothing} (S.there (names (pos 0) (negsuc 1) refl) (somebody (pos 0) (omega (arith, ints)) (omega (arith, ints)))) S.none)) S.none))
+piece = P.foreach (P.segments (λ n i role x within is at comes. refl)
+    (E.of_role {middle = nothing} (E.segment {middle = senders} (G.there (names (pos 1) (negsuc 0) refl) (somebody (pos 1) (omega (arith, ints)) (omega (arith, ints))))
+    (E.segment {middle = nothing} (G.there (names (pos 0) (negsuc 1) refl) (somebody (pos 0) (omega (arith, ints)) (omega (arith, ints)))) E.none)) E.none))
 
 shape : HasShape protocol program
 shape = record { protocol = refl; range = refl; roles = refl; labels = refl; kernels = refl; body = S.piece piece S.none }
@@ -146,6 +155,7 @@ guard_made c to a b d e = record {
 }
 
 made : IsWellMade program
+unfolding spellings.keys
 made = record {
   protocol = refl;
   range = record { some = omega arith; most = omega arith; high = tt };

@@ -1,6 +1,6 @@
 -- How all ranks stand where nobody has a step.
 use Rattle.std.proofs.Common.{◌≡◌, ◌≢◌, ◌<◌, ◌≤◌, ℕ, Bool, true, false, ◌&&◌, not, nat_lt, ◌⊎◌, inl, inr, Option, Some, None, List, [], ◌∷◌, ◌++◌, length, refl, ap, sym, ◌∙◌, subst, arith}
-use Rattle.std.proofs.lemmas.Bool.{eq-eqb}
+use Rattle.std.proofs.lemmas.Bool.{eq-eqb, not-true, not-false, false_from_ne_true}
 use Rattle.std.proofs.lemmas.Bool.Decides.{nat_tests}
 use Rattle.pb_text.specs.declared.mode.Mode.TheVariants.{Eager, Waiting}
 use Rattle.pb_world.specs.Actions.{Kind, Chooses, Runs, Sends, Receives, Enters, Leaves, Collective, Barrier, Broadcast, Reduce, Allreduce}
@@ -105,17 +105,9 @@ module _ (s : State) (sequence : Sequence) (sound : IsState s) where
     enter_undefined (Reduce label operation root) = ap (λ o. not (agrees s.joins r (Reduce label o root))) (operation_back operation)
     enter_undefined (Allreduce label operation) = ap (λ o. not (agrees s.joins r (Allreduce label o))) (operation_back operation)
 
-    not_true : (b : Bool) → not b ≡ true → b ≡ false
-    not_true false e = refl
-    not_true true e = never_so e
-
-    not_false : (b : Bool) → not b ≡ false → b ≡ true
-    not_false true e = refl
-    not_false false e = never e
-
     probe_undefined : (p : ℕ) → next_step s r ≡ N.Probe p → (ms : List Message) → messages s.channels p r ≡ ms → (is_there (label_of ms) && not (reads s (state_at s r) (label_of ms))) ≡ true → IsUndefined (family (program s) s.n sequence) (world_of s) r
     probe_undefined p e [] m u = never_so u
-    probe_undefined p e (m ∷ ms) is u = inr (inl (p, _, _, e, ap (moded (is_to (stand s p).waits r)) is, none_of ((text_machine (program s) s.n).read (state_at s r) m.label) (not_true (is_there ((text_machine (program s) s.n).read (state_at s r) m.label)) u)))
+    probe_undefined p e (m ∷ ms) is u = inr (inl (p, _, _, e, ap (moded (is_to (stand s p).waits r)) is, none_of ((text_machine (program s) s.n).read (state_at s r) m.label) (not-true (is_there ((text_machine (program s) s.n).read (state_at s r) m.label)) u)))
 
     undefined_kind : (kind : Kind) → next_step s r ≡ N.Does kind → undefined_by s r (next_of (N.Does kind)) ≡ true → IsUndefined (family (program s) s.n sequence) (world_of s) r
     undefined_kind (Chooses k n) e u = never_so u
@@ -123,7 +115,7 @@ module _ (s : State) (sequence : Sequence) (sound : IsState s) where
     undefined_kind (Sends q l) e u = never_so u
     undefined_kind (Receives q l) e u = never_so u
     undefined_kind (Leaves j) e u = never_so u
-    undefined_kind (Enters j) e u = inr (inr (j, e, λ ag. never (sym (may_enter s r sequence sound j ag) ∙ not_true (agrees s.joins r j) (sym (enter_undefined j) ∙ u))))
+    undefined_kind (Enters j) e u = inr (inr (j, e, λ ag. never (sym (may_enter s r sequence sound j ag) ∙ not-true (agrees s.joins r j) (sym (enter_undefined j) ∙ u))))
 
     undefined_at : (x : N.Next) → next_step s r ≡ x → undefined_by s r (next_of x) ≡ true → IsUndefined (family (program s) s.n sequence) (world_of s) r
     undefined_at N.Silent e u = never_so u
@@ -146,7 +138,7 @@ module _ (s : State) (sequence : Sequence) (sound : IsState s) where
       by : (j : Collective) → next_step s r ≡ N.Does (Enters j) → (W.Agrees (family (program s) s.n sequence) (world_of s) r j → ⊥) → ⊥
       by j e other =
           let k = call_for j in
-          let a : agrees s.joins r j ≡ true = not_false (agrees s.joins r j) (sym (enter_undefined j) ∙ sym (ap (λ x. undefined_by s r (next_of x)) e) ∙ u) in
+          let a : agrees s.joins r j ≡ true = not-false (agrees s.joins r j) (sym (enter_undefined j) ∙ sym (ap (λ x. undefined_by s r (next_of x)) e) ∙ u) in
           let l : r < length s.joins.words = subst (λ (i : ℕ). r < i) (sym sound.joins) there in
           other (λ p lt entry g. agreed s.joins r k.0 [] sound.joined l (ap (agrees s.joins r) k.1 ∙ a) p entry g ∙ k.1)
 
@@ -167,7 +159,7 @@ module _ (s : State) (sequence : Sequence) (sound : IsState s) where
     waits_kind (Sends q l) e u f free = never f
     waits_kind (Receives q l) e u f free = (free, e)
     waits_kind (Leaves j) e u f free = (free, (j, e))
-    waits_kind (Enters j) e u f free = never (sym (enter_can s r sequence sound j (not_false (agrees s.joins r j) (sym (enter_undefined j) ∙ u))) ∙ f)
+    waits_kind (Enters j) e u f free = never (sym (enter_can s r sequence sound j (not-false (agrees s.joins r j) (sym (enter_undefined j) ∙ u))) ∙ f)
 
     waits_at : (x : N.Next) → next_step s r ≡ x → x ≢ N.Ended → undefined_by s r (next_of x) ≡ false → can_next s r (state_at s r) (next_of x) ≡ false → IsNotWaiting (family (program s) s.n sequence) (world_of s) r → IsCause (family (program s) s.n sequence) (world_of s) r (cause_at (next_of x))
     waits_at N.Silent e going u f free = never f
@@ -228,13 +220,9 @@ module _ (s : State) (sequence : Sequence) (sound : IsState s) where
     not_going g = idle g.rank g.there (can_of s g.rank sequence sound g.can)
 
     pub stuck_at : (r : ℕ) → IsLeast s r → IsStanding (family (program s) s.n sequence) (world_of s) (S.Stuck r (cause_of s r))
-    stuck_at r least = (not_going, (λ end. going (end.ended r least.there)), stuck_by r (cause_of s r) (record { there = least.there; goes_on = going; before = λ q lt. ended_next (next_step s q) (least.before q lt) }) (cause_is r least.there going (false_of (can s r) (idle r least.there)))) where
+    stuck_at r least = (not_going, (λ end. going (end.ended r least.there)), stuck_by r (cause_of s r) (record { there = least.there; goes_on = going; before = λ q lt. ended_next (next_step s q) (least.before q lt) }) (cause_is r least.there going (false_from_ne_true (can s r) (idle r least.there)))) where
       going : next_step s r ≢ N.Ended
       going e = least.goes_on (ap next_of e)
-
-      false_of : (b : Bool) → (b ≡ true → ⊥) → b ≡ false
-      false_of true h = absurd (h refl)
-      false_of false h = refl
 
     module _ (ended : (q : ℕ) → q < total_of s → next_at s q ≡ X.Ended) where
       all_ended : (q : ℕ) → q < total_of s → next_step s q ≡ N.Ended

@@ -31,7 +31,8 @@ use pb_text::{Mode, NoMemory, Words};
 use std::alloc::Global;
 use std::marker::Model;
 
-/// A simulation but for its answers, in which what is kept agrees.
+/// A simulation but for its answers, in which what is kept agrees. The calls are the same as those of `Seen`, with that as
+/// the invariant in place of a clause of each.
 #[derive(Drop)]
 pub struct Held {
     seen: Seen,
@@ -72,7 +73,7 @@ impl Held {
         }
     }
 
-    /// Whether the rank exists and has a step.
+    /// Whether the rank exists and has a step. The same as that of `Seen`, with the clause that its world has such a step.
     pub fn is_ready(&self, rank: u32) -> bool
         ensures step { (sequence : Sequence) → IsTrue result ↔ HasStep self.now sequence rank }
         ensures can { IsTrue result ↔ ((rank < total_of self.now.state) × (can self.now.state rank ≡ true)) }

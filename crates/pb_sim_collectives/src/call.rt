@@ -1,4 +1,4 @@
-ghost use Rattle.std.specs.Prelude.{◌≡◌};
+ghost use Rattle.std.specs.Prelude.{◌≡◌, nat_eq};
 ghost use Rattle.pb_local.specs.Collectives.{operation_of};
 ghost use Rattle.pb_sim_collectives.specs.Calls.{collective_of, labelled, call_of, joint_of, kind_in, label_in, operation_number, operation_in, root_in, is_same};
 
@@ -37,14 +37,14 @@ impl Call {
         }
     }
 
-    fn kind(self) -> u32
-        ensures { result ≡ kind_in (collective_of self) }
+    fn is_same_kind(self, other: Call) -> bool
+        ensures { result ≡ nat_eq (kind_in (collective_of self)) (kind_in (collective_of other)) }
     {
         match self {
-            Call::Barrier => 0,
-            Call::Broadcast { .. } => 1,
-            Call::Reduce { .. } => 2,
-            Call::Allreduce { .. } => 3,
+            Call::Barrier => matches!(other, Call::Barrier),
+            Call::Broadcast { .. } => matches!(other, Call::Broadcast { .. }),
+            Call::Reduce { .. } => matches!(other, Call::Reduce { .. }),
+            Call::Allreduce { .. } => matches!(other, Call::Allreduce { .. }),
         }
     }
 
@@ -86,7 +86,7 @@ impl Call {
     pub fn is_same(self, other: Call) -> bool
         ensures { result ≡ is_same (collective_of self) (collective_of other) }
     {
-        self.kind() == other.kind()
+        self.is_same_kind(other)
             && self.label() == other.label()
             && self.operation() == other.operation()
             && self.root() == other.root()

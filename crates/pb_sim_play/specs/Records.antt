@@ -1,6 +1,7 @@
 -- What is kept of a simulation while it is played: the lines of its log, or the events that were made.
 use Rattle.std.specs.Prelude.{◌≡◌, ℕ, suc, ◌<◌, ◌≤◌, ℤ, Option, List, [], ◌∷◌, ◌++◌, length, map}
 use Rattle.std.specs.Io.KnownBytes.{Appends}
+use Rattle.pb_text.specs.declared.limits.TheConstants.{MOST_EVENTS}
 use Rattle.pb_world.specs.Actions.{Action}
 use Rattle.pb_ctree.specs.declared.tree.CTree.{CTree}
 use Rattle.pb_local.specs.Tree.{Program, program_of}
@@ -29,7 +30,7 @@ shown_by (Turns made) = O.Schedule
 -- a schedule of so many events can be printed
 abbrev pub IsShort : Record → Type 0
 IsShort (Lines log) = Unit {0}
-IsShort (Turns made) = length made.items ≤ 1000000
+IsShort (Turns made) = length made.items ≤ MOST_EVENTS
 
 -- these lines aren't written yet of what belongs to the output since the start
 abbrev pub IsLog : Option (List ℕ) → List ℕ → Option (List ℕ) → List ℕ → Type 0

@@ -2,6 +2,7 @@
 
 ghost use Rattle.std.specs.Prelude.{◌≡◌, ◌≤◌, ℕ, List, Option, [], length, OnOk, OnErr, IsErrOf};
 ghost use Rattle.std.specs.Io.KnownBytes.{Appends};
+ghost use Rattle.pb_text.specs.declared.limits.TheConstants.{MOST_EVENTS};
 ghost use Rattle.pb_world.specs.Actions.{Action};
 ghost use Rattle.pb_ctree.specs.declared.tree.CTree.{CTree};
 ghost use Rattle.pb_local.specs.Tree.{Program, program_of};
@@ -28,7 +29,7 @@ fn write_schedule<O: Sink>(
     schedule: Schedule,
     out: &mut O,
 ) -> Result<(), RecordFault>
-    requires { length schedule.turns.items ≤ 1000000 }
+    requires { length schedule.turns.items ≤ MOST_EVENTS }
     ensures whole { OnOk result (Appends (O.taken out.old) (O.taken out.new) (layout Two schedule.seed schedule.turns.items)) }
     ensures same { IsErrOf result RecordFault.NoMemory → O.taken out.new ≡ O.taken out.old }
     ensures front { IsErrOf result RecordFault.WriteFault → AppendsFront (O.taken out.old) (O.taken out.new) (layout Two schedule.seed schedule.turns.items) }

@@ -1,6 +1,7 @@
 //! Whole simulations.
 
 ghost use Rattle.std.specs.Prelude.{◌≡◌, ◌≤◌, ℕ, List, Option, length, map};
+ghost use Rattle.pb_text.specs.declared.limits.TheConstants.{MOST_EVENTS};
 ghost use Rattle.pb_io.specs.Faults.{Rose};
 ghost use Rattle.pb_world.specs.Actions.{Action};
 ghost use Rattle.pb_ctree.specs.declared.tree.CTree.{CTree};
@@ -81,7 +82,7 @@ fn simulate<A: Fn(u64, u32, u64) -> u32 + Drop, O: Sink>(
     requires begun { IsBegun sim.old.held.state.tree sim.old.held.state.n sim.old.held }
     requires at { IsAt plan 0 }
     requires most { IsMostOf (source_of plan) most }
-    requires few { most ≤ 1000000 }
+    requires few { most ≤ MOST_EVENTS }
     ensures told { Tells sim.old.held.state.tree sim.old.held.state.n (A.post sim.old.answers.answer sim.old.answers.seed) (source_of plan.entry) most shown seed result (O.taken out.old) (O.taken out.new) }
     ensures tree { sim.new.held.state.tree ≡ sim.old.held.state.tree }
     ensures fault { result ≡ E.WriteFault → Rose (O.faults out.old) (O.faults out.new) }
@@ -108,7 +109,7 @@ pub fn simulate_by_seed<A: Fn(u64, u32, u64) -> u32 + Drop, O: Sink>(
 ) -> Ending
     requires callable { A.IsAlwaysCallable sim.old.answers.answer }
     requires begun { IsBegun sim.old.held.state.tree sim.old.held.state.n sim.old.held }
-    requires few { options.turns ≤ 1000000 }
+    requires few { options.turns ≤ MOST_EVENTS }
     ensures told { Tells sim.old.held.state.tree sim.old.held.state.n (A.post sim.old.answers.answer sim.old.answers.seed) (drawn options.seed options.modes) options.turns options.shown options.seed
         result (O.taken out.old) (O.taken out.new) }
     ensures tree { sim.new.held.state.tree ≡ sim.old.held.state.tree }
@@ -138,7 +139,7 @@ pub fn simulate_by_schedule<A: Fn(u64, u32, u64) -> u32 + Drop, O: Sink>(
 ) -> Ending
     requires callable { A.IsAlwaysCallable sim.old.answers.answer }
     requires begun { IsBegun sim.old.held.state.tree sim.old.held.state.n sim.old.held }
-    requires few { length turns.now ≤ 1000000 }
+    requires few { length turns.now ≤ MOST_EVENTS }
     ensures told { Tells sim.old.held.state.tree sim.old.held.state.n (A.post sim.old.answers.answer sim.old.answers.seed) (given (map pair_of turns.now)) (length turns.now) H.Log 0
         result (O.taken out.old) (O.taken out.new) }
     ensures tree { sim.new.held.state.tree ≡ sim.old.held.state.tree }

@@ -1,7 +1,7 @@
 -- One number marked or unmarked.
-use Rattle.std.proofs.Common.{◌≡◌, ◌<◌, ◌≤◌, ◌⊎◌, inl, inr, ℕ, zero, suc, ◌+◌, ◌-◌, List, [], ◌∷◌, ◌++◌, length, take, drop, get_or, set, replicate, ap, ◌∙◌, sym, refl, subst, Bool, true, false, ◌&&◌, nat_eq, nat_lt, if◌then◌else◌, arith, add-one, zero-add, suc-add, length-append}
+use Rattle.std.proofs.Common.{◌≡◌, ◌<◌, ◌≤◌, ◌⊎◌, inl, inr, ℕ, zero, suc, ◌+◌, ◌-◌, List, [], ◌∷◌, ◌++◌, length, take, drop, get_or, set, replicate, ap, ◌∙◌, sym, refl, subst, Bool, true, false, nat_eq, nat_lt, if◌then◌else◌, arith, add-one, zero-add, suc-add, length-append}
 use Rattle.std.specs.List.{insert, remove}
-use Rattle.std.proofs.lemmas.Bool.{eq-eqb, eqb-true, eqb-false, cases_lt}
+use Rattle.std.proofs.lemmas.Bool.{eq-eqb, eqb-true, eqb-false, cases_lt, and_right}
 use Rattle.std.proofs.Math.Seq.{take-append_seam, drop-append_seam, drop-append-add, get_or-append_seam}
 use Rattle.std.proofs.lemmas.List.{get_or-append-add, get_or-replicate, get_or-set_same, get_or-set_other, get_or_read}
 use Rattle.std.proofs.Math.ListN.{get_or-append}
@@ -89,10 +89,6 @@ placed xs ys r at p low high =
           let u : r ≤ get_or ys 0 0 = high 0 (omega (arith, lt, n, w)) in
           omega (arith, e, l, u)
 
-both : (x y : Bool) → y ≡ false → (x && y) ≡ false
-both true y h = h
-both false y h = refl
-
 there : (a c : List ℕ) (at r : ℕ) → at ≡ length a → has (a ++ r ∷ c) at r ≡ true
 there a c at r e = rw e here where
   here : has (a ++ r ∷ c) (length a) r ≡ true
@@ -112,7 +108,7 @@ away a c at r e high = rw e (off (cases_lt (length a) (length (a ++ c)))) where
       let w : length a + 0 ≡ length a = omega arith in
       let q : get_or (a ++ c) (length a) 0 ≡ get_or c 0 0 = ap (λ i. get_or (a ++ c) i 0) (sym w) ∙ z in
       let g : nat_eq (get_or (a ++ c) (length a) 0) r ≡ false = not_same _ r (inr (omega (arith, q, u))) in
-      both _ _ g
+      and_right _ _ g
   off (inr le) = let g : nat_lt (length a) (length (a ++ c)) ≡ false = grind (arith, le) in rw g refl
 
 -- what the list is after an edit at the place of r

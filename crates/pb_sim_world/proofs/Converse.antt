@@ -1,7 +1,7 @@
 -- Where the world has an event of a rank, `can` is true.
 use Rattle.std.proofs.Common.{◌≡◌, ◌<◌, ◌≤◌, ℕ, zero, suc, ◌+◌, Bool, true, false, ◌||◌, not, nat_eq, nat_lt, if◌then◌else◌, ◌⊎◌, inl, inr, Option, Some, None, List, [], ◌∷◌, map, length, get_or, refl, ap, sym, ◌∙◌, subst, arith}
 use Rattle.std.specs.List.{slice_get, sum_by}
-use Rattle.std.proofs.lemmas.Bool.{cases_lt, eq-eqb}
+use Rattle.std.proofs.lemmas.Bool.{cases_lt, eq-eqb, or_right}
 use Rattle.std.proofs.lemmas.Bool.Decides.{nat_tests}
 use Rattle.std.proofs.lemmas.List.{length-map}
 use Rattle.std.proofs.lemmas.List.Sums.{sum_by-cons}
@@ -49,10 +49,6 @@ first_label b (x ∷ ms) m rest e = ap (λ y. Some y) (same _ _ _ _ e) where
 has_label : ℕ → List W.Message → Bool
 has_label label [] = false
 has_label label (m ∷ ms) = nat_eq label m.label || has_label label ms
-
-or_right : (a b : Bool) → b ≡ true → (a || b) ≡ true
-or_right true b e = refl
-or_right false b e = e
 
 taken_has : (label : ℕ) (xs : List W.Message) (m : W.Message) (rest : List W.Message) → W.Takes label xs m rest → has_label label xs ≡ true
 unfolding has_label

@@ -85,7 +85,7 @@ inside s r j sound h e = by_todo (state_at s r).state.todo refl (sound.joining r
 
   by_todo : (t : M.Todo) → (state_at s r).state.todo ≡ t → IsJoining s.joins r (stand s r).left t → (rest : M.Todo) × ((state_at s r).state.todo ≡ M.leave j rest) × IsIn s.joins r (stand s r).left j rest
   by_todo M.finished f k = absurd (out (subst IsOut (sym f) tt))
-  by_todo (M.next number code rest) f k = absurd (out (subst IsOut (sym f) k.0))
+  by_todo (M.do_next number code rest) f k = absurd (out (subst IsOut (sym f) k.0))
   by_todo (M.round_of high number body rest) f k = absurd (out (subst IsOut (sym f) k.0))
   by_todo (M.end_of id number body rest) f k = absurd (out (subst IsOut (sym f) k.0))
   by_todo (M.leave joint rest) f k =

@@ -5,7 +5,7 @@ use Rattle.std.specs.List.{slice_set, slice_get}
 use Rattle.std.proofs.lemmas.Bool.{cases_eq, cases_lt, eq-eqb}
 use Rattle.std.proofs.lemmas.Bool.Decides.{nat_tests}
 use Rattle.std.proofs.lemmas.List.{length-map, length-set, map-append}
-use Rattle.std.proofs.lemmas.Option.{slice_get-get_or, slice_get_within}
+use Rattle.std.proofs.lemmas.Option.{slice_get-get_or, slice_get_within, same_Some}
 use Rattle.pb_text.specs.declared.mode.Mode.{Mode}
 use Rattle.pb_world.specs.Actions.{Enter, Kind, Enters, Leaves, Collective}
 use Rattle.pb_world.specs.Machine as N
@@ -36,9 +36,6 @@ use Rattle.pb_sim_world.proofs.Near.{near}
 use Rattle.pb_sim_world.proofs.Entries.{same_of, paired_get, paired_long, paired_more, paired_next}
 use Rattle.pb_sim_world.proofs.Kept.{state_moved, stand_moved, kept, each_but, at_other, at_it, acts_out}
 
-some_of : {A : Type 0} (a b : A) → ◌≡◌ {A = Option A} (Some a) (Some b) → a ≡ b
-some_of a b e = cc
-
 get_end : {A : Type 0} (xs : List A) (x : A) → slice_get (xs ++ x ∷ []) (length xs) ≡ Some x
 get_end [] x = refl
 get_end (y ∷ xs) x = get_end xs x
@@ -54,7 +51,7 @@ pub get_map : {A B : Type 0} (f : A → B) (xs : List A) (k : ℕ) (y : A) → s
 get_map {A} f [] k y e = absurd (clash e) where
   clash : ◌≡◌ {A = Option A} None (Some y) → ⊥
   clash z = cc
-get_map f (x ∷ xs) zero y e = ap (λ z. Some (f z)) (some_of x y e)
+get_map f (x ∷ xs) zero y e = ap (λ z. Some (f z)) (same_Some x y e)
 get_map f (x ∷ xs) (suc k) y e = get_map f xs k y e
 
 -- of a rank that enters this call, where nobody has entered another there
@@ -188,14 +185,14 @@ module _ (x : Joined) (r : ℕ) (call : Call) (w : List ℕ) (joined : IsJoined 
   -- the places of the others are as they were
   pub still_joining : (q left : ℕ) (t : M.Todo) → (q ≡ r → ⊥) → IsJoining x q left t → IsJoining (entered x r call w) q left t
   still_joining q left M.finished n j = number_other q n ∙ j
-  still_joining q left (M.next k code rest) n j = (j.0, number_other q n ∙ j.1)
+  still_joining q left (M.do_next k code rest) n j = (j.0, number_other q n ∙ j.1)
   still_joining q left (M.round_of high k body rest) n j = (j.0, number_other q n ∙ j.1)
   still_joining q left (M.end_of id k body rest) n j = (j.0, number_other q n ∙ j.1)
   still_joining q left (M.leave joint rest) n j = record { out = j.out; one = number_other q n ∙ j.one; call = j.call; there = calls_kept left j.call j.there; same = j.same }
 
   pub now_inside : (left : ℕ) (t : M.Todo) → number x r ≡ left → IsExit (collective_of call) t → IsJoining (entered x r call w) r left t
   now_inside left M.finished n exit = absurd exit
-  now_inside left (M.next k code rest) n exit = absurd exit
+  now_inside left (M.do_next k code rest) n exit = absurd exit
   now_inside left (M.round_of high k body rest) n exit = absurd exit
   now_inside left (M.end_of id k body rest) n exit = absurd exit
   now_inside left (M.leave joint rest) n exit =

@@ -106,7 +106,7 @@ can_same s ranks stands channels q a e m =
 module _ (joins : Joined) (r left : ℕ) where
   pub joining_out : (t : M.Todo) → IsOut t → number joins r ≡ left → IsJoining joins r left t
   joining_out M.finished out e = e
-  joining_out (M.next k first rest) out e = (out, e)
+  joining_out (M.do_next k first rest) out e = (out, e)
   joining_out (M.round_of high k body rest) out e = (out, e)
   joining_out (M.end_of id k body rest) out e = (out, e)
   joining_out (M.leave joint rest) out e = absurd out
@@ -116,7 +116,7 @@ module _ (joins : Joined) (r left : ℕ) where
   not_inside p n x h never = by_todo x.state.todo refl h where
     by_todo : (t : M.Todo) → x.state.todo ≡ t → IsJoining joins r left t → IsOut t × (number joins r ≡ left)
     by_todo M.finished e h = (tt, h)
-    by_todo (M.next k first rest) e h = h
+    by_todo (M.do_next k first rest) e h = h
     by_todo (M.round_of high k body rest) e h = h
     by_todo (M.end_of id k body rest) e h = h
     by_todo (M.leave joint rest) e h = absurd (never joint (ap (λ m. cond (is_quiet (M.next_in m) && nat_le (most_silent p) x.count) N.Lost (M.next_in m)) (exit_move p n x.state joint rest e)))

@@ -55,7 +55,7 @@ abbrev mutual
 
 abbrev IsLadenTodo : M.Todo → Type 0
 IsLadenTodo M.finished = Unit {0}
-IsLadenTodo (M.next number first rest) = IsLaden first × IsLadenTodo rest
+IsLadenTodo (M.do_next number first rest) = IsLaden first × IsLadenTodo rest
 IsLadenTodo (M.round_of high number body rest) = AreLaden body × IsLadenTodo rest
 IsLadenTodo (M.end_of id number body rest) = AreLaden body × IsLadenTodo rest
 IsLadenTodo (M.leave joint rest) = IsLadenTodo rest
@@ -224,7 +224,7 @@ module _ (p : Program) (n : ℤ) where
 
   more_from : (x : M.Rank) (t : M.Todo) → IsLadenTodo t → IsMore (M.move_from p n x t)
   more_from x M.finished h = tt
-  more_from x (M.next k c rest) h = more_at x k c rest h.0
+  more_from x (M.do_next k c rest) h = more_at x k c rest h.0
   more_from x (M.round_of high k body rest) h = more_turn x (x.i +ℤ pos 1) high k body rest
   more_from x (M.end_of id k body rest) h = more_from x rest h.1
   more_from x (M.leave joint rest) h = tt

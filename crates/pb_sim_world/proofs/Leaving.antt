@@ -17,7 +17,7 @@ use Rattle.pb_sim_world.specs.Sound.{IsOut}
 -- behind an entry
 abbrev pub IsExit : Collective → M.Todo → Type 0
 IsExit j M.finished = ⊥
-IsExit j (M.next k first rest) = ⊥
+IsExit j (M.do_next k first rest) = ⊥
 IsExit j (M.round_of high k body rest) = ⊥
 IsExit j (M.end_of id k body rest) = ⊥
 IsExit j (M.leave i rest) = (i ≡ j) × IsOut rest
@@ -57,7 +57,7 @@ out_if false t u h k = k
 
 out_back : (id : ℕ) (t : M.Todo) → IsOut t → IsOut (M.back_to id t)
 out_back id M.finished h = h
-out_back id (M.next k c rest) h = out_back id rest h
+out_back id (M.do_next k c rest) h = out_back id rest h
 out_back id (M.round_of high k body rest) h = out_back id rest h
 out_back id (M.leave joint rest) h = absurd h
 out_back id (M.end_of x k body rest) h = out_if (nat_eq id x) (M.pushed k body (M.end_of x k body rest)) (M.back_to id rest) (out_pushed k body (M.end_of x k body rest) h) (out_back id rest h)
@@ -111,7 +111,7 @@ module _ (p : Program) (n : ℤ) where
 
   fair_from : (x : M.Rank) (t : M.Todo) → IsOut t → IsFair (M.move_from p n x t)
   fair_from x M.finished h = tt
-  fair_from x (M.next k c rest) h = fair_at x k c rest h
+  fair_from x (M.do_next k c rest) h = fair_at x k c rest h
   fair_from x (M.round_of high k body rest) h = fair_turn x (x.i +ℤ pos 1) high k body rest h
   fair_from x (M.end_of id k body rest) h = fair_from x rest h
   fair_from x (M.leave joint rest) h = absurd h

@@ -89,7 +89,7 @@ module _ (p : Program) (n : ℤ) where
 
   near_from : (x : M.Rank) (t : M.Todo) → IsNear (total p.roles n) (M.move_from p n x t)
   near_from x M.finished = tt
-  near_from x (M.next k c rest) = near_at x k c rest
+  near_from x (M.do_next k c rest) = near_at x k c rest
   near_from x (M.round_of high k body rest) = near_turn x (x.i +ℤ pos 1) high k body rest
   near_from x (M.end_of id k body rest) = near_from x rest
   near_from x (M.leave joint rest) = tt

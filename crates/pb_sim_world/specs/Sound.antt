@@ -37,7 +37,7 @@ IsWaiting s r (Some w) = (w.by < total_of s) × IsLast w.label (messages s.chann
 -- no exit of a collective is still to do
 abbrev pub IsOut : M.Todo → Type 0
 IsOut M.finished = Unit {0}
-IsOut (M.next number first rest) = IsOut rest
+IsOut (M.do_next number first rest) = IsOut rest
 IsOut (M.round_of high number body rest) = IsOut rest
 IsOut (M.end_of id number body rest) = IsOut rest
 IsOut (M.leave joint rest) = ⊥
@@ -54,7 +54,7 @@ pub record IsIn (joins : Joined) (r left : ℕ) (joint : Collective) (rest : M.T
 abbrev pub IsJoining : Joined → ℕ → ℕ → M.Todo → Type 0
 IsJoining joins r left (M.leave joint rest) = IsIn joins r left joint rest
 IsJoining joins r left M.finished = number joins r ≡ left
-IsJoining joins r left (M.next k first rest) = IsOut rest × (number joins r ≡ left)
+IsJoining joins r left (M.do_next k first rest) = IsOut rest × (number joins r ≡ left)
 IsJoining joins r left (M.round_of high k body rest) = IsOut rest × (number joins r ≡ left)
 IsJoining joins r left (M.end_of id k body rest) = IsOut rest × (number joins r ≡ left)
 

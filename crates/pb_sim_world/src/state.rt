@@ -116,7 +116,7 @@ impl State {
     }
 
     /// Whether the rank has a step. It looks at the rank's own state, at one list, and at one collective. Exactly where it has
-    /// one, the world has an event of this rank.
+    /// one, the world has an event of this rank. The same as `can_go`, with the clause `event`.
     pub fn can(&self, rank: u32) -> bool
         requires sound { IsState self.now }
         requires there { rank < total_of self.now }
@@ -145,7 +145,7 @@ impl State {
     }
 
     /// Whether a rank can't go on in any way: by itself, by the first label where it waits for one, or by the collective that
-    /// another rank has entered.
+    /// another rank has entered. The same as `undefined_by`, with the clause that a choice has a branch.
     pub fn is_undefined(&self, rank: u32) -> bool
         requires sound { IsState self.now }
         requires there { rank < total_of self.now }

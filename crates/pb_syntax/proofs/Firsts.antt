@@ -1,7 +1,7 @@
 -- With which tokens the texts of a form begin.
 use Rattle.std.proofs.Common.{◌≡◌, ℕ, List, [], ◌∷◌, ◌++◌, ◌⊎◌, inl, inr, Bool, true, false, Option, Some, None, refl, ap, ◌∙◌}
-use Rattle.std.specs.Prelude.{not, ◌&&◌, ◌||◌, ◌==◌, if◌then◌else◌}
-use Rattle.std.proofs.lemmas.Bool.{eqb-true, eq-eqb}
+use Rattle.std.specs.Prelude.{not, ◌&&◌, ◌==◌, if◌then◌else◌}
+use Rattle.std.proofs.lemmas.Bool.{eqb-true, eq-eqb, cases_Bool, or_from, not-true, or_cases, and_parts}
 use Rattle.std.proofs.lemmas.List.{append-nil}
 use Rattle.pb_text.specs.declared.token.Token.{Token}
 use Rattle.pb_text.specs.declared.token.TokenKind.{TokenKind}
@@ -26,42 +26,22 @@ abbrev pub inside : List ℕ → List ℕ → Bool
 inside [] ns = true
 inside (m ∷ ms) ns = within ns m && inside ms ns
 
-and_both : (a b : Bool) → (a && b) ≡ true → (a ≡ true) × (b ≡ true)
-and_both true true e = (refl, refl)
-and_both true false e = cc
-and_both false b e = cc
-
-or_split : (a b : Bool) → (a || b) ≡ true → (a ≡ true) ⊎ (b ≡ true)
-or_split true b e = inl refl
-or_split false b e = inr e
-
-not_true : (a : Bool) → not a ≡ true → a ≡ false
-not_true true e = cc
-not_true false e = refl
-
 pub apart_ok : (ms ns : List ℕ) → apart ms ns ≡ true → (k : ℕ) → within ms k ≡ true → within ns k ≡ false
 apart_ok [] ns e k h = cc
 apart_ok (m ∷ ms) ns e k h =
-    let both = and_both (not (within ns m)) (apart ms ns) e in
-    elim (or_split (k == m) (within ms k) h) [
-      | inl here ↦ ap (within ns) (eqb-true k m here) ∙ not_true (within ns m) both.0
+    let both = and_parts (not (within ns m)) (apart ms ns) e in
+    elim (or_cases (k == m) (within ms k) h) [
+      | inl here ↦ ap (within ns) (eqb-true k m here) ∙ not-true (within ns m) both.0
       | inr later ↦ apart_ok ms ns both.1 k later
     ]
-
-false_or : (a b : Bool) → a ≡ false → b ≡ false → (a || b) ≡ false
-false_or a b p q = rw (p, q) refl
-
-test_cases : (b : Bool) → (b ≡ true) ⊎ (b ≡ false)
-test_cases true = inl refl
-test_cases false = inr refl
 
 pub inside_ok : (ms ns : List ℕ) → inside ms ns ≡ true → (k : ℕ) → within ns k ≡ false → within ms k ≡ false
 inside_ok [] ns e k h = refl
 inside_ok (m ∷ ms) ns e k h =
-    let both = and_both (within ns m) (inside ms ns) e in
-    elim (test_cases (k == m)) [
+    let both = and_parts (within ns m) (inside ms ns) e in
+    elim (cases_Bool (k == m)) [
       | inl here ↦ let yes : within ns k ≡ true = ap (within ns) (eqb-true k m here) ∙ both.0 in cc
-      | inr other ↦ false_or (k == m) (within ms k) other (inside_ok ms ns both.1 k h)
+      | inr other ↦ or_from (k == m) (within ms k) other (inside_ok ms ns both.1 k h)
     ]
 
 -- the kind of a single token

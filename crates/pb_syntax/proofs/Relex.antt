@@ -8,6 +8,7 @@ use Rattle.std.specs.Str.{all_ascii_digits}
 use Rattle.std.proofs.lemmas.Str.Parse.{IsNumeralModel, numerals_by_fold}
 use Rattle.std.proofs.lemmas.Fmt.{digits_decimal, digits_value-decimal, decimal_nonempty}
 use Rattle.std.proofs.lemmas.List.{take_at, drop_at}
+use Rattle.std.proofs.lemmas.Bool.{and_parts}
 use Rattle.pb_text.specs.declared.token.TokenKind.{TokenKind}
 use Rattle.pb_text.specs.declared.token.TokenKind.TheVariants as kind
 use Rattle.pb_text.specs.declared.token.Mark.{Mark}
@@ -89,17 +90,9 @@ mark_again marks.Minus rest = refl
 numerals : IsNumeralModel (λ ds. all_ascii_digits ds ≡ true) (value_from 0)
 numerals = numerals_by_fold _ (search rules) value_from (search rules)
 
-and_left : (a b : Bool) → (a && b) ≡ true → a ≡ true
-and_left true b e = refl
-and_left false b e = cc
-
-and_right : (a b : Bool) → (a && b) ≡ true → b ≡ true
-and_right true b e = e
-and_right false b e = cc
-
 all_digits : (ds : List ℕ) → all_ascii_digits ds ≡ true → prefix_len is_ascii_digit ds ≡ length ds
 all_digits [] all = refl
-all_digits (d ∷ ds) all = rw (and_left (is_ascii_digit d) (all_ascii_digits ds) all) (ap (λ (n : ℕ). 1 + n) (all_digits ds (and_right (is_ascii_digit d) (all_ascii_digits ds) all)) ∙ omega arith)
+all_digits (d ∷ ds) all = rw (and_parts (is_ascii_digit d) (all_ascii_digits ds) all).0 (ap (λ (n : ℕ). 1 + n) (all_digits ds (and_parts (is_ascii_digit d) (all_ascii_digits ds) all).1) ∙ omega arith)
 
 no_word : (d : ℕ) → is_ascii_digit d ≡ true → begins_word d ≡ false
 no_word d digit = grind arith
@@ -108,7 +101,7 @@ lexeme_digits : (d : ℕ) (ds rest : List ℕ) → all_ascii_digits (d ∷ ds) �
     → lexeme ((d ∷ ds) ++ rest) ≡ token (kind.Number (value_from 0 (d ∷ ds))) (length (d ∷ ds))
 unfolding lexeme
 lexeme_digits d ds rest all stops small =
-    let digit : is_ascii_digit d ≡ true = and_left (is_ascii_digit d) (all_ascii_digits ds) all in
+    let digit : is_ascii_digit d ≡ true = (and_parts (is_ascii_digit d) (all_ascii_digits ds) all).0 in
     let len : prefix_len is_ascii_digit (d ∷ (ds ++ rest)) ≡ length (d ∷ ds) = behind_all is_ascii_digit (d ∷ ds) rest (all_digits (d ∷ ds) all) stops in
     let front : take (length (d ∷ ds)) (d ∷ (ds ++ rest)) ≡ d ∷ ds = take_at (d ∷ ds) rest (length (d ∷ ds)) refl in
     let space : nat_eq d 32 ≡ false = differs is_ascii_digit d 32 digit refl in

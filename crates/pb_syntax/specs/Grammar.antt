@@ -9,6 +9,7 @@ use Rattle.pb_text.specs.declared.token.Mark.{Mark}
 use Rattle.pb_text.specs.declared.token.Mark.TheVariants.{Dots, Equals, Semicolon, LeftParen, RightParen, LeftBracket, RightBracket, LeftBrace, RightBrace, Comma, Colon, Plus, Minus}
 use Rattle.pb_text.specs.declared.token.Key.{Key}
 use Rattle.pb_text.specs.declared.token.Key.TheVariants as keys
+use Rattle.pb_text.specs.declared.limits.TheConstants.{MOST_NUMBER}
 use Rattle.pb_syntax.specs.declared.tree.High.TheVariants as tops
 use Rattle.pb_syntax.specs.declared.tree.Payload.{Payload}
 use Rattle.pb_syntax.specs.declared.tree.Payload.TheVariants as pay
@@ -66,12 +67,18 @@ key_number keys.Int32 = 34
 key_number keys.Uint32 = 35
 key_number keys.Do = 36
 
+abbrev pub name_number : ℕ
+name_number = 37
+
+abbrev pub numeral_number : ℕ
+numeral_number = 38
+
 -- The kinds of tokens have numbers, names and numerals one each.
 abbrev pub kind_number : TokenKind → ℕ
 kind_number (kind.Mark m) = mark_number m
 kind_number (kind.Key k) = key_number k
-kind_number (kind.Word w) = 37
-kind_number (kind.Number n) = 38
+kind_number (kind.Word w) = name_number
+kind_number (kind.Number n) = numeral_number
 
 -- Single tokens, and what each stands for.
 abbrev pub is_mark : Mark → TokenKind → Bool
@@ -103,7 +110,7 @@ reads_name t = mapped (λ w. record { name = w; place = t.place }) (word_in t.ki
 
 -- no token has a larger number
 abbrev pub not_large : Option Numeral → Option Numeral
-not_large (Some n) = if nat_le n.value 2000000000 then Some n else None
+not_large (Some n) = if nat_le n.value MOST_NUMBER then Some n else None
 not_large None = None
 
 abbrev pub numeral_in : Token → Option Numeral

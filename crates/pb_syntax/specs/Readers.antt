@@ -21,7 +21,7 @@ use Rattle.pb_syntax.specs.declared.tree.RoleText.{RoleText}
 use Rattle.pb_syntax.specs.Tree.{Numeral}
 use Rattle.pb_syntax.specs.Tree.{Top}
 use Rattle.pb_syntax.specs.Tree.{PlainStatement, message, foreach, loop, again, choice, compute, barrier, broadcast, reduce, allreduce, PlainBlock, statements_of, branches_of, PlainFile}
-use Rattle.pb_syntax.specs.Grammar.{mark_number, key_number, reads_mark, reads_key, reads_name, reads_number, reads_count}
+use Rattle.pb_syntax.specs.Grammar.{mark_number, key_number, name_number, numeral_number, reads_mark, reads_key, reads_name, reads_number, reads_count}
 use Rattle.pb_syntax.specs.Reading.{Reader, next, done_at, one_at, ◌>>=◌, choose, many_at, among}
 
 abbrev pub mark_at : Mark → Reader Place
@@ -43,17 +43,19 @@ abbrev pub key_next : Key → Token → Bool
 key_next k = among (key_number k ∷ [])
 
 abbrev pub word_next : Token → Bool
-word_next = among (37 ∷ [])
+word_next = among (name_number ∷ [])
 
 -- the first tokens of statements, and of items
 abbrev pub statement_keys : List ℕ
-statement_keys = 37 ∷ 19 ∷ 20 ∷ 21 ∷ 22 ∷ 25 ∷ 26 ∷ 27 ∷ 28 ∷ 29 ∷ []
+statement_keys =
+    name_number ∷ key_number keys.Foreach ∷ key_number keys.Rec ∷ key_number keys.Continue ∷ key_number keys.Choice ∷ key_number keys.Compute
+    ∷ key_number keys.Barrier ∷ key_number keys.Broadcast ∷ key_number keys.Reduce ∷ key_number keys.Allreduce ∷ []
 
 abbrev pub item_keys : List ℕ
-item_keys = 37 ∷ 25 ∷ []
+item_keys = name_number ∷ key_number keys.Compute ∷ []
 
 abbrev pub number_next : Token → Bool
-number_next = among (38 ∷ [])
+number_next = among (numeral_number ∷ [])
 
 -- nothing, or + NUM, or - NUM
 unfoldable pub offset_at : Reader ℤ
@@ -155,7 +157,7 @@ count_at =
 -- nothing, or a type with a count
 unfoldable pub carried_at : Reader Payload
 carried_at =
-    choose (among (34 ∷ 35 ∷ [])) (do
+    choose (among (key_number keys.Int32 ∷ key_number keys.Uint32 ∷ [])) (do
       of ← type_at
       n ← count_at
       done_at (of n)) (

@@ -20,7 +20,7 @@ fn is_mark(mark: Mark, kind: &TokenKind) -> bool
     ensures { result ≡ is_mark mark kind.now }
 {
     match kind {
-        TokenKind::Mark(other) => *other as u8 == mark as u8,
+        TokenKind::Mark(other) => *other == mark,
         TokenKind::Key(_) | TokenKind::Word(_) | TokenKind::Number(_) => false,
     }
 }
@@ -29,7 +29,7 @@ fn is_key(key: Key, kind: &TokenKind) -> bool
     ensures { result ≡ is_key key kind.now }
 {
     match kind {
-        TokenKind::Key(other) => *other as u8 == key as u8,
+        TokenKind::Key(other) => *other == key,
         TokenKind::Mark(_) | TokenKind::Word(_) | TokenKind::Number(_) => false,
     }
 }
@@ -142,60 +142,9 @@ fn push_spelling(kind: &TokenKind, out: &mut Vec<u8>) -> Result<(), NoMemory>
 {
     match kind {
         TokenKind::Word(name) => push_bytes(name.bytes(), out),
-        TokenKind::Key(key) => push_bytes(key_bytes(*key), out),
+        TokenKind::Key(key) => push_bytes(key.spelling(), out),
         TokenKind::Number(n) => push_number(out, i64::from(*n)),
-        TokenKind::Mark(mark) => push_bytes(mark_bytes(*mark), out),
-    }
-}
-
-fn key_bytes(key: Key) -> &'static [u8]
-    ensures { result.now ≡ key_spelling key }
-{
-    match key {
-        Key::Const => b"const",
-        Key::Global => b"global",
-        Key::Protocol => b"protocol",
-        Key::Role => b"role",
-        Key::From => b"from",
-        Key::To => b"to",
-        Key::Foreach => b"foreach",
-        Key::Rec => b"rec",
-        Key::Continue => b"continue",
-        Key::Choice => b"choice",
-        Key::At => b"at",
-        Key::Or => b"or",
-        Key::Compute => b"compute",
-        Key::Barrier => b"barrier",
-        Key::Broadcast => b"broadcast",
-        Key::Reduce => b"reduce",
-        Key::Allreduce => b"allreduce",
-        Key::With => b"with",
-        Key::Max => b"max",
-        Key::Min => b"min",
-        Key::Sum => b"sum",
-        Key::Int32 => b"int32",
-        Key::Uint32 => b"uint32",
-        Key::Do => b"do",
-    }
-}
-
-fn mark_bytes(mark: Mark) -> &'static [u8]
-    ensures { result.now ≡ mark_spelling mark }
-{
-    match mark {
-        Mark::Dots => b"..",
-        Mark::Equals => b"=",
-        Mark::Semicolon => b";",
-        Mark::LeftParen => b"(",
-        Mark::RightParen => b")",
-        Mark::LeftBracket => b"[",
-        Mark::RightBracket => b"]",
-        Mark::LeftBrace => b"{",
-        Mark::RightBrace => b"}",
-        Mark::Comma => b",",
-        Mark::Colon => b":",
-        Mark::Plus => b"+",
-        Mark::Minus => b"-",
+        TokenKind::Mark(mark) => push_bytes(mark.spelling(), out),
     }
 }
 

@@ -10,28 +10,17 @@ use Rattle.pb_syntax.specs.declared.tree.RoleText.{RoleText}
 use Rattle.pb_syntax.specs.Tree.{PlainStatement, message, foreach, loop, again, choice, compute, barrier, broadcast, reduce, allreduce, PlainStatements, nothing, more, PlainBranches, no_branch, branch, PlainFile}
 use Rattle.pb_core_language.specs.Names.{Name, Scope, no_scope, with_loop, with_variable, lin_visits, range_visits, index_visits, end_visits, index_binds, role_visits, roles_visits, stmt_visits, block_visits, branches_visits, visits}
 use Rattle.pb_core_language.specs.Meaning.{binds, stmts_at, stmts_in, stmts_among, blocks_at, blocks_in, blocks_among}
+use Rattle.pb_core_language.proofs.Counts.{lin_few, range_few, two_at_most, one_at_most}
 use Rattle.pb_core_file_rules.specs.Lowering.{IsCountable}
 use Rattle.pb_test_rules.specs.Sizes.{size_at, size_in, size_among}
 
 -- ---- names
 
 module _ (c : Name) where
-  lin_few : (scope : Scope) (l : LinText) → length (lin_visits c scope l) ≤ 1
-  lin_few scope l = at l.base
-    where
-      at : (b : Option Spot) → length (lin_visits c scope (record { base = b; off = l.off; place = l.place })) ≤ 1
-      at None = omega arith
-      at (Some x) = omega arith
-
-  range_few : (scope : Scope) (over : RangeText) → length (range_visits c scope over) ≤ 2
-  range_few scope over =
-      let e = length-append (lin_visits c scope over.low) (lin_visits c scope over.high) in
-      omega (arith, e, lin_few scope over.low, lin_few scope over.high)
-
   index_few : (scope inside : Scope) (i : IndexText) → length (index_visits c scope inside i) ≤ 3
   index_few scope inside Zero = omega arith
-  index_few scope inside (At l) = omega (arith, lin_few inside l)
-  index_few scope inside (Bind x over) = omega (arith, range_few scope over)
+  index_few scope inside (At l) = omega (arith, lin_few c inside l)
+  index_few scope inside (Bind x over) = omega (arith, range_few c scope over)
 
   end_few : (scope inside : Scope) (e : End) → length (end_visits c scope inside e) ≤ 4
   end_few scope inside e = omega (arith, index_few scope inside e.index)
@@ -41,7 +30,7 @@ module _ (c : Name) where
     where
       at : (over : Option RangeText) → length (role_visits c (record { role = r.role; range = over })) ≤ 3
       at None = omega arith
-      at (Some over) = omega (arith, range_few no_scope over)
+      at (Some over) = omega (arith, range_few c no_scope over)
 
   roles_few : (rs : List RoleText) → length (roles_visits c rs) ≤ 3 * length rs
   roles_few [] = omega arith
@@ -53,7 +42,7 @@ module _ (c : Name) where
         let inside = index_binds c (index_binds c scope f.index) t.index in
         omega (arith, length-append (end_visits c scope inside f) (end_visits c scope inside t), end_few scope inside f, end_few scope inside t)
     stmt_few scope (foreach at x over place items) =
-        omega (arith, length-append (range_visits c scope over) (block_visits c (with_variable x.name scope) items), range_few scope over, block_few (with_variable x.name scope) items)
+        omega (arith, length-append (range_visits c scope over) (block_visits c (with_variable x.name scope) items), range_few c scope over, block_few (with_variable x.name scope) items)
     stmt_few scope (loop at x place body) = omega (arith, block_few (with_loop x.name scope) body)
     stmt_few scope (again at x) = omega arith
     stmt_few scope (choice at k who bs) = omega (arith, length-append (end_visits c scope scope who) (branches_visits c scope bs), end_few scope scope who, branches_few scope bs)
@@ -77,16 +66,6 @@ names_few f =
     omega (arith, length-append (roles_visits c f.roles) (block_visits c no_scope f.body.list), roles_few c f.roles, block_few c no_scope f.body.list)
 
 -- ---- statements and blocks
-
-two_at_most : (a b : Bool) → (if a then 2 else (if b then 2 else 1)) ≤ 2
-two_at_most true b = omega arith
-two_at_most false true = omega arith
-two_at_most false false = omega arith
-
-one_at_most : (a b : Bool) → (if a then 1 else (if b then 1 else 0)) ≤ 1
-one_at_most true b = omega arith
-one_at_most false true = omega arith
-one_at_most false false = omega arith
 
 mutual
   stmts_at_few : (s : PlainStatement) → stmts_at s ≤ size_at s

@@ -6,14 +6,9 @@ ghost use Rattle.pb_ctree.specs.Trees.{IsTree};
 use pb_cli_simulate::{CTree, Mode, Modes, Options, Shown, Status, simulate_tree};
 use pb_compile::{Compiled, compile, generate};
 use pb_io::MemSink;
+use pb_text::{MOST_EVENTS, MOST_TEXT_BYTES};
 use std::alloc::{AllocError, Global};
 use std::test::Fail;
-
-/// How many bytes a protocol file may have.
-const MOST_BYTES: usize = 67_108_864;
-
-/// How many events a simulation may have.
-const MOST_TURNS: u32 = 1_000_000;
 
 /// How many bytes a log may have.
 pub const ROOM: usize = 65_536;
@@ -35,7 +30,7 @@ pub fn tree_of(alloc: Global, file: &str) -> Result<CTree, Fail>
     ensures { IfOk result IsTree }
 {
     let bytes = file.as_bytes();
-    if bytes.len() > MOST_BYTES {
+    if bytes.len() > MOST_TEXT_BYTES as usize {
         return Err(Fail::new("the file is too long"));
     }
     let Compiled { core: _core, tree } = compile(alloc, bytes)?;
@@ -45,7 +40,7 @@ pub fn tree_of(alloc: Global, file: &str) -> Result<CTree, Fail>
 /// Its C text.
 pub fn text_of(alloc: Global, file: &str) -> Result<String, Fail> {
     let bytes = file.as_bytes();
-    if bytes.len() > MOST_BYTES {
+    if bytes.len() > MOST_TEXT_BYTES as usize {
         return Err(Fail::new("the file is too long"));
     }
     let text = generate(alloc, bytes)?;
@@ -54,12 +49,12 @@ pub fn text_of(alloc: Global, file: &str) -> Result<String, Fail> {
 
 /// A simulation at N by seed 0, of at most 1,000,000 events, in which each send is eager.
 pub fn options(n: u32) -> Options
-    ensures { result.turns ≤ 1000000 }
+    ensures { result.turns ≤ MOST_EVENTS }
 {
     Options {
         n,
         seed: 0,
-        turns: MOST_TURNS,
+        turns: MOST_EVENTS,
         modes: Modes::Each(Mode::Eager),
         shown: Shown::Log,
     }
@@ -74,7 +69,7 @@ pub fn played<A: Fn(u64, u32, u64) -> u32 + Drop>(
 ) -> Result<Told, Fail>
     requires { A.IsAlwaysCallable answers }
 {
-    if options.turns > MOST_TURNS {
+    if options.turns > MOST_EVENTS {
         return Err(Fail::new("too many events"));
     }
     let mut out = MemSink::new(alloc, ROOM, ROOM, Vec::new(alloc))?;

@@ -3,6 +3,7 @@ use Rattle.std.specs.Prelude.{ℕ, ◌+◌, ◌-◌, ◌*◌, Bool, ◌||◌, no
 use Rattle.std.specs.Char.{is_ascii_alphabetic, is_ascii_alphanumeric, is_ascii_digit}
 use Rattle.std.specs.List.{prefix_len}
 use Rattle.pb_text.specs.Spellings.{key_of, mark_at, mark_spelling, begins_with}
+use Rattle.pb_text.specs.declared.limits.TheConstants.{MOST_NUMBER}
 use Rattle.pb_text.specs.declared.token.TokenKind.{TokenKind}
 use Rattle.pb_text.specs.declared.token.TokenKind.TheVariants as kind
 use Rattle.pb_text.specs.declared.token.Key.{Key}
@@ -73,7 +74,7 @@ abbrev pub number : List ℕ → Lexeme
 number text =
     let len = prefix_len is_ascii_digit text in
     let value = value_from 0 (take len text) in
-    if nat_le value 2000000000 then token (kind.Number value) len else bad number_too_large
+    if nat_le value MOST_NUMBER then token (kind.Number value) len else bad number_too_large
 
 abbrev pub mark_token : Option Mark → Lexeme
 mark_token None = bad bad_byte

@@ -4,6 +4,7 @@ use Rattle.std.specs.List.{All}
 use Rattle.pb_text.specs.Places.{first_place, place_after}
 use Rattle.pb_text.specs.Lexemes.{gap, token, bad, Fault, lexeme, begins_word, goes_on_word}
 use Rattle.pb_text.specs.Spellings.{key_of}
+use Rattle.pb_text.specs.declared.limits.TheConstants.{MOST_NUMBER}
 use Rattle.pb_text.specs.declared.place.Place.{Place}
 use Rattle.pb_text.specs.declared.token.Token.{Token}
 use Rattle.pb_text.specs.declared.token.TokenKind.{TokenKind}
@@ -39,7 +40,7 @@ pub record IsName (name : List ℕ) : Type 0 where
 abbrev pub IsSoundKind : TokenKind → Type 0
 IsSoundKind (kind.Word name) = IsName name
 IsSoundKind (kind.Key key) = Unit {0}
-IsSoundKind (kind.Number n) = n ≤ 2000000000
+IsSoundKind (kind.Number n) = n ≤ MOST_NUMBER
 IsSoundKind (kind.Mark mark) = Unit {0}
 
 abbrev pub IsSoundToken : Token → Type 0

@@ -1,4 +1,4 @@
-use super::{Name, Names, Words, push_number};
+use super::{Key, Name, Names, Words, push_decimal, push_number};
 use std::test::Fail;
 
 #[test]
@@ -43,5 +43,31 @@ fn numbers_are_decimal(rt: HostRuntime) -> Result<(), Fail> {
 fn words_keep_their_order(rt: HostRuntime) -> Result<(), Fail> {
     let words = Words::of([3, 1, 2].to_vec(rt.alloc())?);
     assert_eq!(rt; words.list(), [3, 1, 2].as_slice());
+    Ok(())
+}
+
+#[test]
+fn digits_of_small_and_large_numbers(rt: HostRuntime) -> Result<(), Fail> {
+    let mut text = Vec::new(rt.alloc());
+    for n in [0, 9, 10, 99, 100, 18_446_744_073_709_551_615] {
+        push_decimal(&mut text, n)?;
+        text.push(b' ')?;
+    }
+    let wanted = b"0 9 10 99 100 18446744073709551615 ";
+    assert_eq!(rt; text.as_slice(), wanted.as_slice());
+    Ok(())
+}
+
+#[test]
+fn keywords_are_spelled(rt: HostRuntime) -> Result<(), Fail> {
+    let mut text = Vec::new(rt.alloc());
+    for key in Key::all() {
+        text.extend_from_slice(key.spelling())?;
+        text.push(b' ')?;
+    }
+    let wanted =
+        b"const global protocol role from to foreach rec continue choice at or compute barrier \
+broadcast reduce allreduce with max min sum int32 uint32 do ";
+    assert_eq!(rt; text.as_slice(), wanted.as_slice());
     Ok(())
 }

@@ -1,4 +1,5 @@
 ghost use Rattle.std.specs.Prelude.{◌≡◌, ◌≤◌, length, None, true};
+ghost use Rattle.pb_text.specs.declared.limits.TheConstants.{MOST_NUMBER};
 ghost use Rattle.pb_syntax.specs.Plain.{plain_file};
 ghost use Rattle.pb_core_language.specs.FileRules.{broken};
 ghost use Rattle.pb_core_language.specs.Meaning.{meaning};
@@ -53,7 +54,7 @@ fn report_for<F: Folder>(alloc: Global, words: &[String], folder: &mut F) -> Res
 }
 
 fn file_report<F: Folder>(alloc: Global, folder: &mut F, request: &Request) -> Result<Text, Fault>
-    requires { request.now.n ≤ 2000000000 }
+    requires { request.now.n ≤ MOST_NUMBER }
 {
     match read_all(alloc, folder, request.file, MOST_BYTES) {
         Ok(bytes) => bytes_report(alloc, &bytes, request.n, request.actions),
@@ -66,7 +67,7 @@ fn file_report<F: Folder>(alloc: Global, folder: &mut F, request: &Request) -> R
 /// The report on the protocol in the bytes of a file.
 fn bytes_report(alloc: Global, bytes: &[u8], n: u32, actions: u32) -> Result<Text, Fault>
     requires bytes { length bytes.now ≤ 1048576 }
-    requires n { n ≤ 2000000000 }
+    requires n { n ≤ MOST_NUMBER }
 {
     match parse(alloc, bytes) {
         Ok(file) => tree_report(alloc, &file, n, actions),
@@ -78,7 +79,7 @@ fn bytes_report(alloc: Global, bytes: &[u8], n: u32, actions: u32) -> Result<Tex
 fn tree_report(alloc: Global, file: &FileTree, n: u32, actions: u32) -> Result<Text, Fault>
     requires countable { IsCountable (plain_file file.now) }
     requires sound { broken (plain_file file.now) ≡ None → is_sound (meaning (plain_file file.now)) ≡ true }
-    requires n { n ≤ 2000000000 }
+    requires n { n ≤ MOST_NUMBER }
 {
     match lower(alloc, file) {
         Ok(core) => {

@@ -1,7 +1,6 @@
 ghost use Rattle.std.specs.Prelude.{◌≤◌, IfSome};
 
-/// The greatest N.
-const MOST_N: u32 = 2_000_000_000;
+use pb_text::MOST_NUMBER;
 
 /// The greatest number of actions that can be asked for.
 const MOST_ACTIONS: u32 = 1_000_000;
@@ -22,15 +21,15 @@ pub struct Request<'a> {
 
 /// What the words FILE N or FILE N M ask for. None where they are in no such form.
 pub fn read_request(words: &[String]) -> Option<Request<'_>>
-    ensures { IfSome result (λ request. request.n ≤ 2000000000) }
+    ensures { IfSome result (λ request. request.n ≤ MOST_NUMBER) }
 {
     match words {
         [file, n] => {
-            let n = number(n.as_str(), MOST_N);
+            let n = number(n.as_str(), MOST_NUMBER);
             request_of(file.as_str(), n, Some(USUAL_ACTIONS))
         }
         [file, n, actions] => {
-            let n = number(n.as_str(), MOST_N);
+            let n = number(n.as_str(), MOST_NUMBER);
             let actions = number(actions.as_str(), MOST_ACTIONS);
             request_of(file.as_str(), n, actions)
         }
@@ -39,8 +38,8 @@ pub fn read_request(words: &[String]) -> Option<Request<'_>>
 }
 
 fn request_of(file: &str, n: Option<u32>, actions: Option<u32>) -> Option<Request<'_>>
-    requires { IfSome n (λ x. x ≤ 2000000000) }
-    ensures { IfSome result (λ request. request.n ≤ 2000000000) }
+    requires { IfSome n (λ x. x ≤ MOST_NUMBER) }
+    ensures { IfSome result (λ request. request.n ≤ MOST_NUMBER) }
 {
     match (n, actions) {
         (Some(n), Some(actions)) => Some(Request { file, n, actions }),

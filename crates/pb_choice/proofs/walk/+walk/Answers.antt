@@ -2,7 +2,7 @@ use Rattle.std.proofs.Common.{ap, sym, ◌∙◌, subst, map}
 use Rattle.pb_core_language.specs.Plain.{plain_block, plain_stmt, branches_of}
 use Rattle.pb_part_takers.specs.Loops.{ids_of, held_of}
 use Rattle.pb_choice.specs.Walks.{FirstOf, FirstLone, FirstAmong}
-use Rattle.pb_choice.proofs.Plains.{mark_is, block_mark_is, plain_loop, plain_choice}
+use Rattle.pb_core_language.proofs.Plains.{plain_mark, block_mark, plain_loop, plain_choice}
 use Rattle.pb_choice.proofs.Blocks.{block_step, block_stops, block_done}
 use Rattle.pb_choice.proofs.Bodies.{loop_first}
 use Rattle.pb_choice.proofs.Branching.{among_start, among_step, among_done, choice_first}
@@ -31,7 +31,7 @@ branch_kept-returns t c =
     c.args.past.now.entries.items c.args.past.now.mixed.items c.rules_kept.new.past.entries.items c.rules_kept.new.past.mixed.items c.args.best c.in_ok-first.first c.in_ok-last.last
     c.new-here.ensures.items c.deref.ensures.value c.deref-2.ensures.value c.in_ok-reach.ensures c.in_ok-left.ensures.gives c.in_ok-left.ensures.small
     (subst (λ m. FirstOf c.args.setting.now.range c.args.setting.now.whole.now c.deref.result.now c.deref-2.result.now m
-    c.args.past.now.entries.items c.args.past.now.mixed.items c.rules_kept.new.past.entries.items c.rules_kept.new.past.mixed.items c.args.best c.in_ok-first.first) (sym (block_mark_is c.args.branch.now)) c.in_ok-first.ensures)
+    c.args.past.now.entries.items c.args.past.now.mixed.items c.rules_kept.new.past.entries.items c.rules_kept.new.past.mixed.items c.args.best c.in_ok-first.first) (sym (block_mark c.args.branch.now)) c.in_ok-first.ensures)
     c.in_ok-last.ensures
 
 pub branches_kept-loop-branch-init : goal.branches_kept-loop-branch-init
@@ -55,7 +55,7 @@ stmt_kept-returns-in_ok-last-in-Loop t c =
     c.in-Loop.id (plain_block c.in-Loop.body).block c.in_ok-areas-in-Loop.areas.items c.deref.result.now c.args.best c.in_ok-first-in-Loop.first c.in_ok-last-in-Loop.last (plain_stmt c.args.statement.now).stmt
     (plain_loop c.args.statement.now c.in-Loop.id c.in-Loop.body c.in-Loop.is) c.deref.ensures.value c.in_ok-areas-in-Loop.ensures
     (subst (λ m. FirstLone c.args.setting.now.range c.args.setting.now.whole.now c.args.held.now m c.in-Loop.id (plain_block c.in-Loop.body).block c.deref.result.now c.args.best c.in_ok-first-in-Loop.first)
-    (sym (mark_is c.args.statement.now)) c.in_ok-first-in-Loop.ensures)
+    (sym (plain_mark c.args.statement.now)) c.in_ok-first-in-Loop.ensures)
     (ap ids_of c.deref-in-Loop.ensures.value ∙ c.in_ok-inside-in-Loop.ensures.ids)
     (λ n role x. ap (λ l. held_of l n role x) c.deref-in-Loop.ensures.value ∙ c.in_ok-inside-in-Loop.ensures.held n role x) c.in_ok-last-in-Loop.ensures
 

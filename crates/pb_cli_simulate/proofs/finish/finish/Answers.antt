@@ -1,6 +1,7 @@
 use Rattle.std.proofs.Common.{sym, subst}
 use Rattle.pb_local.specs.Tree.{program_of}
-use Rattle.pb_cli_simulate.specs.Endings.{last_line, status_of, Says}
+use Rattle.pb_cli_status.specs.Written.{Says}
+use Rattle.pb_cli_simulate.specs.Endings.{last_line, status_of}
 use Rattle.pb_cli_simulate.proofs.finish.finish.Goals as goal
 
 pub returns-in-Stuck-clause-said : goal.returns-in-Stuck-clause-said

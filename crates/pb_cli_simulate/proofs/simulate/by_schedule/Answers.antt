@@ -4,7 +4,8 @@ use Rattle.pb_ctree.specs.declared.tree.CTree.{CTree}
 use Rattle.pb_cli_words.specs.declared.options.Shown.TheVariants as H
 use Rattle.pb_sim_play.specs.Plans.{drawn, given, pair_of}
 use Rattle.pb_sim_play.specs.Endings.{Tells}
-use Rattle.pb_cli_simulate.specs.Endings.{last_line, status_of, Says}
+use Rattle.pb_cli_status.specs.Written.{Says}
+use Rattle.pb_cli_simulate.specs.Endings.{last_line, status_of}
 use Rattle.pb_cli_simulate.proofs.Told.{early, told, begun_starts}
 use Rattle.pb_cli_simulate.proofs.simulate.by_schedule.Goals as goal
 

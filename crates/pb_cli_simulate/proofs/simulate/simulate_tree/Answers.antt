@@ -4,7 +4,7 @@ use Rattle.pb_cli_words.specs.declared.options.Shown.TheVariants as H
 use Rattle.pb_sim.specs.Made.{IsNoStart}
 use Rattle.pb_sim_play.specs.Plans.{drawn, given, pair_of}
 use Rattle.pb_sim_play.proofs.Turns.{carry}
-use Rattle.pb_cli_simulate.specs.Endings.{Says}
+use Rattle.pb_cli_status.specs.Written.{Says}
 use Rattle.pb_cli_simulate.specs.Replies.{SaysReply}
 use Rattle.pb_cli_simulate.proofs.Told.{denied}
 use Rattle.pb_cli_simulate.proofs.simulate.simulate_tree.Goals as goal

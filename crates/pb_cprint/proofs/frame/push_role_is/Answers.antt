@@ -13,7 +13,7 @@ unfolding role_is
 returns c =
     line_of 2 ((codes "R = ") ∷ (decimal c.args.role) ∷ (codes ";") ∷ []) c.args.out.now.items c.push_indent.new.out.items c.push_pieces-2.new.out.items c.push.new.self.items c.in_ok-push_indent.ensures
     (steps c.push_indent.new.out.items c.push_pieces.new.out.items c.push_pieces-2.new.out.items ((codes "R = ") ∷ []) ((decimal c.args.role) ∷ (codes ";") ∷ []) c.in_ok-push_pieces.ensures
-    (step c.push_pieces.new.out.items c.push_count.new.out.items c.push_pieces-2.new.out.items (decimal c.args.role) ((codes ";") ∷ []) c.in_ok-push_count.ensures
-    (steps c.push_count.new.out.items c.push_pieces-2.new.out.items c.push_pieces-2.new.out.items ((codes ";") ∷ []) [] c.in_ok-push_pieces-2.ensures
+    (step c.push_pieces.new.out.items c.push_decimal.new.out.items c.push_pieces-2.new.out.items (decimal c.args.role) ((codes ";") ∷ []) c.in_ok-push_decimal.ensures.ok
+    (steps c.push_decimal.new.out.items c.push_pieces-2.new.out.items c.push_pieces-2.new.out.items ((codes ";") ∷ []) [] c.in_ok-push_pieces-2.ensures
     (done c.push_pieces-2.new.out.items))))
     c.in_ok-push.ensures.items

@@ -19,10 +19,10 @@ loop-visit-preserved c = record {
       let small = end_at c.args.visits.now c.loop-visit.visit-index c.loop-visit-test.true h in
       let near = finding_at c.args.visits.now c.loop-visit.visit-index c.loop-visit-test.true h in
       c.loop-visit.invariant.gives range roles h k left new
-      (turn_step (λ n. at_fixed roles n (at c.args.turns.low n) (at c.args.turns.high n) (map visit_of c.args.visits.now))
-      c.args.visits.now c.loop-visit.visit-index blank _ (fixed_some roles c.args.turns (map visit_of c.args.visits.now)) c.loop-visit-test.true
+      (turn_step (λ n. at_fixed roles n (at c.args.over.low n) (at c.args.over.high n) (map visit_of c.args.visits.now))
+      c.args.visits.now c.loop-visit.visit-index blank _ (fixed_some roles c.args.over (map visit_of c.args.visits.now)) c.loop-visit-test.true
       (λ n role x w r. ap (λ z. have z n role x) c.deref-in-loop-visit.ensures.value ∙ c.in_ok-here.ensures.is small h k roles n role x (from_zero range n w))
-      (λ n role x w. c.kind_of-kind.ensures.is (small_of_bound c.args.turns.low k.low) near roles n x ∙ ap (λ z. outcome_at roles n z (finding_of (get_or c.args.visits.now c.loop-visit.visit-index blank).finding)) (low_is c.args.turns n x k))
+      (λ n role x w. c.kind_of-kind.ensures.is (small_of_bound c.args.over.low k.low) near roles n x ∙ ap (λ z. outcome_at roles n z (finding_of (get_or c.args.visits.now c.loop-visit.visit-index blank).finding)) (low_is c.args.over n x k))
       (c.in_ok-left.ensures.gives roles) g);
   fits = λ range cuts h k e a r s.
       let now = c.loop-visit.invariant.fits range cuts h k e a r s in
@@ -35,11 +35,11 @@ loop-visit-preserved c = record {
 
 pub returns-then-is_nobody-clause-gives : goal.returns-then-is_nobody-clause-gives
 returns-then-is_nobody-clause-gives c = λ range roles h k.
-    turns_cut (found_at (λ n. at_fixed roles n (at c.args.turns.low n) (at c.args.turns.high n) (map visit_of c.args.visits.now)) c.args.visits.now) (found_at (λ n. at_fixed roles n (at c.args.turns.low n) (at c.args.turns.high n) (map visit_of c.args.visits.now)) (drop c.loop-visit.visit-index c.args.visits.now))
+    turns_cut (found_at (λ n. at_fixed roles n (at c.args.over.low n) (at c.args.over.high n) (map visit_of c.args.visits.now)) c.args.visits.now) (found_at (λ n. at_fixed roles n (at c.args.over.low n) (at c.args.over.high n) (map visit_of c.args.visits.now)) (drop c.loop-visit.visit-index c.args.visits.now))
     (sym c.deref.ensures.value ∙ c.is_nobody.ensures c.if-is_nobody.true) (c.loop-visit.invariant.gives range roles h k)
 
 pub returns-clause-gives : goal.returns-clause-gives
-returns-clause-gives c = λ range roles h k. turns_done (λ n. at_fixed roles n (at c.args.turns.low n) (at c.args.turns.high n) (map visit_of c.args.visits.now)) c.args.visits.now c.loop-visit.visit-index c.loop-visit-test.false (c.loop-visit.invariant.gives range roles h k)
+returns-clause-gives c = λ range roles h k. turns_done (λ n. at_fixed roles n (at c.args.over.low n) (at c.args.over.high n) (map visit_of c.args.visits.now)) c.args.visits.now c.loop-visit.visit-index c.loop-visit-test.false (c.loop-visit.invariant.gives range roles h k)
 
 pub returns-then-is_nobody-clause-fits : goal.returns-then-is_nobody-clause-fits
 returns-then-is_nobody-clause-fits c = λ range cuts h k e a r s. c.loop-visit.invariant.fits range cuts h k e a r s

@@ -18,8 +18,8 @@ loop-visit-preserved c = record {
       let small = end_at c.args.visits.now c.loop-visit.visit-index c.loop-visit-test.true h in
       let near = finding_at c.args.visits.now c.loop-visit.visit-index c.loop-visit-test.true h in
       c.loop-visit.invariant.gives range roles h k left new
-      (turn_step (λ n. at_some roles n (at c.args.turns.low n) (at c.args.turns.high n))
-      c.args.visits.now c.loop-visit.visit-index blank _ (some_some roles c.args.turns) c.loop-visit-test.true
+      (turn_step (λ n. at_some roles n (at c.args.over.low n) (at c.args.over.high n))
+      c.args.visits.now c.loop-visit.visit-index blank _ (some_some roles c.args.over) c.loop-visit-test.true
       (λ n role x w r. ap (λ z. have z n role x) c.deref-in-loop-visit.ensures.value ∙ c.in_ok-here.ensures.is n role x ∙ c.passed_area.ensures.is small k n role x (from_zero range n w))
       (λ n role x w. c.kind_of-kind.ensures.is (back_small (get_or c.args.visits.now c.loop-visit.visit-index blank).end.at c.back.result small c.back.ensures) near roles n x ∙ ap (λ z. outcome_at roles n z (finding_of (get_or c.args.visits.now c.loop-visit.visit-index blank).finding)) (back_is (get_or c.args.visits.now c.loop-visit.visit-index blank).end.at c.back.result n x small c.back.ensures))
       (c.in_ok-left.ensures.gives roles) g);
@@ -34,11 +34,11 @@ loop-visit-preserved c = record {
 
 pub returns-then-is_nobody-clause-gives : goal.returns-then-is_nobody-clause-gives
 returns-then-is_nobody-clause-gives c = λ range roles h k.
-    turns_cut (found_at (λ n. at_some roles n (at c.args.turns.low n) (at c.args.turns.high n)) c.args.visits.now) (found_at (λ n. at_some roles n (at c.args.turns.low n) (at c.args.turns.high n)) (drop c.loop-visit.visit-index c.args.visits.now))
+    turns_cut (found_at (λ n. at_some roles n (at c.args.over.low n) (at c.args.over.high n)) c.args.visits.now) (found_at (λ n. at_some roles n (at c.args.over.low n) (at c.args.over.high n)) (drop c.loop-visit.visit-index c.args.visits.now))
     (sym c.deref.ensures.value ∙ c.is_nobody.ensures c.if-is_nobody.true) (c.loop-visit.invariant.gives range roles h k)
 
 pub returns-clause-gives : goal.returns-clause-gives
-returns-clause-gives c = λ range roles h k. turns_done (λ n. at_some roles n (at c.args.turns.low n) (at c.args.turns.high n)) c.args.visits.now c.loop-visit.visit-index c.loop-visit-test.false (c.loop-visit.invariant.gives range roles h k)
+returns-clause-gives c = λ range roles h k. turns_done (λ n. at_some roles n (at c.args.over.low n) (at c.args.over.high n)) c.args.visits.now c.loop-visit.visit-index c.loop-visit-test.false (c.loop-visit.invariant.gives range roles h k)
 
 pub returns-then-is_nobody-clause-fits : goal.returns-then-is_nobody-clause-fits
 returns-then-is_nobody-clause-fits c = λ range cuts h k a r s. c.loop-visit.invariant.fits range cuts h k a r s

@@ -5,7 +5,7 @@ use Rattle.pb_part_areas.specs.Areas.{have, at}
 use Rattle.pb_core_flat.specs.Seated.{is_at}
 use Rattle.pb_core_flat.specs.Meets.{is_moving}
 use Rattle.pb_core_flat.specs.Stops.{has_fixed}
-use Rattle.pb_part_firsts.specs.Visits.{visit_of, bounds_of, IsBounded, VisitsAmong, are_narrow}
+use Rattle.pb_part_firsts.specs.Visits.{visit_of, IsBounded, VisitsAmong, are_narrow}
 use Rattle.std.specs.List.{All}
 use Rattle.pb_affine.specs.declared.lin.Lin.{Lin}
 use Rattle.pb_affine.specs.declared.range.NRange.{NRange}
@@ -16,9 +16,9 @@ use Rattle.pb_part_firsts.proofs.ends.meeting_areas.Given as goal
 
 abbrev pub invariant-loop-visit : goal.invariant-loop-visit
 invariant-loop-visit l = record {
-  is : is_moving l.mover ≡ true → is_small l.mover.at.off ≡ true → are_narrow (map visit_of l.visits) ≡ true → IsBounded l.turns → (roles : List CoreRole) (n : ℤ) (role : ℕ) (x : ℤ) → pos 0 ≤ℤ n →
-      have l.areas.items n role x || (int_le (at l.turns.low n) (at l.turns.high n) && (is_at l.mover n (at l.turns.low n) role x && has_fixed roles n (map visit_of (drop l.visit-index l.visits)) role x))
-      ≡ int_le (at l.turns.low n) (at l.turns.high n) && (is_at l.mover n (at l.turns.low n) role x && has_fixed roles n (map visit_of l.visits) role x);
-  fits : is_moving l.mover ≡ true → is_small l.mover.at.off ≡ true → are_narrow (map visit_of l.visits) ≡ true → IsBounded l.turns → (range : NRange) (cuts : List Lin) →
-      AreAmong (edges l.turns.low l.turns.high) cuts → AreAmong (end_cuts (Some (bounds_of l.turns)) l.mover) cuts → VisitsAmong (bounds_of l.turns) cuts (map visit_of l.visits) → All (Fits range cuts) l.areas.items;
+  is : is_moving l.mover ≡ true → is_small l.mover.at.off ≡ true → are_narrow (map visit_of l.visits) ≡ true → IsBounded l.over → (roles : List CoreRole) (n : ℤ) (role : ℕ) (x : ℤ) → pos 0 ≤ℤ n →
+      have l.areas.items n role x || (int_le (at l.over.low n) (at l.over.high n) && (is_at l.mover n (at l.over.low n) role x && has_fixed roles n (map visit_of (drop l.visit-index l.visits)) role x))
+      ≡ int_le (at l.over.low n) (at l.over.high n) && (is_at l.mover n (at l.over.low n) role x && has_fixed roles n (map visit_of l.visits) role x);
+  fits : is_moving l.mover ≡ true → is_small l.mover.at.off ≡ true → are_narrow (map visit_of l.visits) ≡ true → IsBounded l.over → (range : NRange) (cuts : List Lin) →
+      AreAmong (edges l.over.low l.over.high) cuts → AreAmong (end_cuts (Some l.over) l.mover) cuts → VisitsAmong l.over cuts (map visit_of l.visits) → All (Fits range cuts) l.areas.items;
 }

@@ -7,7 +7,7 @@ use Rattle.pb_core_language.specs.Cuts.{end_cuts, branches_cuts}
 use Rattle.pb_core_language.specs.Plain.{plain_block}
 use Rattle.pb_part_takers.specs.Loops.{ids_of}
 use Rattle.pb_part_takers.proofs.Among.{among_right}
-use Rattle.pb_part_takers.proofs.Plains.{plain_message, plain_foreach, plain_loop, plain_again, plain_choice, plain_run, plain_barrier, plain_broadcast, plain_reduce, plain_allreduce}
+use Rattle.pb_core_language.proofs.Plains.{plain_message, plain_foreach, plain_loop, plain_again, plain_choice, plain_run, plain_barrier, plain_broadcast, plain_reduce, plain_allreduce}
 use Rattle.pb_part_firsts.proofs.TakersAs.{takers_as}
 use Rattle.pb_part_firsts.proofs.Steps.{trees_of, stmt_sound, rest_sound, tree_sound, branch_sound, others_sound, turned_sound, body_sound, choice_sound, stmt_among, rest_among, tree_among, branch_among, others_among, turned_among}
 use Rattle.pb_part_firsts.proofs.Searches.{within_step, within_done, across_step, across_done, below_in_loop, below_as, below_none}

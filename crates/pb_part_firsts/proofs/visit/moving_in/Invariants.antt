@@ -2,7 +2,7 @@ use Rattle.std.proofs.Common.{◌≡◌, List, map, take, true}
 use Rattle.pb_core_flat.specs.Stops.{moving, IsByFalling}
 use Rattle.pb_part_firsts.specs.Visits.{visit_of, are_narrow, VisitsAmong, MoversAmong}
 use Rattle.pb_affine.specs.declared.lin.Lin.{Lin}
-use Rattle.pb_core_language.specs.Tree.{Bounds}
+use Rattle.pb_core_language.specs.declared.tree.Bounds.{Bounds}
 use Rattle.pb_part_firsts.proofs.visit.moving_in.Given as goal
 
 abbrev pub invariant-loop-visit : goal.invariant-loop-visit

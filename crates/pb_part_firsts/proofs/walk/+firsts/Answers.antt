@@ -4,7 +4,7 @@ use Rattle.pb_core_language.specs.Plain.{plain_block, plain_stmt}
 use Rattle.pb_part_areas.specs.Areas.{have}
 use Rattle.pb_part_firsts.specs.Firsts.{first_in}
 use Rattle.pb_part_takers.specs.Loops.{ids_of}
-use Rattle.pb_part_firsts.proofs.Plains.{plain_message, plain_foreach, plain_loop, plain_choice, plain_run}
+use Rattle.pb_core_language.proofs.Plains.{plain_message, plain_foreach, plain_loop, plain_choice, plain_run}
 use Rattle.pb_part_firsts.proofs.Outcomes.{nobody_comes}
 use Rattle.pb_part_firsts.proofs.Singles.{run_gives}
 use Rattle.std.specs.List.{All}

@@ -1,7 +1,7 @@
 use Rattle.std.proofs.Common.{ap, sym, ◌∙◌, map}
 use Rattle.pb_core_language.specs.Plain.{plain_stmt, block_of}
 use Rattle.pb_part_takers.specs.Numbered.{is_within}
-use Rattle.pb_part_takers.proofs.Plains.{plain_list}
+use Rattle.pb_core_language.proofs.Plains.{plain_list}
 use Rattle.pb_part_takers.proofs.Quiet.{it_later, it_here, it_nowhere, branch_later, branch_here, branch_nowhere}
 use Rattle.pb_part_takers.proofs.scan.+scanning.Goals as goal
 

@@ -9,7 +9,7 @@ use Rattle.pb_core_flat.specs.Seated.{rank}
 use Rattle.pb_part_takers.specs.Loops.{ids_of}
 use Rattle.pb_part_takers.proofs.Quiet.{quiet_within}
 use Rattle.pb_part_takers.proofs.Finds as finds
-use Rattle.pb_part_takers.proofs.Plains.{plain_list, plain_message, plain_foreach, plain_loop, plain_again, plain_choice, plain_run, plain_barrier, plain_broadcast, plain_reduce, plain_allreduce}
+use Rattle.pb_core_language.proofs.Plains.{plain_list, plain_message, plain_foreach, plain_loop, plain_again, plain_choice, plain_run, plain_barrier, plain_broadcast, plain_reduce, plain_allreduce}
 use Rattle.pb_part_takers.proofs.search.+finding.Goals as goal
 
 pub within-loop-stmt-preserved : goal.within-loop-stmt-preserved

@@ -6,7 +6,7 @@ use Rattle.pb_part_takers.specs.Loops.{IsInside}
 use Rattle.pb_part_takers.specs.Pieces.{IsAdded, stmt_piece, block_piece, branches_piece, stmt_of}
 use Rattle.pb_part_takers.proofs.HeldLoops.{from_place}
 use Rattle.pb_part_takers.proofs.Steps.{nothing_added, block_more, block_last, branch_more, run_added, choice_added, loop_added, joint_added, of_kind}
-use Rattle.pb_part_takers.proofs.Plains.{plain_list, plain_message, plain_foreach, plain_loop, plain_again, plain_choice, plain_run, plain_barrier, plain_broadcast, plain_reduce, plain_allreduce}
+use Rattle.pb_core_language.proofs.Plains.{plain_list, plain_message, plain_foreach, plain_loop, plain_again, plain_choice, plain_run, plain_barrier, plain_broadcast, plain_reduce, plain_allreduce}
 use Rattle.pb_part_takers.proofs.walk.+taking.Goals as goal
 
 pub takers_in-loop-stmt-preserved : goal.takers_in-loop-stmt-preserved

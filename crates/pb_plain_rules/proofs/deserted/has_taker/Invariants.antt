@@ -1,7 +1,7 @@
 use Rattle.std.proofs.Common.{◌≡◌, false, ◌∷◌}
 use Rattle.pb_core_language.specs.Flat.{takes_part}
 use Rattle.pb_core_language.specs.Run.{at_rank}
-use Rattle.pb_core_language.specs.Rules.{some_below}
+use Rattle.pb_core_language.specs.Lists.{some_below}
 use Rattle.pb_plain.specs.View.{view}
 use Rattle.pb_plain_rules.specs.Depth.{env_of}
 use Rattle.pb_plain_rules.proofs.deserted.has_taker.Given as goal

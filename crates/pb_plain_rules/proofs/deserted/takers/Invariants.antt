@@ -1,6 +1,6 @@
 use Rattle.std.proofs.Common.{◌≡◌, false, [], ◌∷◌}
 use Rattle.pb_core_language.specs.Flat.{takes_part}
-use Rattle.pb_core_language.specs.Rules.{over_below}
+use Rattle.pb_core_language.specs.Lists.{over_below}
 use Rattle.pb_plain.specs.Loops.{held_at}
 use Rattle.pb_plain.specs.View.{view}
 use Rattle.pb_plain_rules.proofs.deserted.takers.Given as goal

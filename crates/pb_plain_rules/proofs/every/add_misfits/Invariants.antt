@@ -1,6 +1,7 @@
 use Rattle.std.proofs.Common.{◌≡◌, ◌++◌, [], map}
 use Rattle.pb_core_language.specs.Ranks.{seat_at}
-use Rattle.pb_core_language.specs.Rules.{over_below, ranked, misfits}
+use Rattle.pb_core_language.specs.Lists.{over_below}
+use Rattle.pb_core_language.specs.Rules.{ranked, misfits}
 use Rattle.pb_plain.specs.View.{view, seat_of}
 use Rattle.pb_plain_rules.specs.Breaches.{breach_of}
 use Rattle.pb_plain_rules.specs.Fits.{fits}

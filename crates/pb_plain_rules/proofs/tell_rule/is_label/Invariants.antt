@@ -1,5 +1,6 @@
 use Rattle.std.proofs.Common.{◌≡◌, map, drop}
-use Rattle.pb_core_language.specs.Outcomes.{is_among, labels_of}
+use Rattle.pb_core_language.specs.Lists.{is_among}
+use Rattle.pb_core_language.specs.Outcomes.{labels_of}
 use Rattle.pb_plain.specs.Finds.{outcome_of}
 use Rattle.pb_plain_rules.proofs.tell_rule.is_label.Given as goal
 

@@ -14,7 +14,7 @@ use Rattle.pb_project.specs.Blocks.{IsStmtOf, parts_now}
 use Rattle.pb_project.specs.Learning.{AreTests, AreRelays}
 use Rattle.pb_project.proofs.Looping.{loop_there, loop_gone}
 use Rattle.std.proofs.lemmas.Result.{on_ok_weaker}
-use Rattle.pb_choice.proofs.Plains.{plain_choice}
+use Rattle.pb_core_language.proofs.Plains.{plain_choice}
 use Rattle.pb_project.specs.Takers.{AreTakers}
 use Rattle.pb_project.proofs.Choosing.{choice_there, choice_gone}
 use Rattle.pb_project.proofs.Straight.{kind_of, straight_is, straight_by}

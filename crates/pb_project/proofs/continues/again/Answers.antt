@@ -1,6 +1,6 @@
 use Rattle.std.proofs.Common.{ap, ◌∙◌}
 use Rattle.pb_local.specs.Tree as L
-use Rattle.pb_shape.specs.Shape.{number_at}
+use Rattle.pb_shape.specs.Loops.{number_at}
 use Rattle.pb_project_piece.proofs.Codes.{again_plain}
 use Rattle.pb_project.proofs.GoesBack.{number_is}
 use Rattle.pb_project.proofs.continues.again.Goals as goal

@@ -1,5 +1,5 @@
 use Rattle.std.proofs.Common.{◌≡◌, ◌++◌, map, drop}
-use Rattle.pb_shape.specs.Shape.{role_of}
+use Rattle.pb_shape.specs.Places.{role_of}
 use Rattle.pb_project.proofs.local.roles_of.Given as goal
 
 abbrev pub invariant-loop-role : goal.invariant-loop-role

@@ -8,7 +8,8 @@ use Rattle.pb_part_takers.specs.Loops.{ids_of, HeldFit}
 use Rattle.pb_part_takers.specs.Pieces.{AreAmong}
 use Rattle.pb_part_firsts.specs.Takers.{IsWhole}
 use Rattle.pb_part_firsts.proofs.Steps.{trees_of}
-use Rattle.pb_shape.specs.Shape.{Scope, Around}
+use Rattle.pb_shape.specs.Places.{Scope}
+use Rattle.pb_shape.specs.Loops.{Around}
 use Rattle.pb_project_choice.specs.Found.{IsAround}
 use Rattle.pb_project_choice.proofs.Firsts.{FirstSoFar}
 use Rattle.pb_project_choice.proofs.entries.branches_of.Given as goal

@@ -9,7 +9,8 @@ use Rattle.pb_core_flat.specs.Seated.{is_rank}
 use Rattle.pb_local.specs.Tree.{Program}
 use Rattle.pb_local.specs.WellMade.{IsRange, IsTest}
 use Rattle.pb_project_piece.specs.Standing.{Stands}
-use Rattle.pb_shape.specs.Shape.{Scope, guards_of}
+use Rattle.pb_shape.specs.Places.{Scope}
+use Rattle.pb_shape.specs.Choices.{guards_of}
 use Rattle.pb_project_choice.specs.Found.{entries_at, tells, AreKnown}
 use Rattle.pb_project_choice.specs.Tested.{AscendTo}
 use Rattle.pb_project_choice.proofs.testing.tests_of.Given as goal

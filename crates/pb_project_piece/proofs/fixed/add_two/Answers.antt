@@ -1,5 +1,5 @@
 use Rattle.pb_core_language.specs.Sound.{is_end}
-use Rattle.pb_shape.specs.Shape.{is_fixed}
+use Rattle.pb_shape.specs.Pieces.{is_fixed}
 use Rattle.std.proofs.Common.{true}
 use Rattle.pb_project_piece.proofs.StillEnds.{two_ends}
 use Rattle.pb_project_piece.proofs.fixed.add_two.Goals as goal

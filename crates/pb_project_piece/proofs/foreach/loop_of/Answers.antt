@@ -1,6 +1,6 @@
 use Rattle.pb_core_language.specs.Plain.{plain_block}
 use Rattle.pb_local.specs.declared.stmt.Stmt.TheVariants.{For}
-use Rattle.pb_project_piece.proofs.Codes.{for_plain}
+use Rattle.pb_local.proofs.Plains.{for_plain}
 use Rattle.pb_project_piece.proofs.Loops.{loop_rounds}
 use Rattle.pb_project_piece.proofs.foreach.loop_of.Goals as goal
 

@@ -1,7 +1,7 @@
 use Rattle.std.proofs.Common.{ap, inl, inr}
 use Rattle.pb_core_language.specs.Plain.{plain_stmt}
 use Rattle.pb_core_language.specs.Sound.{is_item}
-use Rattle.pb_part_takers.proofs.Plains.{plain_foreach, plain_loop, plain_again, plain_choice, plain_barrier, plain_broadcast, plain_reduce, plain_allreduce}
+use Rattle.pb_core_language.proofs.Plains.{plain_foreach, plain_loop, plain_again, plain_choice, plain_barrier, plain_broadcast, plain_reduce, plain_allreduce}
 use Rattle.pb_project_piece.proofs.Items.{nothing_put}
 use Rattle.pb_project_piece.proofs.item.put_item.Goals as goal
 

@@ -1,6 +1,6 @@
 use Rattle.std.proofs.Common.{ap, inl, inr}
 use Rattle.pb_core_language.specs.Plain.{plain_stmt}
-use Rattle.pb_part_takers.proofs.Plains.{plain_loop, plain_again, plain_choice}
+use Rattle.pb_core_language.proofs.Plains.{plain_loop, plain_again, plain_choice}
 use Rattle.pb_project_piece.specs.Pieces.{is_straight}
 use Rattle.pb_project_piece.proofs.Straight.{nothing_piece}
 use Rattle.pb_project_piece.proofs.piece.put_piece.Goals as goal

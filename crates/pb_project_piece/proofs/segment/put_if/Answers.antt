@@ -1,5 +1,5 @@
 use Rattle.std.proofs.Common.{refl}
-use Rattle.pb_shape.specs.Shape.{is_at_offset}
+use Rattle.pb_shape.specs.Segments.{is_at_offset}
 use Rattle.pb_local.specs.Tree.{plain}
 use Rattle.pb_project_piece.proofs.Segments.{put_one, put_none}
 use Rattle.pb_project_piece.proofs.segment.put_if.Goals as goal

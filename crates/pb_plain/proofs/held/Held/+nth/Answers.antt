@@ -1,5 +1,5 @@
 use Rattle.std.proofs.Common.{◌≡◌, ◌∙◌, sym, ap}
-use Rattle.pb_core_language.specs.Flat.{nth}
+use Rattle.pb_core_language.specs.Lists.{nth}
 use Rattle.pb_plain.specs.Loops.{held_at}
 use Rattle.pb_plain.proofs.Tables.{nth_later, just_is, each_is}
 use Rattle.pb_plain.proofs.held.Held.+nth.Goals as goal
