@@ -6,9 +6,7 @@ top=$(cd "$(dirname "$0")/.." && pwd) || exit 1
 runs=${RUNS:-5}
 work=$(mktemp -d) || exit 1
 trap 'rm -rf "$work"' EXIT
-"$top/pabble" >/dev/null
-program=$top/crates/pb_cli/out/pb_cli
-[ -x "$program" ] || exit 1
+program=$("$top/scripts/program.sh") || exit 1
 
 relative() {
     awk -v count="$1" 'BEGIN {

@@ -5,6 +5,7 @@
 top=$(cd "$(dirname "$0")/.." && pwd) || exit 1
 work=$(mktemp -d) || exit 1
 trap 'rm -rf "$work"' EXIT
+program=$("$top/scripts/program.sh") || exit 1
 wrong=0
 count=0
 
@@ -13,7 +14,7 @@ count=0
 asks() {
     cat >"$work/p"
     local said status
-    said=$("$top/pabble" gen "$work/p")
+    said=$("$program" gen "$work/p")
     status=$?
     count=$((count + 1))
     # shellcheck disable=SC2053
@@ -27,7 +28,7 @@ asks() {
 fits() {
     cat >"$work/p"
     local said
-    said=$("$top/pabble" check "$work/p")
+    said=$("$program" check "$work/p")
     count=$((count + 1))
     case $said in
     "pabble: syntax "* | "pabble: limit "*)

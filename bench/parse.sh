@@ -4,6 +4,7 @@
 # beside it `cat` of the same file and, where it is installed, `clang -fsyntax-only` on a C file of that size. RUNS says how many runs.
 top=$(cd "$(dirname "$0")/.." && pwd) || exit 1
 runs=${RUNS:-20}
+built=$("$top/scripts/program.sh") || exit 1
 size=1048576
 work=$(mktemp -d) || exit 1
 trap 'rm -rf "$work"' EXIT
@@ -52,9 +53,9 @@ speed() {
 
 for name in statements comments loops; do
     "$name" | fill >"$work/$name.pbl"
-    said=$("$top/pabble" gen "$work/$name.pbl")
+    said=$("$built" gen "$work/$name.pbl")
     [[ $said == "pabble: rule "* ]] || { echo "$name: $said"; exit 1; }
-    echo "$name: pabble $(speed "$top/crates/pb_cli/out/pb_cli" gen "$work/$name.pbl"), cat $(speed cat "$work/$name.pbl")"
+    echo "$name: pabble $(speed "$built" gen "$work/$name.pbl"), cat $(speed cat "$work/$name.pbl")"
 done
 if command -v clang >/dev/null; then
     program | fill >"$work/program.c"

@@ -1,9 +1,9 @@
 #!/usr/bin/env bash
 # Events and messages a second of `sim` on rings without words and with four, ping-pong, a halo exchange and collectives, at several
 # numbers of ranks: with the schedule alone, and with the log; and the memory that each takes. An entry into a collective counts as a
-# message. Takes the built program's path, else the one that `rt` has built. RUNS may be given, 5 else; the median of their
+# message. Takes the built program's path, else the one that `pabble` runs. RUNS may be given, 5 else; the median of their
 # processor times counts.
-program=$(readlink -f "${1:-$(dirname "$0")/../crates/pb_cli/out/pb_cli}")
+program=$(readlink -f "${1:-$("$(dirname "$0")/../scripts/program.sh")}")
 runs=${RUNS:-5}
 folder=$(mktemp -d) || exit 1
 trap 'rm -rf "$folder"' EXIT

@@ -9,6 +9,7 @@
 # and buffers, whether or not its statements use them, and a default body uses no parameter: so -Wno-unused and
 # -Wno-unused-parameter go with the warnings.
 top=$(cd "$(dirname "$0")/.." && pwd) || exit 1
+program=$("$top/scripts/program.sh") || exit 1
 work=$(mktemp -d) || exit 1
 trap 'rm -rf "$work"' EXIT
 flags=(-std=c99 -pedantic -Wall -Wextra -Wno-unused -Wno-unused-parameter -Werror -fsyntax-only -I "$work")
@@ -59,7 +60,7 @@ sed -n 's/^    b"\(.*\)\\n",$/\1/p' "$top/$texts" | sed 's/\\"/"/g' >"$work/text
 compile "$texts"
 
 for file in "$top"/examples/*.pbl "$@"; do
-    said=$("$top/pabble" gen "$file")
+    said=$("$program" gen "$file")
     status=$?
     case "$status" in
         0) printf '%s\n' "$said" >"$work/text.c" ;;

@@ -15,8 +15,8 @@ from concurrent.futures import ThreadPoolExecutor
 from pathlib import Path
 
 TOP = Path(__file__).resolve().parent.parent
-# the programs that `rt` has built, or others that the environment names
-PABBLE = Path(os.environ.get("PABBLE", TOP / "crates/pb_cli/out/pb_cli"))
+# the program that `pabble` runs and the one that `rt` has built, or others that the environment names
+PABBLE = Path(os.environ.get("PABBLE") or subprocess.check_output([TOP / "scripts/program.sh"], text=True).strip())
 PLAIN = Path(os.environ.get("PLAIN", TOP / "crates/plain/out/plain"))
 LOOKED_AT = 6
 LINE = re.compile(r"rule (\d+) at (\d+):(\d+)(?:, N = (\d+))?(?:, (\w+)\[(-?\d+)\])?")

@@ -151,7 +151,7 @@ def run(pabble, plain, file, room):
 
 def main():
     words = sys.argv[1:]
-    pabble = option(words, "--pabble", f"{TOP}/crates/pb_cli/out/pb_cli")
+    pabble = option(words, "--pabble", None) or subprocess.check_output([f"{TOP}/scripts/program.sh"], text=True).strip()
     plain = option(words, "--plain", f"{TOP}/crates/plain/out/plain")
     if not shutil.which("mpicc") or not shutil.which("mpiexec"):
         print("no MPI is installed here (mpicc, mpiexec): nothing was run, and nothing has passed")

@@ -1,6 +1,6 @@
 #!/usr/bin/env python3
 """Runs `check`, `gen` and `project` on files that break one of the twelve rules, or keep them all: `rules.py [PROGRAM]`,
-by default the `pabble` beside this folder. A row has the range of N, the roles, the body, the rule, and what is told of N and a
+by default the one that `pabble` runs. A row has the range of N, the roles, the body, the rule, and what is told of N and a
 rank. An `@` marks the place that the status line must name, and is no part of the file. A row without a rule keeps them
 all: it is accepted, and its text and its layout are printed.
 """
@@ -232,7 +232,6 @@ def difference(program, path, row):
 
 
 def main(program):
-    subprocess.run([program], stdout=subprocess.DEVNULL)  # builds it, before several processes want it
     with tempfile.TemporaryDirectory() as folder, ThreadPoolExecutor(PROCESSES) as pool:
         paths = [Path(folder, f"{number}.pbl") for number in range(len(ROWS))]
         found = list(pool.map(difference, [program] * len(ROWS), paths, ROWS))
@@ -242,4 +241,5 @@ def main(program):
 
 
 if __name__ == "__main__":
-    sys.exit(main(sys.argv[1] if len(sys.argv) > 1 else FOLDER.parent / "pabble"))
+    built = [FOLDER.parent / "scripts/program.sh"]
+    sys.exit(main(sys.argv[1] if len(sys.argv) > 1 else subprocess.check_output(built, text=True).strip()))

@@ -1,5 +1,5 @@
 #!/usr/bin/env python3
-"""Compares the program with the reference recogniser: `run.py [PROGRAM]`, by default the `pabble` beside this folder.
+"""Compares the program with the reference recogniser: `run.py [PROGRAM]`, by default the one that `pabble` runs.
 `run.py --write` writes the two tables anew. They have small changes of a file with every statement: each token deleted,
 with blanks in its place so that no other token moves, and each doubled; and each keyword in the places of names.
 The other rows are the fronts of an example that lack its last brace, and two whole files.
@@ -69,7 +69,6 @@ def main(program):
     wrong = [f"{path.name}: differs from the reference" for path, text in texts.items() if path.read_text() != text]
     rows = [row for rows in tables.values() for row in rows] + [("example", EXAMPLE), ("every statement", EVERY)]
     rows += [(f"front of {length} bytes", EXAMPLE[:length]) for length in range(EXAMPLE.rindex(b"}") + 1)]
-    subprocess.run([program], stdout=subprocess.DEVNULL)  # builds it, before several processes want it
     with tempfile.TemporaryDirectory() as folder, ThreadPoolExecutor(PROCESSES) as pool:
         paths = [Path(folder, f"{number}.pbl") for number in range(len(rows))]
         found = list(pool.map(difference, [program] * len(rows), paths, *zip(*rows)))
@@ -79,4 +78,5 @@ def main(program):
 
 
 if __name__ == "__main__":
-    sys.exit(main(sys.argv[1] if len(sys.argv) > 1 else FOLDER.parent / "pabble"))
+    built = [FOLDER.parent / "scripts/program.sh"]
+    sys.exit(main(sys.argv[1] if len(sys.argv) > 1 else subprocess.check_output(built, text=True).strip()))

@@ -8,14 +8,29 @@ say() { echo "pabble: $*" >&2; }
 # The toolchain's folder.
 kit() { dirname "$(dirname "$(readlink -f "$(command -v rt)")")"; }
 
-# The folder of built programs, which git ignores; where the checkout can't be written, one of the user's.
+# The folders of built programs: the first, which git ignores, and one of the user's, where the checkout can't be written.
+folders=("$top/out" "${XDG_CACHE_HOME:-$HOME/.cache}/pabble")
+
+# The first of them that can be written.
 store() {
-    local folder=$top/out
-    if ! { mkdir -p "$folder" && [ -w "$folder" ]; } 2>/dev/null; then
-        folder=${XDG_CACHE_HOME:-$HOME/.cache}/pabble
-        mkdir -p "$folder" || return 1
-    fi
-    echo "$folder"
+    local folder
+    for folder in "${folders[@]}"; do
+        if mkdir -p "$folder" 2>/dev/null && [ -w "$folder" ]; then
+            echo "$folder"
+            return 0
+        fi
+    done
+    say "no program can be kept: neither in ${folders[0]} nor in ${folders[1]}"
+    return 1
+}
+
+# Prints the path of the program of that name, if it is kept.
+kept() {
+    local folder
+    for folder in "${folders[@]}"; do
+        [ -x "$folder/$1" ] && echo "$folder/$1" && return 0
+    done
+    return 1
 }
 
 # The lines of crates.txt, in the repository $1, of the program's crate and of all that it stands on.
@@ -64,7 +79,7 @@ build() {
     room=$(mktemp -d) || return 1
     trap 'rm -rf "$room"' EXIT
     flock 9
-    [ -x "$1/$2" ] && return 0
+    [ ! -x "$1/$2" ] || return 0
     "$top/scripts/unproved.sh" "$room/program" 9>&- || return 1
     [ "$(unproved_name)" = "$2" ] || { say "a source changed meanwhile: run this again"; return 1; }
     keep "$room/program" "$1" "$2"
@@ -73,18 +88,17 @@ build() {
 # Prints the path of the proved program of these sources, else of the unproved one, which it says.
 program() {
     local folder name
-    folder=$(store) || return 1
-    name=$(proved_name "$top")
-    if [ ! -x "$folder/$name" ]; then
-        name=$(unproved_name)
-        if [ -x "$folder/$name" ]; then
-            say "this program isn't proved; $top/prove makes the proved one"
-        else
-            say "this program isn't proved, and is built first, in a minute or two; $top/prove makes the proved one"
-            (build "$folder" "$name") 9>"$folder/lock" || { say "the program couldn't be built"; return 1; }
-        fi
+    kept "$(proved_name "$top")" && return 0
+    name=$(unproved_name)
+    if kept "$name"; then
+        say "this program isn't proved; $top/prove makes the proved one"
+        return 0
     fi
-    echo "$folder/$name"
+    folder=$(store) || return 1
+    say "this program isn't proved, and is built first, in a minute or two; $top/prove makes the proved one"
+    (build "$folder" "$name") 9>"$folder/lock" && kept "$name" && return 0
+    say "the program couldn't be built"
+    return 1
 }
 
 if [ "${BASH_SOURCE[0]}" = "$0" ]; then

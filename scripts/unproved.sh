@@ -5,7 +5,8 @@
 # expressions of functions' names, such as 'pb_text::number::push_decimal'.
 program=$(readlink -m "${1:?the program to write}")
 top=$(readlink -f "$(dirname "$(readlink -f "$0")")/..")
-kit=$(dirname "$(rt doc)") && [ -x "$kit/bin/rt" ] || { echo "no toolchain: put its command rt on the path" >&2; exit 1; }
+command -v rt >/dev/null || { echo "there is no toolchain: put its command rt on the path" >&2; exit 1; }
+kit=$(dirname "$(rt doc)")
 room=$(mktemp -d) || exit 1
 trap 'rm -rf "$room"' EXIT
 
@@ -33,7 +34,7 @@ printf '#!/bin/sh\nexit 1\n' > "$room/kit/bin/rattle"
 chmod +x "$room/kit/toolchain/bin/clang" "$room/kit/bin/rattle"
 (cd "$top/crates/pb_cli" && "$room/kit/bin/rt" try --steps 1 -- check none) > "$room/said" 2>&1 < /dev/null
 if [ ! -f "$room/module.bc" ]; then
-    head -n 20 "$room/said" >&2
+    grep -v '^run=none' "$room/said" | head -n 20 >&2
     exit 1
 fi
 
