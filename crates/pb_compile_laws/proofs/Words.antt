@@ -13,7 +13,7 @@ use Rattle.pb_text.specs.declared.place.Place.{Place}
 use Rattle.pb_text.specs.declared.token.Token.{Token}
 use Rattle.pb_text.specs.declared.token.Key.{Key}
 use Rattle.pb_text.specs.declared.token.Mark.{Mark}
-use Rattle.pb_text.specs.Spellings.{begins_with, key_of, key_spelling, mark_at}
+use Rattle.pb_text.specs.Spellings.{begins_with, key_of, key_spelling, keys, mark_at}
 use Rattle.pb_text.specs.Lexemes.{Lexeme, nothing, gap, token, bad, lexeme, begins_word, goes_on_word, is_blank, word, word_token, closed, close_of, number, mark_token, value_from}
 use Rattle.pb_text.specs.Tokens.{Lexes, done, skip, read, IsName, IsSoundKind}
 use Rattle.pb_lex.proofs.Naming as naming
