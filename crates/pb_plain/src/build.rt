@@ -97,15 +97,9 @@ pub fn flat_stmt(
                 let first = flat_block(alloc, block, opens, site, i, Flat::Stop)?;
                 built = branch(alloc, block, first, built)?;
             }
-            let chooser = rank_of(at, site, *i);
-            choice(
-                alloc,
-                from_one(stmt, at, site.n, *i),
-                chooser,
-                *kernel,
-                built,
-                rest,
-            )
+            let chooser = chooser_of(at, site, i);
+            let origin = origin_at(stmt, at, site, i);
+            choice(alloc, origin, chooser, *kernel, built, rest)
         }
         CoreKind::Run { kernel, at } => {
             let rank = rank_of(at, site, *i);
@@ -224,6 +218,25 @@ fn branch(
         first: Box::new(alloc, first)?,
         rest: Box::new(alloc, rest)?,
     })
+}
+
+/// Where a statement of one end comes from.
+fn origin_at(stmt: &CoreStmt, at: &CoreEnd, site: &Site, i: &i64) -> Origin
+    requires n { IsNear site.now.n }
+    requires i { IsTurn i.now }
+    ensures { origin_of result ≡ F.from_one (plain_stmt stmt.now).mark at.now site.now.n i.now }
+{
+    from_one(stmt, at, site.n, *i)
+}
+
+/// The number of a chooser's rank.
+fn chooser_of(at: &CoreEnd, site: &Site, i: &i64) -> u64
+    requires seats { map seat_of site.now.seats.now ≡ seats site.now.roles.now site.now.n }
+    requires n { IsNear site.now.n }
+    requires i { IsTurn i.now }
+    ensures { result ≡ F.rank_of site.now.roles.now site.now.n at.now i.now }
+{
+    rank_of(at, site, *i)
 }
 
 fn choice(

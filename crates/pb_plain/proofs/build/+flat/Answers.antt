@@ -13,7 +13,7 @@ flat_stmt-returns-after-loop-left-2 t c =
     choice_done c.args.site.now.roles.now c.args.site.now.n (ids_of c.args.opens.now) c.args.i.now (plain_stmt c.args.stmt.now).mark c.args.stmt.now
     c.in-Choice.kernel c.in-Choice.at c.in-Choice.branches c.loop-left-2.left
     _ _ (view_branches c.loop-left-2.built) _ (view c.args.rest) c.choice.result c.loop-left-2.invariant.kept c.in-Choice.is c.loop-left-2-test.false
-    c.from_one.ensures c.rank_of-chooser.ensures c.loop-left-2.invariant.built c.choice.ensures
+    c.origin_at-origin.ensures c.chooser_of-chooser.ensures c.loop-left-2.invariant.built c.choice.ensures
 
 pub flat_stmt-loop-left-2-preserved : goal.flat_stmt-loop-left-2-preserved
 flat_stmt-loop-left-2-preserved t c = record {
