@@ -1,4 +1,4 @@
-use Rattle.std.proofs.Common.{◌∷◌, []}
+use Rattle.std.proofs.Common.{◌∷◌, [], ◌++◌, ap, ◌∙◌}
 use Rattle.std.specs.Prelude.{codes, decimal}
 use Rattle.std.specs.Fmt.{signed_decimal}
 use Rattle.pb_ctree.specs.Frame.{high_text, payload_text, element_text, kernel_letter, kernel_type, above_text}
@@ -13,7 +13,7 @@ unfolding range_line
 returns c =
     flat_line ((codes "/* N ") ∷ (decimal c.args.range.low) ∷ (codes " to ") ∷ (high_text c.args.range.high) ∷ (codes " */") ∷ []) c.args.out.now.items c.push_pieces-3.new.out.items c.push.new.self.items
     (steps c.args.out.now.items c.push_pieces.new.out.items c.push_pieces-3.new.out.items ((codes "/* N ") ∷ []) ((decimal c.args.range.low) ∷ (codes " to ") ∷ (high_text c.args.range.high) ∷ (codes " */") ∷ []) c.in_ok-push_pieces.ensures
-    (step c.push_pieces.new.out.items c.push_decimal.new.out.items c.push_pieces-3.new.out.items (decimal c.args.range.low) ((codes " to ") ∷ (high_text c.args.range.high) ∷ (codes " */") ∷ []) c.in_ok-push_decimal.ensures.ok
+    (step c.push_pieces.new.out.items c.push_decimal.new.out.items c.push_pieces-3.new.out.items (decimal c.args.range.low) ((codes " to ") ∷ (high_text c.args.range.high) ∷ (codes " */") ∷ []) (c.in_ok-push_decimal.ensures.ok ∙ ap (λ n. c.push_pieces.new.out.items ++ decimal n) c.from.ensures)
     (steps c.push_decimal.new.out.items c.push_pieces-2.new.out.items c.push_pieces-3.new.out.items ((codes " to ") ∷ []) ((high_text c.args.range.high) ∷ (codes " */") ∷ []) c.in_ok-push_pieces-2.ensures
     (step c.push_pieces-2.new.out.items c.push_high.new.out.items c.push_pieces-3.new.out.items (high_text c.args.range.high) ((codes " */") ∷ []) c.in_ok-push_high.ensures
     (steps c.push_high.new.out.items c.push_pieces-3.new.out.items c.push_pieces-3.new.out.items ((codes " */") ∷ []) [] c.in_ok-push_pieces-3.ensures

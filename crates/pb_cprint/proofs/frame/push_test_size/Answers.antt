@@ -1,4 +1,4 @@
-use Rattle.std.proofs.Common.{◌∷◌, []}
+use Rattle.std.proofs.Common.{◌∷◌, [], ◌++◌, ap, ◌∙◌}
 use Rattle.std.specs.Prelude.{codes, decimal}
 use Rattle.std.specs.Fmt.{signed_decimal}
 use Rattle.pb_ctree.specs.Frame.{high_text, payload_text, element_text, kernel_letter, kernel_type, above_text}
@@ -13,7 +13,7 @@ unfolding test_size
 returns c =
     line_of 1 ((codes "if (N < ") ∷ (decimal c.args.range.low) ∷ (above_text c.args.range.high) ∷ (codes " || ") ∷ (sum_text (sum_of c.args.size)) ∷ (codes " != size) {") ∷ []) c.args.out.now.items c.push_indent.new.out.items c.push_pieces-3.new.out.items c.push.new.self.items c.in_ok-push_indent.ensures
     (steps c.push_indent.new.out.items c.push_pieces.new.out.items c.push_pieces-3.new.out.items ((codes "if (N < ") ∷ []) ((decimal c.args.range.low) ∷ (above_text c.args.range.high) ∷ (codes " || ") ∷ (sum_text (sum_of c.args.size)) ∷ (codes " != size) {") ∷ []) c.in_ok-push_pieces.ensures
-    (step c.push_pieces.new.out.items c.push_decimal.new.out.items c.push_pieces-3.new.out.items (decimal c.args.range.low) ((above_text c.args.range.high) ∷ (codes " || ") ∷ (sum_text (sum_of c.args.size)) ∷ (codes " != size) {") ∷ []) c.in_ok-push_decimal.ensures.ok
+    (step c.push_pieces.new.out.items c.push_decimal.new.out.items c.push_pieces-3.new.out.items (decimal c.args.range.low) ((above_text c.args.range.high) ∷ (codes " || ") ∷ (sum_text (sum_of c.args.size)) ∷ (codes " != size) {") ∷ []) (c.in_ok-push_decimal.ensures.ok ∙ ap (λ n. c.push_pieces.new.out.items ++ decimal n) c.from.ensures)
     (step c.push_decimal.new.out.items c.push_above.new.out.items c.push_pieces-3.new.out.items (above_text c.args.range.high) ((codes " || ") ∷ (sum_text (sum_of c.args.size)) ∷ (codes " != size) {") ∷ []) c.in_ok-push_above.ensures
     (steps c.push_above.new.out.items c.push_pieces-2.new.out.items c.push_pieces-3.new.out.items ((codes " || ") ∷ []) ((sum_text (sum_of c.args.size)) ∷ (codes " != size) {") ∷ []) c.in_ok-push_pieces-2.ensures
     (step c.push_pieces-2.new.out.items c.push_sum.new.out.items c.push_pieces-3.new.out.items (sum_text (sum_of c.args.size)) ((codes " != size) {") ∷ []) c.in_ok-push_sum.ensures
