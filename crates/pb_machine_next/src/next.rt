@@ -24,6 +24,17 @@ use crate::state::State;
 use crate::step::Step;
 use pb_ctree::{Formula, Guard, Lin, Op, Peer, Relay, Stmt, Test};
 
+/// What a rank is asked at a choice: whose it is, by which kernel, of how many branches, and how others hear of it.
+#[derive(Clone, Copy)]
+struct Asked<'a> {
+    who: &'a Guard,
+    kernel: u32,
+    branches: u32,
+    relays: &'a [Relay],
+    from: Peer,
+    tests: &'a [Test],
+}
+
 impl State {
     /// A round with this variable, where it isn't above the high end.
     fn begin(&self, i: i32, high: Lin, round: Go, over: Go) -> Ahead
@@ -170,33 +181,22 @@ impl State {
     }
 
     /// What is next at a choice with so many branches.
-    fn choice(
-        &self,
-        places: &[Formula],
-        who: &Guard,
-        kernel: u32,
-        branches: u32,
-        relays: &[Relay],
-        from: Peer,
-        tests: &[Test],
-        depth: usize,
-        at: usize,
-    ) -> Ahead
-        ensures next { (b : Codes) (path : List Step) → tests_at b (take depth path) at ≡ tests.now → move_by b path self.now.me self.now.i result ≡ chosen places.now self.now.me self.now.i kernel branches relays.now from tests.now (λ k. goes b path (Enter depth at k)) (guard_holds who.now self.now.me self.now.i) }
+    fn choice(&self, places: &[Formula], asked: Asked, depth: usize, at: usize) -> Ahead
+        ensures next { (b : Codes) (path : List Step) → tests_at b (take depth path) at ≡ asked.entry.tests.now → move_by b path self.now.me self.now.i result ≡ chosen places.now self.now.me self.now.i asked.entry.kernel asked.entry.branches asked.entry.relays.now asked.entry.from asked.entry.tests.now (λ k. goes b path (Enter depth at k)) (guard_holds asked.entry.who.now self.now.me self.now.i) }
         ensures safe { (n h : ℕ) → IsIn n h depth → IsSafe n h result }
     {
-        match guard_holds(who, &self.me, self.i) {
+        match guard_holds(asked.who, &self.me, self.i) {
             None => Ahead::Undefined,
             Some(held) => {
                 if held {
                     Ahead::Choose {
-                        kernel,
-                        branches,
+                        kernel: asked.kernel,
+                        branches: asked.branches,
                         depth,
                         at,
                     }
                 } else {
-                    self.ask(places, relays, from, tests, depth, at)
+                    self.ask(places, asked.relays, asked.from, asked.tests, depth, at)
                 }
             }
         }
@@ -249,17 +249,17 @@ impl State {
                 from,
                 tests,
                 branches,
-            } => self.ahead = self.choice(
-                places,
-                who,
-                *kernel,
-                branches.len() as u32,
-                relays,
-                *from,
-                tests,
-                depth,
-                at,
-            ),
+            } => {
+                let asked = Asked {
+                    who,
+                    kernel: *kernel,
+                    branches: branches.len() as u32,
+                    relays,
+                    from: *from,
+                    tests,
+                };
+                self.ahead = self.choice(places, asked, depth, at);
+            }
             Stmt::Send { label, to } => self.ahead = self.send(
                 *label,
                 peer(places, *to, me, i),

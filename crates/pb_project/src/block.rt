@@ -20,6 +20,13 @@ use pb_project_piece::{Setting, is_somebody, put_one, put_piece, when};
 use pb_text::NoMemory;
 use std::alloc::Global;
 
+/// Which kernel a choice asks, and at which end.
+#[derive(Clone, Copy)]
+struct Asked {
+    kernel: u32,
+    at: CoreEnd,
+}
+
 /// What a block is. `count` loops stand before it, and are counted on.
 #[cycle(block)]
 pub fn block_of(
@@ -67,9 +74,11 @@ fn put_stmt(
             branches,
         } => {
             let takers = takers_of(stmt, alloc, setting.whole, around.held)?;
-            put_choice(
-                branches, alloc, setting, around, *kernel, *at, &takers, count, out,
-            )
+            let asked = Asked {
+                kernel: *kernel,
+                at: *at,
+            };
+            put_choice(branches, alloc, setting, around, asked, &takers, count, out)
         }
         CoreKind::Message { .. }
         | CoreKind::Foreach { .. }
@@ -159,18 +168,17 @@ fn choice_of(
     alloc: Global,
     setting: &Setting,
     around: &Around,
-    kernel: u32,
-    at: CoreEnd,
+    asked: Asked,
     count: &mut u32,
 ) -> Result<Vec<Stmt>, NoMemory>
-    ensures { IfOk result (λ v. IsChoiceOf (known setting.now.range setting.now.roles setting.now.whole.now around.now.held.now around.now.numbers.now) kernel at count.old count.new
+    ensures { IfOk result (λ v. IsChoiceOf (known setting.now.range setting.now.roles setting.now.whole.now around.now.held.now around.now.numbers.now) asked.kernel asked.at count.old count.new
         (branches_of (map plain_block branches.now)) (plain_all v.items)) }
 {
     let found = branches_of(branches, alloc, setting.whole, around.held)?;
     let tests = tests_of(alloc, setting, &found)?;
-    let relays = relays_of(alloc, setting, at, &found, &tests)?;
+    let relays = relays_of(alloc, setting, asked.at, &found, &tests)?;
     let parts = parts_of(branches, alloc, setting, around, count)?;
-    let list = told_choice(alloc, kernel, at, relays, tests, parts)?;
+    let list = told_choice(alloc, asked.kernel, asked.at, relays, tests, parts)?;
     Ok(list)
 }
 
@@ -181,18 +189,17 @@ fn put_choice(
     alloc: Global,
     setting: &Setting,
     around: &Around,
-    kernel: u32,
-    at: CoreEnd,
+    asked: Asked,
     takers: &[Area],
     count: &mut u32,
     out: &mut Vec<Stmt>,
 ) -> Result<(), NoMemory>
-    ensures { OnOk result ((m : Mark) → AreTakers setting.now.whole.now around.now.held.now m (choice kernel at (branches_of (map plain_block branches.now))) takers.now → Added out.old.items out.new.items
-        (IsStmtOf (known setting.now.range setting.now.roles setting.now.whole.now around.now.held.now around.now.numbers.now) count.old count.new m (choice kernel at (branches_of (map plain_block branches.now))))) }
+    ensures { OnOk result ((m : Mark) → AreTakers setting.now.whole.now around.now.held.now m (choice asked.kernel asked.at (branches_of (map plain_block branches.now))) takers.now → Added out.old.items out.new.items
+        (IsStmtOf (known setting.now.range setting.now.roles setting.now.whole.now around.now.held.now around.now.numbers.now) count.old count.new m (choice asked.kernel asked.at (branches_of (map plain_block branches.now))))) }
 {
     let there = is_somebody(alloc, setting, takers)?;
     if there {
-        let first = choice_of(branches, alloc, setting, around, kernel, at, count)?;
+        let first = choice_of(branches, alloc, setting, around, asked, count)?;
         let guards = guards_in(alloc, takers, setting.range, setting.roles)?;
         out.push(when(alloc, guards, first))?;
     }

@@ -70,17 +70,17 @@ pub put_choice-returns-in_ok-push : goal.put_choice-returns-in_ok-push
 put_choice-returns-in_ok-push t c = λ m taken.
     let k = known c.args.setting.now.range c.args.setting.now.roles c.args.setting.now.whole.now c.args.around.now.held.now c.args.around.now.numbers.now in
     let bs = branches_of (map plain_block c.args.branches.now) in
-    added_one (IsStmtOf k c.args.count.now c.choice_of.new.count m (T.choice c.args.kernel c.args.at bs)) c.args.out.now.items c.push.new.self.items c.when.result (only_when c.in_ok-guards.guards (plain_all c.in_ok-first.first.items))
+    added_one (IsStmtOf k c.args.count.now c.choice_of.new.count m (T.choice c.args.asked.kernel c.args.asked.at bs)) c.args.out.now.items c.push.new.self.items c.when.result (only_when c.in_ok-guards.guards (plain_all c.in_ok-first.first.items))
     c.in_ok-push.ensures.items c.when.ensures
-    (choice_there k c.args.count.now c.choice_of.new.count m c.args.kernel c.args.at bs (plain_all c.in_ok-first.first.items) c.in_ok-first.ensures c.args.takers.now c.in_ok-guards.guards
+    (choice_there k c.args.count.now c.choice_of.new.count m c.args.asked.kernel c.args.asked.at bs (plain_all c.in_ok-first.first.items) c.in_ok-first.ensures c.args.takers.now c.in_ok-guards.guards
     (subst (IsThere k.range k.whole c.args.takers.now) c.if-there.true c.in_ok-there.ensures) (record { is = c.in_ok-guards.ensures.hold; each = c.in_ok-guards.ensures.each }) taken)
 
 pub put_choice-returns-else-there : goal.put_choice-returns-else-there
 put_choice-returns-else-there t c = λ m taken.
     let k = known c.args.setting.now.range c.args.setting.now.roles c.args.setting.now.whole.now c.args.around.now.held.now c.args.around.now.numbers.now in
     let bs = branches_of (map plain_block c.args.branches.now) in
-    added_none (IsStmtOf k c.args.count.now c.args.count.now m (T.choice c.args.kernel c.args.at bs)) c.args.out.now.items
-    (choice_gone k c.args.count.now m c.args.kernel c.args.at bs c.args.takers.now (subst (IsThere k.range k.whole c.args.takers.now) c.if-there.false c.in_ok-there.ensures) taken)
+    added_none (IsStmtOf k c.args.count.now c.args.count.now m (T.choice c.args.asked.kernel c.args.asked.at bs)) c.args.out.now.items
+    (choice_gone k c.args.count.now m c.args.asked.kernel c.args.asked.at bs c.args.takers.now (subst (IsThere k.range k.whole c.args.takers.now) c.if-there.false c.in_ok-there.ensures) taken)
 
 pub put_stmt-returns-in_ok-takers-in-Choice : goal.put_stmt-returns-in_ok-takers-in-Choice
 put_stmt-returns-in_ok-takers-in-Choice t c =
@@ -112,7 +112,7 @@ choice_of-returns t c =
       is = c.in_ok-list.ensures;
       found_are = record { is = c.in_ok-found.ensures };
       tests_are = subst (λ f. AreTests k.range k.roles k.whole f tests) c.deref.ensures.value (record { is = c.in_ok-tests.ensures.is; each = c.in_ok-tests.ensures.each; ascend = c.in_ok-tests.ensures.ascend });
-      relays_are = subst (λ f. AreRelays k.range k.roles k.whole c.args.at f tests relays) c.deref-2.ensures.value
-          (subst (λ ts. AreRelays k.range k.roles k.whole c.args.at c.deref-2.result.now ts relays) c.deref-3.ensures.value (record { is = c.in_ok-relays.ensures.is; each = c.in_ok-relays.ensures.each; told = c.in_ok-relays.ensures.told }));
+      relays_are = subst (λ f. AreRelays k.range k.roles k.whole c.args.asked.at f tests relays) c.deref-2.ensures.value
+          (subst (λ ts. AreRelays k.range k.roles k.whole c.args.asked.at c.deref-2.result.now ts relays) c.deref-3.ensures.value (record { is = c.in_ok-relays.ensures.is; each = c.in_ok-relays.ensures.each; told = c.in_ok-relays.ensures.told }));
       parts_are = c.in_ok-parts.ensures;
     }

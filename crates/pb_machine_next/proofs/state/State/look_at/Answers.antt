@@ -7,8 +7,8 @@ use Rattle.pb_machine_next.proofs.Arms.{choice_does, choice_few}
 use Rattle.pb_machine_next.proofs.Plains.{choice_tests}
 use Rattle.pb_machine_next.proofs.state.State.look_at.Goals as goal
 
-pub overflow_cast-len : goal.overflow_cast-len
-overflow_cast-len c =
+pub overflow_cast-asked : goal.overflow_cast-asked
+overflow_cast-asked c =
     let few : length c.in-Choice.branches.items ≤ 64 = choice_few c.args.stmt.now _ _ _ _ _ _ c.in-Choice.is c.requires.narrow in
     let many : c.len.result ≡ length c.in-Choice.branches.items = c.len.ensures ∙ search rules in
     record { fits = omega (arith, few, many) }
