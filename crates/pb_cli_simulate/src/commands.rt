@@ -4,10 +4,11 @@ ghost use Rattle.std.specs.Prelude.{◌≡◌, ◌≤◌, length, IfOk, IfErr, I
 ghost use Rattle.pb_text.specs.declared.limits.TheConstants.{MOST_EVENTS};
 ghost use Rattle.pb_io.specs.Faults.{Rose};
 ghost use Rattle.pb_io.specs.Files.{IsSureOf};
+ghost use Rattle.pb_io.specs.Unread.{IsUnread};
 ghost use Rattle.pb_ctree.specs.Trees.{IsTree};
 ghost use Rattle.pb_sched.specs.Outcomes.{IsSchedule};
 ghost use Rattle.pb_cli_status.specs.declared.status.Status.TheVariants as S;
-ghost use Rattle.pb_cli_simulate.specs.Commands.{OnShort, IsUntaken, SaysReplay, SaysSim};
+ghost use Rattle.pb_cli_simulate.specs.Commands.{OnShort, IsOfSchedule, IsOfText, IsUntaken, SaysReplay, SaysSim};
 ghost use Rattle.pb_cli_simulate.specs.Sources.{IsTextOf, IsNoText, IsNoSchedule};
 
 use crate::simulate::{replay_tree, simulate_tree};
@@ -21,11 +22,12 @@ use pb_text::MOST_TEXT_BYTES;
 use std::alloc::Global;
 
 /// The tree of the C text in a file.
-#[tactic(auto, using(crate::proofs::Taken::on_short, crate::proofs::Taken::no_text, crate::proofs::Taken::made))]
+#[tactic(auto, using(crate::proofs::Taken::on_short, crate::proofs::Taken::no_text, crate::proofs::Taken::of_text, crate::proofs::Taken::made))]
 fn text_in<F: Folder>(alloc: Global, name: &str, folder: &mut F) -> Result<CTree, Refusal>
     ensures text { IfOk result (λ tree. OnShort name.now (F.holds folder.old) (λ bytes. IsTextOf bytes tree)) }
     ensures tree { IfOk result IsTree }
     ensures denied { IfErr result (IsUntaken IsNoText name.now (F.holds folder.old)) }
+    ensures kind { IfErr result IsOfText }
     ensures fault { IsErrOf result Refusal.ReadFault → Rose (F.faults folder.old) (F.faults folder.new) }
     ensures sure { IsErrOf result Refusal.ReadFault → IsSureOf (F.steady folder.old) (F.holds folder.old) name.now → ⊥ }
     ensures later { F.faults folder.old ≤ F.faults folder.new }
@@ -45,11 +47,12 @@ fn text_in<F: Folder>(alloc: Global, name: &str, folder: &mut F) -> Result<CTree
 }
 
 /// The schedule in a file.
-#[tactic(auto, using(crate::proofs::Taken::on_short, crate::proofs::Taken::no_schedule))]
+#[tactic(auto, using(crate::proofs::Taken::on_short, crate::proofs::Taken::no_schedule, crate::proofs::Taken::of_schedule))]
 fn schedule_in<F: Folder>(alloc: Global, name: &str, folder: &mut F) -> Result<Schedule, Refusal>
     ensures schedule { IfOk result (λ s. OnShort name.now (F.holds folder.old) (λ bytes. IsSchedule bytes s.seed s.turns.items)) }
     ensures few { IfOk result (λ s. length s.turns.items ≤ MOST_EVENTS) }
     ensures denied { IfErr result (IsUntaken IsNoSchedule name.now (F.holds folder.old)) }
+    ensures kind { IfErr result IsOfSchedule }
     ensures fault { IsErrOf result Refusal.ReadFault → Rose (F.faults folder.old) (F.faults folder.new) }
     ensures sure { IsErrOf result Refusal.ReadFault → IsSureOf (F.steady folder.old) (F.holds folder.old) name.now → ⊥ }
     ensures later { F.faults folder.old ≤ F.faults folder.new }
@@ -73,7 +76,7 @@ fn schedule_in<F: Folder>(alloc: Global, name: &str, folder: &mut F) -> Result<S
 /// them; the other statuses are those of `simulate_tree`.
 pub fn sim<F: Folder, O: Sink, A: Fn(u64, u32, u64) -> u32 + Drop>(
     alloc: Global,
-    text: &str,
+    name: &str,
     options: Options,
     answers: A,
     folder: &mut F,
@@ -81,12 +84,12 @@ pub fn sim<F: Folder, O: Sink, A: Fn(u64, u32, u64) -> u32 + Drop>(
 ) -> Status
     requires callable { A.IsAlwaysCallable answers }
     requires few { options.turns ≤ MOST_EVENTS }
-    ensures reply { SaysSim (A.post answers) text.now options (F.holds folder.old) result (O.taken out.old) (O.taken out.new) }
+    ensures reply { SaysSim (A.post answers) (IsUnread (F.steady folder.old) (F.holds folder.old) (F.faults folder.old) (F.faults folder.new)) name.now options (F.holds folder.old) result (O.taken out.old) (O.taken out.new) }
     ensures read_fault { result ≡ S.ReadFault → Rose (F.faults folder.old) (F.faults folder.new) }
-    ensures sure { result ≡ S.ReadFault → IsSureOf (F.steady folder.old) (F.holds folder.old) text.now → ⊥ }
+    ensures sure { result ≡ S.ReadFault → IsSureOf (F.steady folder.old) (F.holds folder.old) name.now → ⊥ }
     ensures write_fault { result ≡ S.WriteFault → Rose (O.faults out.old) (O.faults out.new) }
 {
-    match text_in(alloc, text, folder) {
+    match text_in(alloc, name, folder) {
         Ok(tree) => simulate_tree(alloc, tree, options, answers, out),
         Err(why) => refuse(out, why),
     }
@@ -107,7 +110,7 @@ pub fn replay<F: Folder, O: Sink, A: Fn(u64, u32, u64) -> u32 + Drop>(
     out: &mut O,
 ) -> Status
     requires { A.IsAlwaysCallable answers }
-    ensures reply { SaysReplay (A.post answers) text.now schedule.now n (F.holds folder.old) result (O.taken out.old) (O.taken out.new) }
+    ensures reply { SaysReplay (A.post answers) (IsUnread (F.steady folder.old) (F.holds folder.old) (F.faults folder.old) (F.faults folder.new)) text.now schedule.now n (F.holds folder.old) result (O.taken out.old) (O.taken out.new) }
     ensures read_fault { result ≡ S.ReadFault → Rose (F.faults folder.old) (F.faults folder.new) }
     ensures sure { result ≡ S.ReadFault → IsSureOf (F.steady folder.old) (F.holds folder.old) text.now → IsSureOf (F.steady folder.old) (F.holds folder.old) schedule.now → ⊥ }
     ensures write_fault { result ≡ S.WriteFault → Rose (O.faults out.old) (O.faults out.new) }

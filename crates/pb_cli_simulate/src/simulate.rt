@@ -94,9 +94,9 @@ fn by_schedule<A: Fn(u64, u32, u64) -> u32 + Drop, O: Sink>(
 ///
 /// `WriteFault` comes only where the sink's count of faults rose in this call; then some first bytes of what belongs there were
 /// written. Where memory doesn't run out, `OutOfRange` comes exactly where N isn't in the tree's range, else `Limit` where
-/// there would be more than 1,024 ranks. Else `Limit` comes where the next event is a send after which more than 16,777,216
-/// words would be in flight; `Done` where all ranks have ended and no message is left; `Stuck` where nobody has a step
-/// otherwise; and `Turns` where all events were made and some rank has a step.
+/// there would be more than 1,024 ranks. Else `Limit` comes exactly where fewer events were made than were asked for and the next
+/// one is a send after which more than 16,777,216 words would be in flight; `Done` where all ranks have ended and no message is
+/// left; `Stuck` where nobody has a step otherwise; and `Turns` where all events were made and some rank has a step.
 pub fn simulate_tree<A: Fn(u64, u32, u64) -> u32 + Drop, O: Sink>(
     alloc: Global,
     tree: CTree,

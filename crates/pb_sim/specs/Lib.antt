@@ -1,5 +1,6 @@
 pub mod Causes
 pub mod Done
+pub mod Flight
 pub mod Made
 pub mod Runs
 pub mod Scheduled

@@ -48,6 +48,7 @@ pub record IsBegun (tree : CTree) (n : ℤ) (x : Seen) : Type 0 where
   pub asked : (r : ℕ) → r < total_of x.state → (stand x.state r).asked ≡ 0
   pub counts : x.counts ≡ no_counts
   pub steps : x.steps ≡ 0
+  pub none : words_in x.state.channels ≡ 0
 
 -- why there is no simulation of this tree for this N
 abbrev pub IsNoStart : CTree → ℤ → SimFault → Type 0

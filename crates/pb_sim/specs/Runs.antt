@@ -1,9 +1,10 @@
 -- The runs of simulations, and the ranks that have a step.
-use Rattle.std.specs.Prelude.{◌≡◌, ℕ, ◌<◌, Bool, IsTrue, List, [], ◌∷◌, ◌++◌, map, length, slice_index, Contains}
+use Rattle.std.specs.Prelude.{◌≡◌, ℕ, ◌+◌, ◌<◌, Bool, IsTrue, List, [], ◌∷◌, ◌++◌, map, length, slice_index, Contains}
 use Rattle.pb_world.specs.Actions.{Action}
 use Rattle.pb_world.specs.Counted.{Counted}
 use Rattle.pb_world.specs.Family.{Family}
 use Rattle.pb_world.specs.World.{World, CanStep}
+use Rattle.pb_chan.specs.Lists.{words_in}
 use Rattle.pb_local.specs.Family.{Sequence, family}
 use Rattle.pb_local.specs.Machine as M
 use Rattle.pb_sim_world.specs.States.{program, total_of, stand}
@@ -11,13 +12,17 @@ use Rattle.pb_sim_world.specs.Worlds.{world_of}
 use Rattle.pb_sim.specs.declared.seen.Seen.{Seen}
 use Rattle.pb_sim.specs.declared.outcomes.StepDone.{StepDone}
 use Rattle.pb_sim.specs.Done.{done_of}
+use Rattle.pb_sim.specs.Flight.{received_in, sent_in, KeepsLimit}
 use Rattle.pb_sim.specs.Scheduled.{Turn, asked_by, ScheduledRun}
 
--- this simulation has made this run, whatever the sequential run is
+-- This simulation has made this run, whatever the sequential run is. Its channels have the words that were sent and not received,
+-- and never had more than may be in flight
 pub record IsRun (post : ℕ → ℕ → ℕ → Type 0) (may : ℕ → World (Counted M.Rank) → Turn → Type 0) (turns : List Turn) (w : List (ℕ × Action)) (x : Seen) : Type 0 where
   pub run : (sequence : Sequence) → ScheduledRun (family (program x.state) x.state.n sequence) post may turns w (world_of x.state)
   pub asked : (r : ℕ) → r < total_of x.state → (stand x.state r).asked ≡ asked_by r w
   pub steps : x.steps ≡ length turns
+  pub flight : words_in x.state.channels + received_in w ≡ sent_in w
+  pub within : KeepsLimit w
 
 -- exactly the ranks that have a step, ascending
 pub record IsReadyList {S : Type 0} (F : Family S) (W : World S) (list : List ℕ) : Type 0 where

@@ -16,23 +16,13 @@ use Rattle.pb_sim.specs.declared.seen.Seen.{Seen}
 use Rattle.pb_sim.specs.Done.{done_of}
 use Rattle.pb_sim.specs.Made.{IsMade, HasStep, IsTooMuch}
 use Rattle.pb_sim.specs.Scheduled.{Turn}
-use Rattle.pb_sim.proofs.Runs.{goes_on}
+use Rattle.pb_sim.proofs.Runs.{goes_on, one_action}
 use Rattle.pb_sim_play.specs.declared.record.Record.{Record}
 use Rattle.pb_sim_play.specs.Plans.{Source, May, pair_of}
 use Rattle.pb_sim_play.specs.Plays.{IsPlay, log_of, done_by}
 use Rattle.pb_sim_play.specs.Records.{done_line, Holds, HasPlayed}
 use Rattle.pb_cli_words.specs.declared.options.Shown.{Shown}
 use Rattle.pb_sim_play.specs.Endings.{Ran, part_of, HasBroken}
-
--- an event is one action, or none
-one_action : {S : Type 0} (F : Family S) (X : W.World S) (r : ℕ) (acts : List Action) (V : W.World S) → W.Step F X r acts V → (acts ≡ []) ⊎ ((a : Action) × (acts ≡ a ∷ []))
-one_action F X r acts V (W.silent free e) = inl refl
-one_action F X r acts V (W.probe free e c f) = inl refl
-one_action F X r acts V (W.internal free e i a) = inr (_, refl)
-one_action F X r acts V (W.send mode free e a) = inr (_, refl)
-one_action F X r acts V (W.receive free e t) = inr (_, refl)
-one_action F X r acts V (W.enter mode free e g a) = inr (_, refl)
-one_action F X r acts V (W.leave words free e h g) = inr (_, refl)
 
 line_of_one : (p : Program) (r : ℕ) (a : Action) → done_line p (done_of r (a ∷ [])) ≡ log_of p (done_by r (a ∷ []))
 line_of_one p r (Choose kernel branches branch) = sym (append-nil _)

@@ -37,9 +37,9 @@ spent x (given turns) k list ready over = over
 module _ (tree : CTree) (n : ℤ) (post : ℕ → ℕ → ℕ → Type 0) (source : Source) (most : ℕ) (shown : Shown) (start : Option (List ℕ)) (k : ℕ) (x : Seen) (kept : Record) (now : Option (List ℕ)) where
   pub halted : k < most → (stop : Stop) → HasFailed tree n post source shown start k stop kept now → HasStopped tree n post source most shown start stop x kept now
   halted less T.Made failed = absurd failed
-  halted less (T.Refused t) (e, (y, played, why)) = record { count = k; few = omega (arith, less); x = y; played = played; is = (e, why) }
-  halted less T.Full (y, played, why) = record { count = k; few = omega (arith, less); x = y; played = played; is = why }
-  halted less T.NoMemory (y, played) = record { count = k; few = omega (arith, less); x = y; played = played; is = tt }
+  halted less (T.Refused t) (e, (y, played, why)) = record { count = k; few = less; x = y; played = played; is = (e, why) }
+  halted less T.Full (y, (played, why)) = record { count = k; few = less; x = y; played = played; is = why }
+  halted less T.NoMemory (y, played) = record { count = k; few = less; x = y; played = played; is = tt }
   halted less T.WriteFault ran = record { turns = ran.turns; w = ran.w; x = ran.x; play = ran.play; few = let f = ran.few in omega (arith, f, less); is = ran.is }
 
   pub over_at : k ≤ most → HasPlayed tree n post source start k x kept now → IsSpent source k x → HasMade tree n post source most start x kept now

@@ -88,6 +88,9 @@ covered x (drawn seed modes) most count is few over turns e tree n post w play =
 covered x (given all) most count is few (inl k) turns e tree n post w play = whole_run tree n post (given all) turns w x play most is (omega (arith, e, k))
 covered x (given all) most count is few (inr k) turns e tree n post w play = whole_run tree n post (given all) turns w x play most is (omega (arith, e, k, is))
 
+not_over : {k most : ℕ} → k < most → k ≤ most
+not_over less = omega (arith, less)
+
 pub few_kept : (kept : Record) (start now : Option (List ℕ)) (p : Program) (turns : List Turn) (w : List (ℕ × Action)) → length turns ≤ 1000000 → Holds start kept now p turns w → IsShort kept
 few_kept (Lines log) start now p turns w few held = tt
 few_kept (Turns made) start now p turns w few (none, is) = let e = sym (length-map made.items pair_of) ∙ ap length is in omega (arith, e, few)
@@ -147,8 +150,8 @@ module _ (tree : CTree) (n : ℤ) (post : ℕ → ℕ → ℕ → Type 0) (sourc
       by (inl (e, went)) = subst (λ r. Tells tree n post source most shown seed r start later) (sym e) (tells went)
       by (inr (e, front)) = subst (λ r. Tells tree n post source most shown seed r start later) (sym e) (broken played.turns played.w y (part_of shown tree played.w) played.play fewer (inl refl) front)
 
-    pub told_refused : (t : ℕ) → ending ≡ E.Refused t → HasHalted tree n post source most start kept now (λ k y. (t ≡ k) × IsUnready tree n source k y) → Tells tree n post source most shown seed result start later
-    told_refused t is h = part_told h.count h.x h.played h.few (λ went. subst (λ e. Tells tree n post source most shown seed e start later) (sym is) (
+    pub told_refused : (t : ℕ) → ending ≡ E.Refused t → HasHalted tree n post source most start kept now (λ k w y. (t ≡ k) × IsUnready tree n source k y) → Tells tree n post source most shown seed result start later
+    told_refused t is h = part_told h.count h.x h.played (not_over h.few) (λ went. subst (λ e. Tells tree n post source most shown seed e start later) (sym is) (
       part_of shown tree h.played.w,
       record {
         turns = h.played.turns;
@@ -161,8 +164,8 @@ module _ (tree : CTree) (n : ℤ) (post : ℕ → ℕ → ℕ → Type 0) (sourc
       went,
     ))
 
-    pub told_full : ending ≡ E.Full → HasHalted tree n post source most start kept now (λ k y. IsFull tree n source k y) → Tells tree n post source most shown seed result start later
-    told_full is h = part_told h.count h.x h.played h.few (λ went. subst (λ e. Tells tree n post source most shown seed e start later) (sym is) (
+    pub told_full : ending ≡ E.Full → HasHalted tree n post source most start kept now (λ k w y. IsFull tree n source k w y) → Tells tree n post source most shown seed result start later
+    told_full is h = part_told h.count h.x h.played (not_over h.few) (λ went. subst (λ e. Tells tree n post source most shown seed e start later) (sym is) (
       part_of shown tree h.played.w,
       record {
         turns = h.played.turns;
@@ -170,13 +173,13 @@ module _ (tree : CTree) (n : ℤ) (post : ℕ → ℕ → ℕ → Type 0) (sourc
         x = h.x;
         play = h.played.play;
         few = (let e = h.played.count_is in let f = h.few in omega (arith, e, f));
-        is = (subst (λ k. IsFull tree n source k h.x) (sym h.played.count_is) h.is, refl);
+        is = ((let e = h.played.count_is in let f = h.few in omega (arith, e, f)), subst (λ k. IsFull tree n source k h.played.w h.x) (sym h.played.count_is) h.is, refl);
       },
       went,
     ))
 
-    pub told_lost : ending ≡ E.NoMemory → HasHalted tree n post source most start kept now (λ k y. Unit {0}) → Tells tree n post source most shown seed result start later
-    told_lost is h = part_told h.count h.x h.played h.few (λ went. subst (λ e. Tells tree n post source most shown seed e start later) (sym is)
+    pub told_lost : ending ≡ E.NoMemory → HasHalted tree n post source most start kept now (λ k w y. Unit {0}) → Tells tree n post source most shown seed result start later
+    told_lost is h = part_told h.count h.x h.played (not_over h.few) (λ went. subst (λ e. Tells tree n post source most shown seed e start later) (sym is)
         (lost h.played.turns h.played.w h.x h.played.play (let e = h.played.count_is in let f = h.few in omega (arith, e, f)) went))
 
 -- nothing was played yet

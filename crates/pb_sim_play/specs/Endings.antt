@@ -14,7 +14,8 @@ use Rattle.pb_sim.specs.declared.seen.Seen.{Seen}
 use Rattle.pb_sim.specs.declared.standing.Standing.{Standing}
 use Rattle.pb_sim.specs.declared.standing.Standing.TheVariants as S
 use Rattle.pb_sim.specs.Scheduled.{Turn}
-use Rattle.pb_sim.specs.Made.{HasStep, IsTooMuch}
+use Rattle.pb_sim.specs.Flight.{SendsTooMuch}
+use Rattle.pb_sim.specs.Made.{HasStep}
 use Rattle.pb_sim.specs.Standing.{IsStanding}
 use Rattle.pb_cli_words.specs.declared.options.Shown.{Shown}
 use Rattle.pb_cli_words.specs.declared.options.Shown.TheVariants as O
@@ -44,12 +45,13 @@ pub record IsHeld (tree : CTree) (n : ℤ) (source : Source) (t : ℕ) (x : Seen
   pub may : May tree n source t (world_of x.state) turn
   pub why : P turn.0
 
--- by a rank that has no step, and by a send after which too many words would be in flight
+-- by a rank that has no step; and by one that has a step, which is a send, where behind these actions too many words would be in
+-- flight
 abbrev pub IsUnready : CTree → ℤ → Source → ℕ → Seen → Type 0
 IsUnready tree n source t x = IsHeld tree n source t x (λ r. (sequence : Sequence) → HasStep x sequence r → ⊥)
 
-abbrev pub IsFull : CTree → ℤ → Source → ℕ → Seen → Type 0
-IsFull tree n source t x = IsHeld tree n source t x (λ r. IsTooMuch x r)
+abbrev pub IsFull : CTree → ℤ → Source → ℕ → List (ℕ × Action) → Seen → Type 0
+IsFull tree n source t w x = IsHeld tree n source t x (λ r. ((sequence : Sequence) → HasStep x sequence r) × SendsTooMuch w x r)
 
 -- the run of some events: a statement on its events, its actions and where it stands
 pub record Ran (tree : CTree) (n : ℤ) (post : ℕ → ℕ → ℕ → Type 0) (source : Source) (most : ℕ) (P : List Turn → List (ℕ × Action) → Seen → Type 0) : Type 0 where
@@ -99,7 +101,7 @@ module _ (tree : CTree) (n : ℤ) (post : ℕ → ℕ → ℕ → Type 0) (sourc
   EndsWith (E.Stuck rank cause) text = IsOut (S.Stuck rank cause) text
   EndsWith E.Turns text = Ran tree n post source most (λ turns w x. Stands tree n x S.Going × (length turns ≡ most) × IsWhole source turns × (text ≡ text_of shown seed tree turns w))
   EndsWith (E.Refused t) text = Ran tree n post source most (λ turns w x. (t ≡ length turns) × IsUnready tree n source t x × (text ≡ part_of shown tree w))
-  EndsWith E.Full text = Ran tree n post source most (λ turns w x. IsFull tree n source (length turns) x × (text ≡ part_of shown tree w))
+  EndsWith E.Full text = Ran tree n post source most (λ turns w x. (length turns < most) × IsFull tree n source (length turns) w x × (text ≡ part_of shown tree w))
   EndsWith E.NoMemory text = Ran tree n post source most (λ turns w x. text ≡ part_of shown tree w)
   EndsWith E.WriteFault text = ⊥
 
@@ -127,7 +129,7 @@ HasBroken tree n post source most shown start now = Ran tree n post source most 
 abbrev pub HasFailed : CTree → ℤ → (ℕ → ℕ → ℕ → Type 0) → Source → Shown → Option (List ℕ) → ℕ → Stop → Record → Option (List ℕ) → Type 0
 HasFailed tree n post source shown start k T.Made kept now = ⊥
 HasFailed tree n post source shown start k (T.Refused t) kept now = (t ≡ k) × ((x : Seen) × HasPlayed tree n post source start k x kept now × IsUnready tree n source k x)
-HasFailed tree n post source shown start k T.Full kept now = (x : Seen) × HasPlayed tree n post source start k x kept now × IsFull tree n source k x
+HasFailed tree n post source shown start k T.Full kept now = (x : Seen) × ((played : HasPlayed tree n post source start k x kept now) × IsFull tree n source k played.w x)
 HasFailed tree n post source shown start k T.NoMemory kept now = (x : Seen) × HasPlayed tree n post source start k x kept now
 HasFailed tree n post source shown start k T.WriteFault kept now = HasBroken tree n post source (suc k) shown start now
 
@@ -139,18 +141,18 @@ pub record HasMade (tree : CTree) (n : ℤ) (post : ℕ → ℕ → ℕ → Type
   pub over : (count ≡ most) ⊎ IsSpent source count x
 
 -- some events were made, fewer than the most, and an event that may be next isn't
-pub record HasHalted (tree : CTree) (n : ℤ) (post : ℕ → ℕ → ℕ → Type 0) (source : Source) (most : ℕ) (start : Option (List ℕ)) (kept : Record) (now : Option (List ℕ)) (P : ℕ → Seen → Type 0) : Type 0 where
+pub record HasHalted (tree : CTree) (n : ℤ) (post : ℕ → ℕ → ℕ → Type 0) (source : Source) (most : ℕ) (start : Option (List ℕ)) (kept : Record) (now : Option (List ℕ)) (P : ℕ → List (ℕ × Action) → Seen → Type 0) : Type 0 where
   pub count : ℕ
-  pub few : count ≤ most
+  pub few : count < most
   pub x : Seen
   pub played : HasPlayed tree n post source start count x kept now
-  pub is : P count x
+  pub is : P count played.w x
 
 abbrev pub HasStopped : CTree → ℤ → (ℕ → ℕ → ℕ → Type 0) → Source → ℕ → Shown → Option (List ℕ) → Stop → Seen → Record → Option (List ℕ) → Type 0
 HasStopped tree n post source most shown start T.Made x kept now = HasMade tree n post source most start x kept now
-HasStopped tree n post source most shown start (T.Refused t) x kept now = HasHalted tree n post source most start kept now (λ k y. (t ≡ k) × IsUnready tree n source k y)
-HasStopped tree n post source most shown start T.Full x kept now = HasHalted tree n post source most start kept now (λ k y. IsFull tree n source k y)
-HasStopped tree n post source most shown start T.NoMemory x kept now = HasHalted tree n post source most start kept now (λ k y. Unit {0})
+HasStopped tree n post source most shown start (T.Refused t) x kept now = HasHalted tree n post source most start kept now (λ k w y. (t ≡ k) × IsUnready tree n source k y)
+HasStopped tree n post source most shown start T.Full x kept now = HasHalted tree n post source most start kept now (λ k w y. IsFull tree n source k w y)
+HasStopped tree n post source most shown start T.NoMemory x kept now = HasHalted tree n post source most start kept now (λ k w y. Unit {0})
 HasStopped tree n post source most shown start T.WriteFault x kept now = HasBroken tree n post source most shown start now
 
 -- ---- what the end writes

@@ -1,17 +1,17 @@
 -- Events that no other rank takes part in.
-use Rattle.std.proofs.Common.{◌≡◌, ◌<◌, List, [], ◌∷◌, ℕ, Bool, true, false, Option, Some, None, refl, ap, sym, ◌∙◌, subst}
+use Rattle.std.proofs.Common.{◌≡◌, ◌<◌, ◌+◌, List, [], ◌∷◌, ℕ, Bool, true, false, Option, Some, None, refl, ap, sym, ◌∙◌, subst}
 use Rattle.std.specs.Global.{Vec}
 use Rattle.std.specs.List.{slice_set}
 use Rattle.std.proofs.lemmas.List.{set-get_or}
 use Rattle.pb_world.specs.Actions.{Action, Kind, Chooses, Runs, Sends, Receives, Enters, Leaves, Barrier, Broadcast, Reduce, Allreduce, kind_of, branch_in}
 use Rattle.pb_world.specs.Machine as N
-use Rattle.pb_world.specs.Family.{IsInternal}
+use Rattle.pb_world.specs.Family.{IsInternal, choosing, running}
 use Rattle.pb_world.specs.World as W
 use Rattle.pb_world.specs.Counted.{Counted}
 use Rattle.pb_local.specs.Machine as M
 use Rattle.pb_local.specs.Family.{is_allowed, text_machine, Sequence, family}
 use Rattle.pb_chan.specs.declared.message.Message.{Message}
-use Rattle.pb_chan.specs.Lists.{messages, label_of}
+use Rattle.pb_chan.specs.Lists.{messages, label_of, words_in}
 use Rattle.pb_machine.specs.declared.act.Act.{Act}
 use Rattle.pb_machine.specs.declared.act.Act.TheVariants as A
 use Rattle.pb_machine.specs.declared.act.Next.{Next}
@@ -24,6 +24,7 @@ use Rattle.pb_machine.specs.Steps.{next_of, is_there, answer_in}
 use Rattle.pb_sim_world.specs.declared.stand.Stand.{Stand}
 use Rattle.pb_sim_world.specs.declared.state.State.{State}
 use Rattle.pb_sim_world.specs.States.{program, total_of, fresh, stand, state_at, next_step}
+use Rattle.pb_sim_world.specs.Flight.{words_sent, words_received}
 use Rattle.pb_sim_world.specs.Worlds.{moded, is_to, world_of}
 use Rattle.pb_sim_world.specs.Sound.{IsWaiting, IsJoining, IsState}
 use Rattle.pb_sim_world.specs.Events.{remade, IsAdvanced, IsMoved, IsEvent, MayStep, IsOther}
@@ -129,13 +130,14 @@ module _ (s : State) (r : ℕ) (z : Counted M.Rank) (ranks : Vec Rank) (new : St
         (stand_moved s r z ranks r new stands s.channels s.joins sound h w q ∙ at_other (stand s) r new q e)
         (λ p. refl)
 
-  pub own_event : (acts : List Action) → IsState s → r < total_of s → IsMoved s r z ranks → stands.items ≡ slice_set s.stands.items r new → new.waits ≡ (stand s r).waits → new.left ≡ (stand s r).left → new.mode ≡ (stand s r).mode → IsJoining s.joins r (stand s r).left z.state.todo →
+  pub own_event : (acts : List Action) → words_received acts ≡ words_sent acts → IsState s → r < total_of s → IsMoved s r z ranks → stands.items ≡ slice_set s.stands.items r new → new.waits ≡ (stand s r).waits → new.left ≡ (stand s r).left → new.mode ≡ (stand s r).mode → IsJoining s.joins r (stand s r).left z.state.todo →
       ((sequence : Sequence) → W.Step (family (program s) s.n sequence) (world_of s) r acts (W.moved (family (program s) s.n sequence) (world_of s) r z)) → IsEvent s r acts (remade s ranks stands s.channels s.joins)
-  own_event acts sound h m w ws ls ms joining step = record {
+  own_event acts none sound h m w ws ls ms joining step = record {
     step = λ sequence. subst (λ V. W.Step (family (program s) s.n sequence) (world_of s) r acts V) (own_world sound h m w ws ls ms sequence) (step sequence);
     sound = own_kept sound h m w ws ls ms joining;
     tree = refl;
     n = refl;
+    flight = ap (λ (k : ℕ). words_in s.channels + k) none;
   }
 
 module _ (s : State) (r : ℕ) (ranks : Vec Rank) where
@@ -147,7 +149,7 @@ module _ (s : State) (r : ℕ) (ranks : Vec Rank) where
       let e : next_step s r ≡ N.Silent = silent_next (next_step s r) may.next_is in
       let m = quiet_moved s r ranks a e in
       let w = as_it_was may.sound may.there in (
-        own_event s r _ ranks (stand s r) s.stands [] may.sound may.there m w refl refl refl (quiet_joining s r may.sound may.there e) (λ sequence. W.silent (free s sequence r may.there may.free) e),
+        own_event s r _ ranks (stand s r) s.stands [] refl may.sound may.there m w refl refl refl (quiet_joining s r may.sound may.there e) (λ sequence. W.silent (free s sequence r may.there may.free) e),
         own_others s r _ ranks (stand s r) s.stands may.sound may.there m w refl refl refl,
       )
 
@@ -175,9 +177,13 @@ module _ (s : State) (r : ℕ) (ranks : Vec Rank) where
         let m = read_moved s r ranks from label z a e h in
         let f = first (messages s.channels from r) (is_to (stand s from).waits r) head in
         let read : (text_machine (program s) s.n).read (state_at s r) f.0.label ≡ Some z = ap ((text_machine (program s) s.n).read (state_at s r)) f.3 ∙ h in (
-          own_event s r z ranks (stand s r) s.stands [] may.sound may.there m w refl refl refl (read_joining s r from label z may.sound may.there e h) (λ sequence. W.probe (free s sequence r may.there may.free) e f.2 read),
+          own_event s r z ranks (stand s r) s.stands [] refl may.sound may.there m w refl refl refl (read_joining s r from label z may.sound may.there e h) (λ sequence. W.probe (free s sequence r may.there may.free) e f.2 read),
           own_others s r z ranks (stand s r) s.stands may.sound may.there m w refl refl refl,
         )
+
+carries_none : (act : Action) → IsInternal act → words_received (act ∷ []) ≡ words_sent (act ∷ [])
+carries_none act choosing = refl
+carries_none act running = refl
 
 module _ (s : State) (r : ℕ) (ranks : Vec Rank) (new : Stand) (stands : Vec Stand) where
   -- an action whose kernel is the rank's own
@@ -185,6 +191,6 @@ module _ (s : State) (r : ℕ) (ranks : Vec Rank) (new : Stand) (stands : Vec St
       IsEvent s r (act ∷ []) (remade s ranks stands s.channels s.joins) × IsOther s r (remade s ranks stands s.channels s.joins)
   internal_event act input next may e internal branch allowed a w ws ls ms =
       let m = act_moved s r input ranks act a e branch in (
-        own_event s r _ ranks new stands (act ∷ []) may.sound may.there m w ws ls ms (own_joining s r act may.sound may.there e internal) (λ sequence. W.internal (free s sequence r may.there may.free) e internal allowed),
+        own_event s r _ ranks new stands (act ∷ []) (carries_none act internal) may.sound may.there m w ws ls ms (own_joining s r act may.sound may.there e internal) (λ sequence. W.internal (free s sequence r may.there may.free) e internal allowed),
         own_others s r _ ranks new stands may.sound may.there m w ws ls ms,
       )

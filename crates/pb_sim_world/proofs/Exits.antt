@@ -156,7 +156,7 @@ module _ (s : State) (r : ℕ) (ranks : Vec Rank) (stands : Vec Stand) (call : C
       words ≡ outcome_of (label_at (program s) (label_in (collective_of call))).payload (length s.joins.words) call r (words_at s.joins (stand s r).left) →
       IsAdvanced s r Plain ranks → stands.items ≡ slice_set s.stands.items r new → new.waits ≡ (stand s r).waits → new.left ≡ suc (stand s r).left → new.mode ≡ (stand s r).mode →
       IsEvent s r (Leave (collective_of call) words ∷ []) (remade s ranks stands s.channels s.joins) × IsOther s r (remade s ranks stands s.channels s.joins)
-  leave_event may there let_out is a w ws ls ms = (record { step = step; sound = sound; tree = refl; n = refl }, others) where
+  leave_event may there let_out is a w ws ls ms = (record { step = step; sound = sound; tree = refl; n = refl; flight = refl }, others) where
     same_call : (c d : Call) → ◌≡◌ {A = Option Call} (Some c) (Some d) → c ≡ d
     same_call c d z = cc
 

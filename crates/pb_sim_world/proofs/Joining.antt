@@ -203,7 +203,7 @@ module _ (s : State) (r : ℕ) (ranks : Vec Rank) (stands : Vec Stand) (call : C
   pub enter_event : MayStep s r next → next_step s r ≡ N.Does (Enters (collective_of call)) → agrees s.joins r (collective_of call) ≡ true → length words ≡ weight (program s) s.n (collective_of call) r →
       IsAdvanced s r Plain ranks → stands.items ≡ slice_set s.stands.items r new → new.waits ≡ (stand s r).waits → new.left ≡ (stand s r).left → new.mode ≡ mode →
       IsEvent s r (Enter (collective_of call) words ∷ []) (remade s ranks stands s.channels (entered s.joins r call words))
-  enter_event may e fit long a w ws ls ms = record { step = step; sound = sound; tree = refl; n = refl } where
+  enter_event may e fit long a w ws ls ms = record { step = step; sound = sound; tree = refl; n = refl; flight = refl } where
     h : r < length s.joins.words
     h = subst (λ (k : ℕ). r < k) (sym may.sound.joins) may.there
 

@@ -56,9 +56,9 @@ last_of w ms at last lt =
 module _ (s : State) (r : ℕ) (ranks : Vec Rank) (stands : Vec Stand) (channels : List Entry) (p label at : ℕ) (words : List ℕ) (left : Bool) (new : Stand) where
   pub receive_event : MayStep s r (X.Acts (A.Recv p label)) → position label 0 (messages s.channels p r) ≡ Some at → (l : ℕ) × (slice_get (messages s.channels p r) at ≡ Some (record { label = l; words = words })) → left ≡ is_there (position label 0 (messages channels p r)) →
       IsAdvanced s r Plain ranks → stands.items ≡ slice_set s.stands.items p new → new.waits ≡ released (stand s p).waits r label left → new.left ≡ (stand s p).left → new.mode ≡ (stand s p).mode →
-      IsChanged s.channels p r (λ ms. remove ms at) channels → words_in channels ≤ 16777216 →
+      IsChanged s.channels p r (λ ms. remove ms at) channels → words_in channels ≤ 16777216 → words_in channels + length words ≡ words_in s.channels →
       IsEvent s r (Recv p label words ∷ []) (remade s ranks stands channels s.joins) × IsOtherThan s r p (remade s ranks stands channels s.joins)
-  receive_event may found got l a w ws ls ms c few = (record { step = step; sound = sound; tree = refl; n = refl }, others) where
+  receive_event may found got l a w ws ls ms c few fewer = (record { step = step; sound = sound; tree = refl; n = refl; flight = omega (arith, fewer) }, others) where
     e : next_step s r ≡ N.Does (Receives p label)
     e = receive_next (next_step s r) p label may.next_is
 

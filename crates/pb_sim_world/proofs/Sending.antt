@@ -1,5 +1,5 @@
 -- A message is sent, or taken.
-use Rattle.std.proofs.Common.{◌≡◌, ◌<◌, ◌≤◌, ℕ, true, false, ◌&&◌, nat_eq, if◌then◌else◌, ◌⊎◌, inl, inr, Option, Some, None, List, [], ◌∷◌, ◌++◌, length, refl, ap, sym, ◌∙◌, subst}
+use Rattle.std.proofs.Common.{◌≡◌, ◌<◌, ◌≤◌, ℕ, true, false, ◌&&◌, nat_eq, if◌then◌else◌, ◌⊎◌, inl, inr, Option, Some, None, List, [], ◌∷◌, ◌++◌, length, ◌+◌, arith, refl, ap, sym, ◌∙◌, subst}
 use Rattle.std.specs.Global.{Vec}
 use Rattle.std.specs.List.{slice_set}
 use Rattle.std.proofs.lemmas.Bool.{cases_eq, eq-eqb, and_right}
@@ -109,9 +109,9 @@ module _ (s : State) (r : ℕ) (ranks : Vec Rank) (stands : Vec Stand) (channels
   sent = remade s ranks stands channels s.joins
 
   pub send_event : MayStep s r (X.Acts (A.Send to label)) → length words ≡ words_of (program s) s.n label → IsAdvanced s r Plain ranks → stands.items ≡ slice_set s.stands.items r new → new.waits ≡ waits_for mode to label → new.left ≡ (stand s r).left → new.mode ≡ (stand s r).mode →
-      IsChanged s.channels r to (λ ms. ms ++ record { label = label; words = words } ∷ []) channels → words_in channels ≤ 16777216 →
+      IsChanged s.channels r to (λ ms. ms ++ record { label = label; words = words } ∷ []) channels → words_in channels ≤ 16777216 → words_in channels ≡ words_in s.channels + length words →
       IsEvent s r (Send to label words ∷ []) (remade s ranks stands channels s.joins) × IsOtherThan s r to (remade s ranks stands channels s.joins)
-  send_event may long a w ws ls ms c few = (record { step = step; sound = sound; tree = refl; n = refl }, others) where
+  send_event may long a w ws ls ms c few more = (record { step = step; sound = sound; tree = refl; n = refl; flight = omega (arith, more) }, others) where
     act : Action
     act = Send to label words
 

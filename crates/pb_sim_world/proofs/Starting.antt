@@ -115,4 +115,5 @@ module _ (s : State) (stands : (r : ℕ) → stand s r ≡ fresh) (starts : AreS
     };
     world = world_is;
     stands = stands;
+    none = nothing;
   }

@@ -15,6 +15,7 @@ use Rattle.pb_sim_world.specs.States.{program, total_of, stand, state_at, next_a
 use Rattle.pb_sim_world.specs.Sound.{IsRank, IsState}
 use Rattle.pb_sim_world.specs.Worlds.{world_of}
 use Rattle.pb_sim_world.specs.Can.{can}
+use Rattle.pb_sim_world.specs.Flight.{words_sent, words_received}
 use Rattle.pb_world.specs.Actions.{Action}
 use Rattle.pb_world.specs.World.{Step}
 use Rattle.pb_local.specs.Family.{Sequence, family}
@@ -38,12 +39,14 @@ pub record IsMoved (s : State) (r : ℕ) (z : Counted M.Rank) (ranks : Vec Rank)
   pub is_rank : IsRank s.tree s.n rank
   pub state : state_of s.tree rank ≡ z
 
--- One event of rank r, with these actions, whatever the sequential run is
+-- One event of rank r, with these actions, whatever the sequential run is. The words that are in flight are more by what was
+-- sent, and fewer by what was received
 pub record IsEvent (s : State) (r : ℕ) (acts : List Action) (t : State) : Type 0 where
   pub step : (sequence : Sequence) → Step (family (program s) s.n sequence) (world_of s) r acts (world_of t)
   pub sound : IsState t
   pub tree : t.tree ≡ s.tree
   pub n : t.n ≡ s.n
+  pub flight : words_in t.channels + words_received acts ≡ words_in s.channels + words_sent acts
 
 -- a rank's machine may make a step that comes next
 pub record MayStep (s : State) (r : ℕ) (next : Next) : Type 0 where

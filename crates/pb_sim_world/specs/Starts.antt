@@ -3,6 +3,7 @@ use Rattle.std.specs.Prelude.{◌≡◌, ℕ, ℤ, List, Some, length, slice_get
 use Rattle.pb_world.specs.World.{beginning}
 use Rattle.pb_local.specs.Tree.{program_of}
 use Rattle.pb_local.specs.Family.{text_start, Sequence, family}
+use Rattle.pb_chan.specs.Lists.{words_in}
 use Rattle.pb_ctree.specs.declared.tree.CTree.{CTree}
 use Rattle.pb_machine.specs.declared.rank.Rank.{Rank}
 use Rattle.pb_machine.specs.Steps.{state_of}
@@ -34,3 +35,4 @@ pub record IsStart (tree : CTree) (n : ℤ) (s : State) : Type 0 where
   pub sound : IsState s
   pub world : (sequence : Sequence) → world_of s ≡ beginning (family (program s) s.n sequence)
   pub stands : (r : ℕ) → stand s r ≡ fresh
+  pub none : words_in s.channels ≡ 0

@@ -143,6 +143,7 @@ fn put_limit(text: &mut Text, quantity: Quantity) -> Result<(), NoMemory> {
         Quantity::TextNesting => b"text nesting",
         Quantity::TextStatements => b"text statements",
         Quantity::Events => b"events",
+        Quantity::Pieces => b"pieces",
     })
 }
 

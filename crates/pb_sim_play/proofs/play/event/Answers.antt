@@ -2,6 +2,7 @@ use Rattle.std.proofs.Common.{rules, refl, subst, ◌∙◌}
 use Rattle.pb_sim.specs.Made.{IsRefusal}
 use Rattle.pb_sim_play.specs.Plans.{pair_of}
 use Rattle.pb_sim_play.specs.Records.{shown_by}
+use Rattle.pb_sim.proofs.Runs.{too_much}
 use Rattle.pb_sim_play.proofs.Events.{event_lost, event_broken}
 use Rattle.pb_sim_play.proofs.play.event.Goals as goal
 
@@ -24,4 +25,4 @@ returns-in-Err-NotReady-clause-failed g c source start may played =
 pub returns-in-Err-Full-clause-failed : goal.returns-in-Err-Full-clause-failed
 returns-in-Err-Full-clause-failed g c source start may played =
     let refused = subst (λ f. IsRefusal c.args.sim.now.held c.args.turn.rank f) c.in-Err-Full.field-0-is c.in-Err-Full.ensures.refused in
-    (c.args.sim.now.held, played, record { turn = pair_of c.args.turn; may = may; why = refused.1 })
+    (c.args.sim.now.held, (played, record { turn = pair_of c.args.turn; may = may; why = (refused.0, too_much played.w c.args.sim.now.held c.args.turn.rank played.play.run.flight refused.1) }))

@@ -47,4 +47,4 @@ returns-clause-event c =
     (subst (IsAdvanced c.args.self.now c.args.rank Plain) (sym c.keep.ensures.ranks) c.advance.ensures.advanced)
     (written _ _ _ c.args.from _ c.advance.ensures.stands c.keep.ensures.stands)
     (c.waits_behind-waits.ensures ∙ ap (λ (v : Stand). released v.waits c.args.rank c.args.label left) c.kept_of-kept.ensures) (ap (λ (v : Stand). v.left) c.kept_of-kept.ensures) (ap (λ (v : Stand). v.mode) c.kept_of-kept.ensures)
-    changed (omega (arith, n, few)))
+    changed (omega (arith, n, few)) n)

@@ -30,4 +30,4 @@ returns-clause-event c =
     (subst (IsAdvanced c.args.self.now c.args.rank Plain) (sym c.keep.ensures.ranks) (alike c.args.self.now c.args.rank Plain c.advance.new.self.ranks c.args.self.now.stands c.put.new.self c.args.self.now.joins c.advance.ensures.advanced))
     (written _ _ _ c.args.rank _ c.advance.ensures.stands c.keep.ensures.stands)
     c.waits_for.ensures (ap (λ (v : Stand). v.left) c.kept_of-kept.ensures) (ap (λ (v : Stand). v.mode) c.kept_of-kept.ensures)
-    changed (rw n few))
+    changed (rw n few) n)
