@@ -8,3 +8,4 @@ pub mod Shelf
 pub mod Sinks
 pub mod SureFolder
 pub mod SureSink
+pub mod Unread

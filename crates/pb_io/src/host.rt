@@ -1,4 +1,5 @@
-ghost use Rattle.std.specs.Prelude.{◌≡◌, None, false};
+ghost use Rattle.std.specs.Prelude.{◌≡◌, None, false, IsSome, OnOk, OnErr, option_and_then};
+ghost use Rattle.pb_io.specs.Faults.{HasCause};
 
 use crate::calls::count_up;
 use crate::{Failed, Folder, Sink};
@@ -25,20 +26,13 @@ impl<'a, R: Files> HostFolder<'a, R> {
             faults: 0,
         }
     }
-}
 
-impl<'a, R: Files> Folder for HostFolder<'a, R> {
-    ghost holds = { λ _. None };
-
-    ghost left = { λ _. None };
-
-    ghost steady = { λ _. false };
-
-    ghost faults = { λ folder. folder.faults };
-
-    ghost reads = { λ _. 0 };
-
-    fn open_file(&mut self, name: &str) -> Result<(), Failed> {
+    /// Opens the file with this name in place of the one that was open. `Failed` leaves that one open.
+    fn open(&mut self, name: &str) -> Result<(), Failed>
+        ensures open { OnOk result (IsSome self.new.file) }
+        ensures same { OnErr result (self.new.file ≡ self.old.file) }
+        ensures cause { HasCause self.old.faults self.new.faults result }
+    {
         match File::open(self.rt, name) {
             Ok(file) => {
                 self.file = Some(file);
@@ -49,6 +43,23 @@ impl<'a, R: Files> Folder for HostFolder<'a, R> {
                 Err(Failed)
             }
         }
+    }
+}
+
+impl<'a, R: Files> Folder for HostFolder<'a, R> {
+    ghost holds = { λ _. None };
+
+    // Of a file whose bytes the runtime tells; without an open file nothing is told.
+    ghost left = { λ folder. option_and_then R.File.remaining folder.file };
+
+    ghost steady = { λ _. false };
+
+    ghost faults = { λ folder. folder.faults };
+
+    ghost reads = { λ _. 0 };
+
+    fn open_file(&mut self, name: &str) -> Result<(), Failed> {
+        self.open(name)
     }
 
     fn read(&mut self, buf: &mut [u8]) -> Result<usize, Failed> {
@@ -82,7 +93,8 @@ impl<W: Write + Drop> HostSink<W> {
 }
 
 impl<W: Write + Drop> Sink for HostSink<W> {
-    ghost taken = { λ _. None };
+    // Where the writer tells what it holds.
+    ghost taken = { λ sink. W.contents sink.to };
 
     ghost faults = { λ sink. sink.faults };
 

@@ -83,14 +83,23 @@ fn sure_ones_never_fail(rt: HostRuntime) -> Result<(), Fail> {
 }
 
 #[test]
-fn host_folder_reads_a_file(rt: HostRuntime) -> Result<(), Fail> {
-    let path = format!(in rt.alloc(); "/tmp/pb_io_{}", std::process::id(rt.process()))?;
-    fs::write(&rt, path.as_str(), b"on disk")?;
+fn host_folder_reads_files(rt: HostRuntime) -> Result<(), Fail> {
+    let id = std::process::id(rt.process());
+    let first = format!(in rt.alloc(); "/tmp/pb_io_{id}_first")?;
+    let second = format!(in rt.alloc(); "/tmp/pb_io_{id}_second")?;
+    fs::write(&rt, first.as_str(), b"on disk")?;
+    fs::write(&rt, second.as_str(), b"and this")?;
     let mut folder = HostFolder::new(&rt);
-    let read = read_all(rt.alloc(), &mut folder, path.as_str(), 7);
-    fs::remove_file(&rt, path.as_str())?;
-    assert_eq!(rt; read?.as_slice(), b"on disk".as_slice());
-    let gone = read_all(rt.alloc(), &mut folder, path.as_str(), 7);
+    // The first is left open behind some of its bytes, and the second comes in its place.
+    let cut = read_all(rt.alloc(), &mut folder, first.as_str(), 3);
+    let other = read_all(rt.alloc(), &mut folder, second.as_str(), 8);
+    let whole = read_all(rt.alloc(), &mut folder, first.as_str(), 7);
+    fs::remove_file(&rt, first.as_str())?;
+    fs::remove_file(&rt, second.as_str())?;
+    assert_eq!(rt; cut.map(|bytes| bytes.len()), Err(InFault::TooLong));
+    assert_eq!(rt; other?.as_slice(), b"and this".as_slice());
+    assert_eq!(rt; whole?.as_slice(), b"on disk".as_slice());
+    let gone = read_all(rt.alloc(), &mut folder, first.as_str(), 7);
     assert_eq!(rt; gone.map(|bytes| bytes.len()), Err(InFault::ReadFault));
     Ok(())
 }

@@ -127,6 +127,7 @@ fn passes_fault(quantity: Quantity, place: Place) -> ParseFault
         | Quantity::WordsInFlight
         | Quantity::TextNesting
         | Quantity::TextStatements
-        | Quantity::Events => ParseFault::TooMany(quantity, place),
+        | Quantity::Events
+        | Quantity::Pieces => ParseFault::TooMany(quantity, place),
     }
 }

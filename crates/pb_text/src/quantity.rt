@@ -31,4 +31,6 @@ pub enum Quantity {
     TextStatements,
     /// Events in a schedule.
     Events,
+    /// Pieces of a count of messages or words, each a line in N.
+    Pieces,
 }
