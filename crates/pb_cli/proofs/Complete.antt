@@ -1,5 +1,5 @@
 -- Each reply is one of those that may come.
-use Rattle.std.proofs.Common.{◌≡◌, ◌≢◌, ℕ, ◌<◌, ◌≤◌, pos, inl, inr, List, [], ◌∷◌, map, length, Option, None, Some, refl, sym, ap, subst, ◌∙◌, arith}
+use Rattle.std.proofs.Common.{◌≡◌, ◌≢◌, ℕ, ◌<◌, ◌≤◌, pos, inl, inr, List, [], ◌∷◌, map, length, Option, None, Some, Ok, refl, sym, ap, subst, ◌∙◌, arith}
 use Rattle.std.specs.Prelude.{Contains, ◌^◌}
 use Rattle.pb_text.specs.declared.limits.TheConstants.{MOST_TEXT_BYTES}
 use Rattle.pb_io.specs.Files.{File, content_of}
@@ -7,7 +7,7 @@ use Rattle.pb_core_language.specs.Plain.{Protocol}
 use Rattle.pb_local.specs.Tree.{Program, program_of}
 use Rattle.pb_local.specs.Ranks.{total}
 use Rattle.pb_ctree.specs.declared.tree.CTree.{CTree}
-use Rattle.pb_cli_words.specs.Request.{Request, check, gen, project, sim, replay, run}
+use Rattle.pb_cli_words.specs.Request.{Request, check, gen, gen_with, project, sim, replay, run}
 use Rattle.pb_cli_words.specs.declared.options.Options.{Options}
 use Rattle.pb_cli_words.specs.declared.options.Shown.{Shown}
 use Rattle.pb_cli_words.specs.declared.options.Shown.TheVariants.{Log}
@@ -28,12 +28,19 @@ use Rattle.pb_cli_simulate.specs.Commands as T
 use Rattle.pb_cli_simulate.specs.Sources.{IsTextOf, IsNoText, IsNoSchedule}
 use Rattle.pb_cli_simulate.specs.Replies as R
 use Rattle.pb_cli_simulate.specs.Replies.{Starts}
-use Rattle.pb_cli.specs.declared.answer.Wanted.TheVariants as W
+use Rattle.pb_cli_file.specs.declared.answer.Wanted.TheVariants as W
 use Rattle.pb_cli_status.specs.Written.{Says}
-use Rattle.pb_cli.specs.Reply.{IsFileReply, IsUsage, Makes, SaysOf, most_bytes, refusal_of}
+use Rattle.pb_cli_verdict.specs.Refusals.{refusal_of}
+use Rattle.pb_ctree.specs.Functions.{functions_of}
+use Rattle.pb_kernels.specs.declared.file.NamedBody.{NamedBody}
+use Rattle.pb_kernels.specs.Files.{kernel_file}
+use Rattle.pb_cli_file.specs.Files.{IsFileReply, Makes, OrUnread, SaysOf, most_bytes}
+use Rattle.pb_cli_file.specs.Kernels.{HasEach, IsKernelsReply, IsMergeReply, functions_in}
+use Rattle.pb_cli.specs.Reply.{IsUsage}
 use Rattle.pb_cli.specs.Run.{MayRun, IsRunReply, SaysRun, SaysRunReply}
 use Rattle.pb_cli.specs.Program.{SaysReply}
 use Rattle.pb_cli.specs.Complete.{Comes, Completes, IsComplete}
+use Rattle.pb_cli_file.proofs.Merged.{functions_same, no_fault}
 use Rattle.pb_cli_laws.proofs.Files.{accepted_has_no_fault, one_meaning}
 use Rattle.pb_cli_laws.proofs.Texts.{text_has_no_fault, one_text_tree}
 use Rattle.pb_cli_laws.proofs.Schedules.{schedule_has_no_fault}
@@ -72,6 +79,14 @@ said these status result text old new is (inr (same, front)) = subst (Comes thes
 
 broken_off : (these : List Status) (result : Status) → result ≡ S.WriteFault → Comes these result
 broken_off these result same = subst (Comes these) (sym same) (write_fault these)
+
+-- whatever is told of a read fault
+plainly : (unread : Type 0) (Belong : Status → List ℕ → Type 0) (result : Status) (old new : Option (List ℕ)) → SaysOf (OrUnread unread Belong) result old new → SaysOf Belong result old new
+plainly unread Belong result old new (status, text, reply, says) = (status, text, reply.1, says)
+
+untaken : (IsOf : Refusal → Type 0) (IsRefused : List ℕ → Refusal → Type 0) (unread : List ℕ → Type 0) (name : List ℕ) (holds : Option (List File)) (result : Status) (old new : Option (List ℕ))
+    → T.Refuses (T.IsDenied IsOf IsRefused unread name holds) result old new → T.Refuses (T.IsUntaken IsRefused name holds) result old new
+untaken IsOf IsRefused unread name holds result old new (why, is, says) = (why, is.untaken, says)
 
 -- ---- usage
 
@@ -121,6 +136,42 @@ module _ (IsText : List ℕ → List ℕ → Type 0) (name : List ℕ) (result :
     λ p few is. said (S.Done ∷ []) status result text old new (file_comes IsText name files p few is (S.Done ∷ []) (first S.Done []) status text reply) says,
   )
 
+-- ---- protocol files with kernel files
+
+kernels_not : (tree : CTree) (kernels : List ℕ) (holds : Option (List File)) (status : Status) (text : List ℕ) → IsKernelsReply tree kernels holds status text → NotUsage status
+kernels_not tree kernels holds S.Usage text reply = absurd reply
+kernels_not tree kernels holds other text reply = tt
+
+merge_not : (name kernels : List ℕ) (holds : Option (List File)) (status : Status) (text : List ℕ) → IsMergeReply name kernels holds status text → NotUsage status
+merge_not name kernels holds status text (inl is) = file_not (λ bytes written. ⊥) name holds status text is.1
+merge_not name kernels holds status text (inr (tree, of, is)) = kernels_not tree kernels holds status text is
+
+module _ (kernels : List ℕ) (files : List File) (p : Protocol) (tree : CTree) (same : functions_of (program_of tree.local) ≡ functions_in p) (few : length (content_of files kernels) ≤ most_bytes)
+    (file : List NamedBody) (read : kernel_file (content_of files kernels) ≡ Ok file) (has : HasEach (functions_in p) file) where
+  kernels_come : (status : Status) (text : List ℕ) → IsKernelsReply tree kernels (Some files) status text → Comes (S.Done ∷ []) status
+  kernels_come S.Done text reply = first S.Done []
+  kernels_come S.Kernel text (f, is, line) = absurd (no_fault (content_of files kernels) p tree same file read has f is.1)
+  kernels_come S.Limit text (more, line) = absurd (omega (arith, few, more))
+  kernels_come S.ReadFault text reply = read_fault (S.Done ∷ [])
+  kernels_come S.NoMemory text reply = no_memory (S.Done ∷ [])
+  kernels_come other text reply = absurd reply
+
+module _ (name kernels : List ℕ) (result : Status) (old new : Option (List ℕ)) where
+  merge_comes : (files : List File) (p : Protocol) → length (content_of files name) ≤ most_bytes → IsAcceptedAs (content_of files name) p → (file : List NamedBody) → length (content_of files kernels) ≤ most_bytes
+      → kernel_file (content_of files kernels) ≡ Ok file → HasEach (functions_in p) file → (status : Status) (text : List ℕ) → IsMergeReply name kernels (Some files) status text → Comes (S.Done ∷ []) status
+  merge_comes files p few is file short read has status text (inl reply) = file_comes (λ bytes written. ⊥) name files p few is (S.Done ∷ []) (first S.Done []) status text reply.1
+  merge_comes files p few is file short read has status text (inr (tree, of, reply)) =
+      let own : of.protocol ≡ p = one_meaning of.bytes of.protocol p of.compiled.accepted (subst (λ (b : List ℕ). IsAcceptedAs b p) (sym of.content) is) in
+      let same : functions_of (program_of tree.local) ≡ functions_in p = functions_same of.bytes of.protocol tree of.compiled ∙ ap functions_in own in
+      kernels_come kernels files p tree same short file read has status text reply
+
+  merge_complete : (holds : Option (List File)) → SaysOf (IsMergeReply name kernels holds) result old new → (result ≢ S.Usage) × Completes (gen_with name kernels) holds result
+  merge_complete None (status, text, reply, says) = (said_not status result text old new (merge_not name kernels None status text reply) says, tt)
+  merge_complete (Some files) (status, text, reply, says) = (
+    said_not status result text old new (merge_not name kernels (Some files) status text reply) says,
+    λ p few is file short read has. said (S.Done ∷ []) status result text old new (merge_comes files p few is file short read has status text reply) says,
+  )
+
 -- ---- runs of protocol files
 
 run_not : (p : Protocol) (tree : CTree) (n : ℕ) (post : ℕ → ℕ → ℕ → Type 0) (source : Source) (most : ℕ) (shown : Shown) (seed : ℕ) (status : Status) (text : List ℕ)
@@ -148,18 +199,18 @@ module _ (p : Protocol) (tree : CTree) (n : ℕ) (post : ℕ → ℕ → ℕ →
   )
   run_reply (inr (same, rest)) = (never result (subst NotUsage (sym same) tt), λ may. broken_off run_statuses result same)
 
-run_complete : (post : ℕ → ℕ → ℕ → ℕ → Type 0) (name : List ℕ) (options : Options) (holds : Option (List File)) (result : Status) (old new : Option (List ℕ))
-    → SaysRun post name options holds result old new → (result ≢ S.Usage) × Completes (run name options) holds result
-run_complete post name options None result old new (inl (status, text, reply, says)) =
-    (said_not status result text old new (file_not (λ bytes written. ⊥) name None status text reply.1) says, tt)
-run_complete post name options (Some files) result old new (inl (status, text, reply, says)) = (
-  said_not status result text old new (file_not (λ bytes written. ⊥) name (Some files) status text reply.1) says,
+run_complete : (post : ℕ → ℕ → ℕ → ℕ → Type 0) (unread : List ℕ → Type 0) (name : List ℕ) (options : Options) (holds : Option (List File)) (result : Status) (old new : Option (List ℕ))
+    → SaysRun post unread name options holds result old new → (result ≢ S.Usage) × Completes (run name options) holds result
+run_complete post unread name options None result old new (inl (status, text, reply, says)) =
+    (said_not status result text old new (file_not (λ bytes written. ⊥) name None status text reply.1.1) says, tt)
+run_complete post unread name options (Some files) result old new (inl (status, text, reply, says)) = (
+  said_not status result text old new (file_not (λ bytes written. ⊥) name (Some files) status text reply.1.1) says,
   λ p few is may. said run_statuses status result text old new
-      (file_comes (λ bytes written. ⊥) name files p few is run_statuses (first S.Done (S.Turns ∷ S.Limit ∷ [])) status text reply.1) says,
+      (file_comes (λ bytes written. ⊥) name files p few is run_statuses (first S.Done (S.Turns ∷ S.Limit ∷ [])) status text reply.1.1) says,
 )
-run_complete post name options None result old new (inr (bytes, p, tree, content, short, compiled, reply)) =
+run_complete post unread name options None result old new (inr (bytes, p, tree, content, short, compiled, reply)) =
     ((run_reply p tree options.n (post options.seed) (drawn options.seed options.modes) options.turns options.shown options.seed result old new reply).0, tt)
-run_complete post name options (Some files) result old new (inr (bytes, p, tree, content, short, compiled, reply)) =
+run_complete post unread name options (Some files) result old new (inr (bytes, p, tree, content, short, compiled, reply)) =
     let r = run_reply p tree options.n (post options.seed) (drawn options.seed options.modes) options.turns options.shown options.seed result old new reply in
     (r.0, λ q few is may. r.1 (subst (λ (x : Protocol). MayRun x options.n) (one_meaning bytes q p (subst (λ (b : List ℕ). IsAcceptedAs b q) (sym content) is) compiled.accepted) may))
 
@@ -246,16 +297,16 @@ module _ (name : List ℕ) (files : List File) (n : ℕ) (t u : CTree) (few : le
   starts_here : IsTextOf (content_of files name) t → IsTextOf (content_of files name) u → Starts t n → Starts u n
   starts_here a b starts = starts_too t u n (one_text_tree (content_of files name) t u (within_64 (length (content_of files name)) few) a b) starts
 
-sim_complete : (post : ℕ → ℕ → ℕ → ℕ → Type 0) (name : List ℕ) (options : Options) (holds : Option (List File)) (result : Status) (old new : Option (List ℕ))
-    → T.SaysSim post name options holds result old new → (result ≢ S.Usage) × Completes (sim name options) holds result
-sim_complete post name options None result old new (inl refuses) = (refuses_not IsNoText name None result old new refuses, tt)
-sim_complete post name options None result old new (inr (u, told, says)) =
+sim_complete : (post : ℕ → ℕ → ℕ → ℕ → Type 0) (unread : List ℕ → Type 0) (name : List ℕ) (options : Options) (holds : Option (List File)) (result : Status) (old new : Option (List ℕ))
+    → T.SaysSim post unread name options holds result old new → (result ≢ S.Usage) × Completes (sim name options) holds result
+sim_complete post unread name options None result old new (inl refuses) = (refuses_not IsNoText name None result old new (untaken T.IsOfText IsNoText unread name None result old new refuses), tt)
+sim_complete post unread name options None result old new (inr (u, told, says)) =
     (says_not u options.n (post options.seed) (drawn options.seed options.modes) options.turns options.shown options.seed result old new says, tt)
-sim_complete post name options (Some files) result old new (inl refuses) = (
-  refuses_not IsNoText name (Some files) result old new refuses,
-  λ t few is starts. refuses_comes IsNoText name files few (text_has_no_fault (content_of files name) t is) (sim_statuses []) result old new refuses,
+sim_complete post unread name options (Some files) result old new (inl refuses) = (
+  refuses_not IsNoText name (Some files) result old new (untaken T.IsOfText IsNoText unread name (Some files) result old new refuses),
+  λ t few is starts. refuses_comes IsNoText name files few (text_has_no_fault (content_of files name) t is) (sim_statuses []) result old new (untaken T.IsOfText IsNoText unread name (Some files) result old new refuses),
 )
-sim_complete post name options (Some files) result old new (inr (u, told, says)) = (
+sim_complete post unread name options (Some files) result old new (inr (u, told, says)) = (
   says_not u options.n (post options.seed) (drawn options.seed options.modes) options.turns options.shown options.seed result old new says,
   λ t few is starts. says_comes u options.n (post options.seed) (drawn options.seed options.modes) options.turns options.shown options.seed (starts_here name files options.n t u few is told.1 starts) []
       (λ k text reply. absurd (never_refused u options.n (post options.seed) options.seed options.modes options.turns options.shown options.seed k text reply)) result old new says,
@@ -263,20 +314,20 @@ sim_complete post name options (Some files) result old new (inr (u, told, says))
 
 -- ---- simulations by a schedule
 
-module _ (post : ℕ → ℕ → ℕ → ℕ → Type 0) (name schedule : List ℕ) (n : ℕ) (result : Status) (old new : Option (List ℕ)) where
-  replay_not : (holds : Option (List File)) → T.SaysReplay post name schedule n holds result old new → result ≢ S.Usage
-  replay_not holds (inl refuses) = refuses_not IsNoText name holds result old new refuses
-  replay_not holds (inr (u, told, inl refuses)) = refuses_not IsNoSchedule schedule holds result old new refuses
+module _ (post : ℕ → ℕ → ℕ → ℕ → Type 0) (unread : List ℕ → Type 0) (name schedule : List ℕ) (n : ℕ) (result : Status) (old new : Option (List ℕ)) where
+  replay_not : (holds : Option (List File)) → T.SaysReplay post unread name schedule n holds result old new → result ≢ S.Usage
+  replay_not holds (inl refuses) = refuses_not IsNoText name holds result old new (untaken T.IsOfText IsNoText unread name holds result old new refuses)
+  replay_not holds (inr (u, told, inl refuses)) = refuses_not IsNoSchedule schedule holds result old new (untaken T.IsOfSchedule IsNoSchedule unread schedule holds result old new refuses)
   replay_not holds (inr (u, told, inr (seed, turns, read, says))) = says_not u n (post seed) (given (map pair_of turns)) (length turns) Log 0 result old new says
 
-  replay_complete : (holds : Option (List File)) → T.SaysReplay post name schedule n holds result old new → (result ≢ S.Usage) × Completes (replay name schedule n) holds result
+  replay_complete : (holds : Option (List File)) → T.SaysReplay post unread name schedule n holds result old new → (result ≢ S.Usage) × Completes (replay name schedule n) holds result
   replay_complete None said = (replay_not None said, tt)
   replay_complete (Some files) said = (replay_not (Some files) said, λ t few is starts seed turns short read. on t few is starts seed turns short read said) where
     on : (t : CTree) → length (content_of files name) ≤ MOST_TEXT_BYTES → IsTextOf (content_of files name) t → Starts t n → (seed : ℕ) (turns : List Turn) → length (content_of files schedule) ≤ MOST_TEXT_BYTES
-        → IsSchedule (content_of files schedule) seed turns → T.SaysReplay post name schedule n (Some files) result old new → Comes (sim_statuses (S.Schedule ∷ [])) result
-    on t few is starts seed turns short read (inl refuses) = refuses_comes IsNoText name files few (text_has_no_fault (content_of files name) t is) (sim_statuses (S.Schedule ∷ [])) result old new refuses
+        → IsSchedule (content_of files schedule) seed turns → T.SaysReplay post unread name schedule n (Some files) result old new → Comes (sim_statuses (S.Schedule ∷ [])) result
+    on t few is starts seed turns short read (inl refuses) = refuses_comes IsNoText name files few (text_has_no_fault (content_of files name) t is) (sim_statuses (S.Schedule ∷ [])) result old new (untaken T.IsOfText IsNoText unread name (Some files) result old new refuses)
     on t few is starts seed turns short read (inr (u, told, inl refuses)) =
-        refuses_comes IsNoSchedule schedule files short (schedule_has_no_fault (content_of files schedule) seed turns read) (sim_statuses (S.Schedule ∷ [])) result old new refuses
+        refuses_comes IsNoSchedule schedule files short (schedule_has_no_fault (content_of files schedule) seed turns read) (sim_statuses (S.Schedule ∷ [])) result old new (untaken T.IsOfSchedule IsNoSchedule unread schedule (Some files) result old new refuses)
     on t few is starts seed turns short read (inr (u, told, inr (other, others, own, says))) =
         says_comes u n (post other) (given (map pair_of others)) (length others) Log 0 (starts_here name files n t u few is told.1 starts) (S.Schedule ∷ [])
         (λ k text reply. fifth S.Done S.Stuck S.Turns S.Limit S.Schedule []) result old new says
@@ -294,12 +345,13 @@ usage_complete result old new (status, text, is, inr (same, front)) = subst (Con
 
 -- ---- the program
 
-pub complete : (post : ℕ → ℕ → ℕ → ℕ → Type 0) (request : Option Request) (holds : Option (List File)) (result : Status) (old new : Option (List ℕ))
-    → SaysReply post request holds result old new → IsComplete request holds result
-complete post None holds result old new said = usage_complete result old new said
-complete post (Some (check name)) holds result old new said = file_complete (Makes W.Verdict) name result old new holds said
-complete post (Some (gen name)) holds result old new said = file_complete (Makes W.Text) name result old new holds said
-complete post (Some (project name)) holds result old new said = file_complete (Makes W.Layout) name result old new holds said
-complete post (Some (sim name options)) holds result old new said = sim_complete post name options holds result old new said
-complete post (Some (replay name schedule n)) holds result old new said = replay_complete post name schedule n result old new holds said
-complete post (Some (run name options)) holds result old new said = run_complete post name options holds result old new said
+pub complete : (post : ℕ → ℕ → ℕ → ℕ → Type 0) (unread : List ℕ → Type 0) (request : Option Request) (holds : Option (List File)) (result : Status) (old new : Option (List ℕ))
+    → SaysReply post unread request holds result old new → IsComplete request holds result
+complete post unread None holds result old new said = usage_complete result old new said
+complete post unread (Some (check name)) holds result old new said = file_complete (Makes W.Verdict) name result old new holds (plainly (unread name) (IsFileReply (Makes W.Verdict) name holds) result old new said)
+complete post unread (Some (gen name)) holds result old new said = file_complete (Makes W.Text) name result old new holds (plainly (unread name) (IsFileReply (Makes W.Text) name holds) result old new said)
+complete post unread (Some (gen_with name kernels)) holds result old new said = merge_complete name kernels result old new holds said
+complete post unread (Some (project name)) holds result old new said = file_complete (Makes W.Layout) name result old new holds (plainly (unread name) (IsFileReply (Makes W.Layout) name holds) result old new said)
+complete post unread (Some (sim name options)) holds result old new said = sim_complete post unread name options holds result old new said
+complete post unread (Some (replay name schedule n)) holds result old new said = replay_complete post unread name schedule n result old new holds said
+complete post unread (Some (run name options)) holds result old new said = run_complete post unread name options holds result old new said

@@ -1,4 +1,3 @@
-pub mod Answered
 pub mod Complete
 pub mod Replies
 pub mod Runs

@@ -1,30 +1,30 @@
--- A status and a text that belong together, and were said, are a reply.
-use Rattle.std.proofs.Common.{ℕ, List, Option, Some, None, Result, Ok, Err, refl, inl}
+-- Want of memory is a reply to all words.
+use Rattle.std.proofs.Common.{◌≡◌, ℕ, List, Option, Some, None, refl, inl}
 use Rattle.pb_io.specs.Files.{File}
-use Rattle.pb_cli_words.specs.Request.{Request, check, gen, project, sim, replay, run}
-use Rattle.pb_cli_status.specs.Lines.{line_of, status_of}
+use Rattle.pb_cli_words.specs.Request.{Request, check, gen, gen_with, project, sim, replay, run}
+use Rattle.pb_cli_status.specs.Lines.{line_of}
 use Rattle.pb_cli_status.specs.declared.refusal.Refusal.{Refusal}
 use Rattle.pb_cli_status.specs.declared.refusal.Refusal.TheVariants as refusal
 use Rattle.pb_cli_status.specs.declared.status.Status.{Status}
-use Rattle.pb_cli_status.specs.declared.status.Status.TheVariants.{Done, NoMemory}
+use Rattle.pb_cli_status.specs.declared.status.Status.TheVariants.{NoMemory, ReadFault}
 use Rattle.pb_cli.specs.Program.{SaysReply}
 use Rattle.pb_cli_status.specs.Written.{Says}
-use Rattle.pb_cli.specs.Reply.{Answers, SaysOf, bytes_of}
-use Rattle.pb_cli.specs.declared.answer.Answer.{Answer}
-use Rattle.pb_cli.proofs.Answered.{never_done}
+use Rattle.pb_cli_file.proofs.Answered.{never_done}
 
-pub said : (Belong : Status → List ℕ → Type 0) (answer : Result Answer Refusal) (result : Status) (old new : Option (List ℕ))
-    → Answers answer Belong → Answers answer (λ status text. Says status text result old new) → SaysOf Belong result old new
-said Belong (Ok answer) result old new reply says = (Done, bytes_of answer, reply, says)
-said Belong (Err refusal) result old new reply says = (status_of refusal, line_of refusal, reply, says)
+not_unread : NoMemory ≡ ReadFault → ⊥
+not_unread e = absurd cc
+
+other_refusal : ◌≡◌ {A = Refusal} refusal.NoMemory refusal.ReadFault → ⊥
+other_refusal e = absurd cc
 
 -- want of memory belongs to all words
-pub no_memory : (post : ℕ → ℕ → ℕ → ℕ → Type 0) (form : Option Request) (holds : Option (List File)) (result : Status) (old new : Option (List ℕ))
-    → Says NoMemory (line_of refusal.NoMemory) result old new → SaysReply post form holds result old new
-no_memory post None holds result old new says = (NoMemory, line_of refusal.NoMemory, refl, says)
-no_memory post (Some (check name)) holds result old new says = (NoMemory, line_of refusal.NoMemory, refl, says)
-no_memory post (Some (gen name)) holds result old new says = (NoMemory, line_of refusal.NoMemory, refl, says)
-no_memory post (Some (project name)) holds result old new says = (NoMemory, line_of refusal.NoMemory, refl, says)
-no_memory post (Some (sim name options)) holds result old new says = inl (refusal.NoMemory, tt, says)
-no_memory post (Some (replay name schedule n)) holds result old new says = inl (refusal.NoMemory, tt, says)
-no_memory post (Some (run name options)) holds result old new says = inl (NoMemory, line_of refusal.NoMemory, (never_done refusal.NoMemory, refl), says)
+pub no_memory : (post : ℕ → ℕ → ℕ → ℕ → Type 0) (unread : List ℕ → Type 0) (form : Option Request) (holds : Option (List File)) (result : Status) (old new : Option (List ℕ))
+    → Says NoMemory (line_of refusal.NoMemory) result old new → SaysReply post unread form holds result old new
+no_memory post unread None holds result old new says = (NoMemory, line_of refusal.NoMemory, refl, says)
+no_memory post unread (Some (check name)) holds result old new says = (NoMemory, line_of refusal.NoMemory, (λ e. absurd (not_unread e), refl), says)
+no_memory post unread (Some (gen name)) holds result old new says = (NoMemory, line_of refusal.NoMemory, (λ e. absurd (not_unread e), refl), says)
+no_memory post unread (Some (gen_with name kernels)) holds result old new says = (NoMemory, line_of refusal.NoMemory, inl (never_done refusal.NoMemory, refl), says)
+no_memory post unread (Some (project name)) holds result old new says = (NoMemory, line_of refusal.NoMemory, (λ e. absurd (not_unread e), refl), says)
+no_memory post unread (Some (sim name options)) holds result old new says = inl (refusal.NoMemory, record { kind = tt; read = λ e. absurd (other_refusal e); untaken = tt }, says)
+no_memory post unread (Some (replay name schedule n)) holds result old new says = inl (refusal.NoMemory, record { kind = tt; read = λ e. absurd (other_refusal e); untaken = tt }, says)
+no_memory post unread (Some (run name options)) holds result old new says = inl (NoMemory, line_of refusal.NoMemory, (λ e. absurd (not_unread e), (never_done refusal.NoMemory, refl)), says)

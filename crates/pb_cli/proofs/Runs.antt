@@ -45,7 +45,9 @@ use Rattle.pb_cli_simulate.specs.Replies as A
 use Rattle.pb_cli_simulate.specs.Replies.{Starts}
 use Rattle.pb_cli_laws.proofs.Draws.{drawn_has_a_step}
 use Rattle.pb_cli_status.specs.Written.{Says}
-use Rattle.pb_cli.specs.Run.{MayRun, ranks_of, Begins, IsRunReply, SaysRunReply, IsFileRefusal, IsTreeOf, SaysRun}
+use Rattle.pb_cli.specs.Run.{MayRun, ranks_of, Begins, IsRunReply, SaysRunReply, SaysRun}
+use Rattle.pb_cli_file.specs.Files.{IsFileRefusal, IsTreeOf}
+use Rattle.pb_cli_file.proofs.Answered.{fault_is}
 
 -- ---- a run under turns is a run
 
@@ -156,9 +158,9 @@ module _ (bytes : List ℕ) (p : Protocol) (tree : CTree) (n : ℕ) (is : IsComp
         let may = may_run starts in
         inr (fails, (text, (may, (text, carried may post seed modes most _ _ (λ turns w x play q. q) far, sym (append-nil text))), front))
 
-module _ (post : ℕ → ℕ → ℕ → ℕ → Type 0) (name : List ℕ) (options : Options) (holds : Option (List File)) (result : Status) (old new : Option (List ℕ)) where
+module _ (post : ℕ → ℕ → ℕ → ℕ → Type 0) (unread : List ℕ → Type 0) (name : List ℕ) (options : Options) (holds : Option (List File)) (result : Status) (old new : Option (List ℕ)) where
   pub ran : (tree : CTree) → IsTreeOf name holds tree
-      → A.SaysReply tree options.n (post options.seed) (drawn options.seed options.modes) options.turns options.shown options.seed result old new → SaysRun post name options holds result old new
+      → A.SaysReply tree options.n (post options.seed) (drawn options.seed options.modes) options.turns options.shown options.seed result old new → SaysRun post unread name options holds result old new
   ran tree is told = inr (
     is.bytes,
     is.protocol,
@@ -169,5 +171,5 @@ module _ (post : ℕ → ℕ → ℕ → ℕ → Type 0) (name : List ℕ) (opti
     says is.bytes is.protocol tree options.n is.compiled (post options.seed) options.seed options.modes options.turns options.shown result old new told,
   )
 
-  pub denied : (why : Refusal) → IsFileRefusal name holds (status_of why) (line_of why) → Says (status_of why) (line_of why) result old new → SaysRun post name options holds result old new
-  denied why is said = inl (status_of why, line_of why, is, said)
+  pub denied : (why : Refusal) → (why ≡ refusal.ReadFault → unread name) → IsFileRefusal name holds (status_of why) (line_of why) → Says (status_of why) (line_of why) result old new → SaysRun post unread name options holds result old new
+  denied why read is said = inl (status_of why, line_of why, (λ e. read (fault_is why e), is), said)

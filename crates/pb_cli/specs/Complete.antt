@@ -1,11 +1,11 @@
 -- What comes where the words are in a form and the files keep the rules and the limits: all is done, or else memory is wanting or
 -- a fault rose. A simulation may be stuck, make all its events, or pass the limit on words in flight.
-use Rattle.std.specs.Prelude.{◌≢◌, ℕ, ◌≤◌, List, [], ◌∷◌, length, Contains, Option, Some, None}
+use Rattle.std.specs.Prelude.{◌≡◌, ◌≢◌, ℕ, ◌≤◌, List, [], ◌∷◌, length, Contains, Option, Some, None, Ok}
 use Rattle.pb_text.specs.declared.limits.TheConstants.{MOST_TEXT_BYTES}
 use Rattle.pb_io.specs.Files.{File}
 use Rattle.pb_core_language.specs.Plain.{Protocol}
 use Rattle.pb_ctree.specs.declared.tree.CTree.{CTree}
-use Rattle.pb_cli_words.specs.Request.{Request, check, gen, project, sim, replay, run}
+use Rattle.pb_cli_words.specs.Request.{Request, check, gen, gen_with, project, sim, replay, run}
 use Rattle.pb_cli_status.specs.declared.status.Status.{Status}
 use Rattle.pb_cli_status.specs.declared.status.Status.TheVariants as S
 use Rattle.pb_compile.specs.Verdict.{IsAcceptedAs}
@@ -14,7 +14,10 @@ use Rattle.pb_sched.specs.declared.schedule.Turn.{Turn}
 use Rattle.pb_cli_simulate.specs.Commands as T
 use Rattle.pb_cli_simulate.specs.Sources.{IsTextOf}
 use Rattle.pb_cli_simulate.specs.Replies.{Starts}
-use Rattle.pb_cli.specs.Reply.{OnFile, most_bytes}
+use Rattle.pb_kernels.specs.declared.file.NamedBody.{NamedBody}
+use Rattle.pb_kernels.specs.Files.{kernel_file}
+use Rattle.pb_cli_file.specs.Files.{OnFile, most_bytes}
+use Rattle.pb_cli_file.specs.Kernels.{HasEach, functions_in}
 use Rattle.pb_cli.specs.Run.{MayRun}
 
 -- one of these, or memory is wanting, or a fault rose
@@ -33,10 +36,16 @@ OnText name n holds P = OnFile name holds (λ bytes. (tree : CTree) → length b
 abbrev pub OnSchedule : List ℕ → Option (List File) → Type 0 → Type 0
 OnSchedule name holds P = OnFile name holds (λ bytes. (seed : ℕ) (turns : List Turn) → length bytes ≤ MOST_TEXT_BYTES → IsSchedule bytes seed turns → P)
 
+-- that it is a kernel file with each function of the protocol's text, the prelude or not, and no other body
+abbrev pub OnKernels : List ℕ → Protocol → Option (List File) → Type 0 → Type 0
+OnKernels name p holds P =
+    OnFile name holds (λ bytes. (file : List NamedBody) → length bytes ≤ most_bytes → kernel_file bytes ≡ Ok file → HasEach (functions_in p) file → P)
+
 -- what comes where the files are such
 abbrev pub Completes : Request → Option (List File) → Status → Type 0
 Completes (check name) holds result = OnAccepted name holds (λ p. Comes (S.Done ∷ []) result)
 Completes (gen name) holds result = OnAccepted name holds (λ p. Comes (S.Done ∷ []) result)
+Completes (gen_with name kernels) holds result = OnAccepted name holds (λ p. OnKernels kernels p holds (Comes (S.Done ∷ []) result))
 Completes (project name) holds result = OnAccepted name holds (λ p. Comes (S.Done ∷ []) result)
 Completes (run name options) holds result = OnAccepted name holds (λ p. MayRun p options.n → Comes (S.Done ∷ S.Turns ∷ S.Limit ∷ []) result)
 Completes (sim name options) holds result = OnText name options.n holds (Comes (S.Done ∷ S.Stuck ∷ S.Turns ∷ S.Limit ∷ []) result)

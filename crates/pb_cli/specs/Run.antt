@@ -1,5 +1,5 @@
 -- What `run` answers: a protocol file is compiled, and its tree is simulated.
-use Rattle.std.specs.Prelude.{◌≡◌, ◌≢◌, ℕ, ◌<◌, ◌≤◌, ◌⊎◌, pos, List, [], ◌++◌, length, Option}
+use Rattle.std.specs.Prelude.{◌≡◌, ℕ, ◌<◌, ◌≤◌, ◌⊎◌, pos, List, [], ◌++◌, length, Option}
 use Rattle.pb_io.specs.Files.{File, IsContent}
 use Rattle.pb_io.specs.Sinks.{AppendsFront}
 use Rattle.pb_world.specs.Actions.{Action, answers_of, Covers}
@@ -28,7 +28,7 @@ use Rattle.pb_sim.specs.Standing.{IsGoing}
 use Rattle.pb_sim_play.specs.Plans.{Source, drawn}
 use Rattle.pb_sim_play.specs.Endings.{Ran, IsFull, text_of, part_of}
 use Rattle.pb_cli_simulate.specs.Endings.{ended_line}
-use Rattle.pb_cli.specs.Reply.{IsFileReply, SaysOf, most_bytes}
+use Rattle.pb_cli_file.specs.Files.{IsFileRefusal, OrUnread, SaysOf, most_bytes}
 
 -- the protocol can be simulated for this N: a number of its range, with at most 1,024 ranks
 pub record MayRun (p : Protocol) (n : ℕ) : Type 0 where
@@ -57,7 +57,7 @@ module _ (p : Protocol) (tree : CTree) (n : ℕ) (post : ℕ → ℕ → ℕ →
   IsRunReply S.Turns text =
       RunsTo (λ turns w x body. IsGoing (ranks_of p tree n) (world_of x.state) × (length turns ≡ most) × (body ≡ text_of shown seed tree turns w)) (line_of (refusal.Turns most)) text
   IsRunReply S.Limit text =
-      RunsTo (λ turns w x body. IsFull tree (pos n) source (length turns) x × (body ≡ part_of shown tree w)) (line_of refusal.WordsInFlight) text
+      RunsTo (λ turns w x body. (length turns < most) × IsFull tree (pos n) source (length turns) w x × (body ≡ part_of shown tree w)) (line_of refusal.WordsInFlight) text
       ⊎ (IsIn p.range (pos n) × (1024 < total p.roles (pos n)) × (text ≡ line_of refusal.Ranks))
   IsRunReply S.OutOfRange text = (IsIn p.range (pos n) → ⊥) × (text ≡ line_of (refusal.OutOfRange n p.range))
   IsRunReply S.NoMemory text =
@@ -71,21 +71,9 @@ module _ (p : Protocol) (tree : CTree) (n : ℕ) (post : ℕ → ℕ → ℕ →
       SaysOf IsRunReply result old new
       ⊎ ((result ≡ S.WriteFault) × ((text : List ℕ) × RunsTo (λ turns w x body. (body ≡ part_of shown tree w) ⊎ (body ≡ text_of shown seed tree turns w)) [] text × AppendsFront old new text))
 
--- why a protocol file isn't run: what `check` answers where it doesn't accept it
-abbrev pub IsFileRefusal : List ℕ → Option (List File) → Status → List ℕ → Type 0
-IsFileRefusal name holds status text = (status ≢ S.Done) × IsFileReply (λ bytes written. ⊥) name holds status text
-
--- the file is accepted and short enough, and this is one of the trees that may be printed for it
-pub record IsTreeOf (name : List ℕ) (holds : Option (List File)) (tree : CTree) : Type 0 where
-  pub bytes : List ℕ
-  pub protocol : Protocol
-  pub content : IsContent holds name bytes
-  pub short : length bytes ≤ most_bytes
-  pub compiled : IsCompiled bytes protocol tree
-
 -- The file is refused, and one line tells it; or it is accepted, and the simulation of one of the trees that may be printed for it is told
-abbrev pub SaysRun : (ℕ → ℕ → ℕ → ℕ → Type 0) → List ℕ → Options → Option (List File) → Status → Option (List ℕ) → Option (List ℕ) → Type 0
-SaysRun post name options holds result old new =
-    SaysOf (IsFileRefusal name holds) result old new
+abbrev pub SaysRun : (ℕ → ℕ → ℕ → ℕ → Type 0) → (List ℕ → Type 0) → List ℕ → Options → Option (List File) → Status → Option (List ℕ) → Option (List ℕ) → Type 0
+SaysRun post unread name options holds result old new =
+    SaysOf (OrUnread (unread name) (IsFileRefusal name holds)) result old new
     ⊎ ((bytes : List ℕ) × (p : Protocol) × (tree : CTree) × IsContent holds name bytes × (length bytes ≤ most_bytes) × IsCompiled bytes p tree
     × SaysRunReply p tree options.n (post options.seed) (drawn options.seed options.modes) options.turns options.shown options.seed result old new)

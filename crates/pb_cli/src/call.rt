@@ -1,16 +1,14 @@
 ghost use Rattle.std.specs.Prelude.{◌≡◌, Some, map};
 ghost use Rattle.std.specs.String.{string_bytes};
 ghost use Rattle.pb_io.specs.Faults.{Rose};
-ghost use Rattle.pb_io.specs.Files.{IsSureOf};
+ghost use Rattle.pb_io.specs.Unread.{IsUnread};
 ghost use Rattle.pb_cli_words.specs.Request.{AsksForFew, request, request_of};
 ghost use Rattle.pb_cli.specs.Complete.{IsComplete};
-ghost use Rattle.pb_cli.specs.Program.{SaysReply};
-ghost use Rattle.pb_cli.specs.Reply.{IsFileReply, IsSureOfForm, Makes, SaysOf};
+ghost use Rattle.pb_cli.specs.Program.{ReadsOn, SaysReply};
+ghost use Rattle.pb_cli.specs.Reply.{IsSureOfForm};
 
-use crate::answer::Wanted;
-use crate::file::file_answer;
 use crate::running::run;
-use crate::saying::say;
+use pb_cli_file::{Wanted, tell, tell_merged};
 use pb_cli_simulate::{replay, sim};
 use pb_cli_status::{Refusal, Status, refuse};
 use pb_cli_words::{Command, NoMemory, command_in};
@@ -28,11 +26,16 @@ use std::alloc::Global;
 ///   the range with at most 2,000,000,000 ranks, whatever kernels answer and whichever sends wait, all ranks of that program
 ///   together do, up to swaps of actions of different ranks, a prefix of the protocol's sequential run, and they stop only at
 ///   its end, with no message left.
+/// - `gen FILE KERNELS` writes such a text with the bodies of a kernel file of at most 1,048,576 bytes.
 ///
-/// `Done` comes only then. On a file that isn't accepted these three write one line and answer `Refused` or `Limit`: `Limit`
+/// `Done` comes only then. On a file that isn't accepted these four write one line and answer `Refused` or `Limit`: `Limit`
 /// where the file has more bytes, its first fault is that it passes a limit, or it keeps the rules 1 to 5 and has more
 /// breakpoints; `Refused` where its first fault is one of syntax, with its place, or else it breaks one of the twelve rules:
 /// the least, at its first place, with the least N that breaks it there and the least rank where the rule speaks of them.
+///
+/// `gen FILE KERNELS` reads the kernel file only where the protocol is accepted. It answers `Limit` where that file has more
+/// bytes, and `Kernel` where it is malformed, has a name twice, lacks a function of the text, or has a body that has no place
+/// in it.
 ///
 /// `sim TEXT` with options and `replay TEXT SCHEDULE --n A` simulate a C text of at most 67,108,864 bytes on all its ranks, by
 /// a seed or by a schedule, and write the log and the line `ended`, or the schedule alone. They answer `Text` where the bytes are
@@ -65,11 +68,12 @@ pub fn pabble<F: Folder, O: Sink, A: Fn(u64, u32, u64) -> u32 + Drop>(
     answers: A,
 ) -> Status
     requires { A.IsAlwaysCallable answers }
-    ensures reply { SaysReply (A.post answers) (request (map string_bytes words.now)) (F.holds folder.old) result (O.taken out.old) (O.taken out.new) }
+    ensures reply { SaysReply (A.post answers) (IsUnread (F.steady folder.old) (F.holds folder.old) (F.faults folder.old) (F.faults folder.new)) (request (map string_bytes words.now)) (F.holds folder.old) result (O.taken out.old) (O.taken out.new) }
     ensures complete { IsComplete (request (map string_bytes words.now)) (F.holds folder.old) result }
     ensures read_fault { result ≡ Status.ReadFault → Rose (F.faults folder.old) (F.faults folder.new) }
     ensures sure { result ≡ Status.ReadFault
         → IsSureOfForm (request (map string_bytes words.now)) (F.steady folder.old) (F.holds folder.old) → ⊥ }
+    ensures late { result ≡ Status.ReadFault → ReadsOn (request (map string_bytes words.now)) (F.steady folder.old) (F.holds folder.old) }
     ensures write_fault { result ≡ Status.WriteFault → Rose (O.faults out.old) (O.faults out.new) }
 {
     act(alloc, words, answers, folder, out)
@@ -84,10 +88,11 @@ fn act<F: Folder, O: Sink, A: Fn(u64, u32, u64) -> u32 + Drop>(
     out: &mut O,
 ) -> Status
     requires { A.IsAlwaysCallable answers }
-    ensures reply { SaysReply (A.post answers) (request (map string_bytes words.now)) (F.holds folder.old) result (O.taken out.old) (O.taken out.new) }
+    ensures reply { SaysReply (A.post answers) (IsUnread (F.steady folder.old) (F.holds folder.old) (F.faults folder.old) (F.faults folder.new)) (request (map string_bytes words.now)) (F.holds folder.old) result (O.taken out.old) (O.taken out.new) }
     ensures read_fault { result ≡ Status.ReadFault → Rose (F.faults folder.old) (F.faults folder.new) }
     ensures sure { result ≡ Status.ReadFault
         → IsSureOfForm (request (map string_bytes words.now)) (F.steady folder.old) (F.holds folder.old) → ⊥ }
+    ensures late { result ≡ Status.ReadFault → ReadsOn (request (map string_bytes words.now)) (F.steady folder.old) (F.holds folder.old) }
     ensures write_fault { result ≡ Status.WriteFault → Rose (O.faults out.old) (O.faults out.new) }
 {
     match command_in(alloc, words) {
@@ -107,15 +112,17 @@ fn perform<F: Folder, O: Sink, A: Fn(u64, u32, u64) -> u32 + Drop>(
 ) -> Status
     requires callable { A.IsAlwaysCallable answers }
     requires few { AsksForFew command }
-    ensures reply { SaysReply (A.post answers) (Some (request_of command.entry)) (F.holds folder.old) result (O.taken out.old) (O.taken out.new) }
+    ensures reply { SaysReply (A.post answers) (IsUnread (F.steady folder.old) (F.holds folder.old) (F.faults folder.old) (F.faults folder.new)) (Some (request_of command.entry)) (F.holds folder.old) result (O.taken out.old) (O.taken out.new) }
     ensures read_fault { result ≡ Status.ReadFault → Rose (F.faults folder.old) (F.faults folder.new) }
     ensures sure { result ≡ Status.ReadFault
         → IsSureOfForm (Some (request_of command.entry)) (F.steady folder.old) (F.holds folder.old) → ⊥ }
+    ensures late { result ≡ Status.ReadFault → ReadsOn (Some (request_of command.entry)) (F.steady folder.old) (F.holds folder.old) }
     ensures write_fault { result ≡ Status.WriteFault → Rose (O.faults out.old) (O.faults out.new) }
 {
     match command {
         Command::Check(file) => tell(alloc, file, Wanted::Verdict, folder, out),
         Command::Gen(file) => tell(alloc, file, Wanted::Text, folder, out),
+        Command::GenWith(file, kernels) => tell_merged(alloc, file, kernels, folder, out),
         Command::Project(file) => tell(alloc, file, Wanted::Layout, folder, out),
         Command::Sim(text, options) => sim(alloc, text, options, answers, folder, out),
         Command::Replay(text, schedule, n) => {
@@ -123,22 +130,4 @@ fn perform<F: Folder, O: Sink, A: Fn(u64, u32, u64) -> u32 + Drop>(
         }
         Command::Run(file, options) => run(alloc, file, options, answers, folder, out),
     }
-}
-
-/// Writes what is wanted of the protocol in a file, or one status line.
-#[tactic(auto, using(crate::proofs::Replies::said))]
-fn tell<F: Folder, O: Sink>(
-    alloc: Global,
-    file: &str,
-    wanted: Wanted,
-    folder: &mut F,
-    out: &mut O,
-) -> Status
-    ensures reply { SaysOf (IsFileReply (Makes wanted) file.now (F.holds folder.old)) result (O.taken out.old) (O.taken out.new) }
-    ensures read_fault { result ≡ Status.ReadFault → Rose (F.faults folder.old) (F.faults folder.new) }
-    ensures sure { result ≡ Status.ReadFault → IsSureOf (F.steady folder.old) (F.holds folder.old) file.now → ⊥ }
-    ensures write_fault { result ≡ Status.WriteFault → Rose (O.faults out.old) (O.faults out.new) }
-{
-    let answer = file_answer(alloc, folder, file, wanted);
-    say(out, answer)
 }

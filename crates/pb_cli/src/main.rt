@@ -4,21 +4,27 @@
 //! system's files and standard output, and ends with the code of its status.
 #![tactic(auto)]
 
-mod answer;
+ghost use Rattle.std.specs.Prelude.{◌≡◌, OnErr};
+ghost use Rattle.std.specs.Process.{exit_status};
+ghost use Rattle.pb_cli_status.specs.Codes.{code_of};
+ghost use Rattle.pb_cli_status.specs.Lines.{line_of};
+ghost use Rattle.pb_cli_status.specs.Written.{Says};
+ghost use Rattle.pb_cli.specs.Words.{word};
+
 mod call;
-mod file;
-mod refusing;
+#[cfg(test)]
+mod kernel_tests;
 mod running;
-mod saying;
 #[cfg(test)]
 mod tests;
 
 use call::pabble;
-use pb_cli_status::{Refusal, refuse};
-use pb_io::{HostFolder, HostSink};
+use pb_cli_status::{Refusal, Status, refuse};
+use pb_io::{Folder, HostFolder, HostSink, Sink};
 use pb_text::NoMemory;
-use rand_core::Rng;
+use rand_core::utils::NextWord;
 use rand_pcg::Pcg32;
+use std::alloc::Global;
 use std::process::ExitCode;
 use std::{env, io};
 
@@ -31,21 +37,40 @@ fn words(rt: &HostRuntime) -> Result<Vec<String>, NoMemory> {
     }
 }
 
-fn main(rt: HostRuntime) -> ExitCode {
-    let mut out = HostSink::new(io::writer(&rt));
-    let status = match words(&rt) {
-        Ok(all) => {
-            let mut folder = HostFolder::new(&rt);
-            pabble(rt.alloc(), all.as_slice(), &mut folder, &mut out, word)
-        }
-        Err(NoMemory) => refuse(&mut out, Refusal::NoMemory),
-    };
+/// Word number `count`, from 0, of the generator PCG-XSH-RR 64/32 with this seed and the rank as its stream.
+fn word(seed: u64, rank: u32, count: u64) -> u32
+    ensures { result ≡ word seed rank count }
+{
+    let mut generator = Pcg32::new(seed, u64::from(rank));
+    generator.advance(count);
+    generator.next_word()
+}
+
+/// Does what the words say, or tells that there was no memory for them.
+fn respond<F: Folder, O: Sink>(
+    alloc: Global,
+    words: Result<Vec<String>, NoMemory>,
+    folder: &mut F,
+    out: &mut O,
+) -> Status
+    ensures wanting { OnErr words (Says Status.NoMemory (line_of Refusal.NoMemory) result (O.taken out.old) (O.taken out.new)) }
+{
+    match words {
+        Ok(all) => pabble(alloc, all.as_slice(), folder, out, word),
+        Err(NoMemory) => refuse(out, Refusal::NoMemory),
+    }
+}
+
+/// The program's exit status.
+fn exit_code(status: Status) -> ExitCode
+    ensures { exit_status result ≡ code_of status }
+{
     ExitCode::from(status.code())
 }
 
-/// Word number `count`, from 0, of the generator PCG-XSH-RR 64/32 with this seed and the rank as its stream.
-fn word(seed: u64, rank: u32, count: u64) -> u32 {
-    let mut generator = Pcg32::new(seed, u64::from(rank));
-    generator.advance(count);
-    generator.next_u32()
+fn main(rt: HostRuntime) -> ExitCode {
+    let mut folder = HostFolder::new(&rt);
+    let mut out = HostSink::new(io::writer(&rt));
+    let status = respond(rt.alloc(), words(&rt), &mut folder, &mut out);
+    exit_code(status)
 }

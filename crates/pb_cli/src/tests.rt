@@ -534,11 +534,11 @@ fn faults_and_limits_at_their_places(rt: HostRuntime) -> Result<(), Fail> {
 
 #[test]
 fn words_in_no_form(rt: HostRuntime) -> Result<(), Fail> {
-    let forms: [&[&str]; 15] = [
+    let forms: [&[&str]; 16] = [
         &[],
         &["gen"],
         &["gen", "-p"],
-        &["gen", "p", "q"],
+        &["gen", "p", "q", "r"],
         &["gen", "p", "--n", "3"],
         &["check"],
         &["check", "-p"],
@@ -550,6 +550,7 @@ fn words_in_no_form(rt: HostRuntime) -> Result<(), Fail> {
         &["sim", "p"],
         &["replay", "p", "q"],
         &["run", "p"],
+        &["demo", "0"],
     ];
     for form in forms {
         let words = strings(rt.alloc(), form)?;

@@ -1,2 +1,3 @@
 pub mod Fronts
+mod Joined
 pub mod Outside

@@ -5,6 +5,10 @@ use Rattle.pb_text.specs.declared.place.Place.{Place}
 use Rattle.pb_affine.specs.declared.range.NRange.{NRange}
 use Rattle.pb_text.specs.declared.quantity.Quantity.{Quantity}
 use Rattle.pb_text.specs.declared.quantity.Quantity.TheVariants as quantity
+use Rattle.pb_cli_status.specs.declared.kernel.KernelKind.{KernelKind}
+use Rattle.pb_cli_status.specs.declared.kernel.KernelKind.TheVariants as kind
+use Rattle.pb_cli_status.specs.declared.kernel.KernelWrong.{KernelWrong}
+use Rattle.pb_cli_status.specs.declared.kernel.KernelWrong.TheVariants as wrong
 use Rattle.pb_cli_status.specs.declared.refusal.Refusal.{Refusal}
 use Rattle.pb_cli_status.specs.declared.refusal.Refusal.TheVariants as refusal
 use Rattle.pb_cli_status.specs.declared.status.Status.{Status}
@@ -19,6 +23,8 @@ status_of (refusal.Syntax place) = status.Refused
 status_of (refusal.Limit limit place) = status.Limit
 status_of refusal.Breakpoints = status.Limit
 status_of (refusal.Broken rule place n at) = status.Refused
+status_of (refusal.KernelMarker line) = status.Kernel
+status_of (refusal.Kernel kind name wrong) = status.Kernel
 status_of (refusal.Text place) = status.Text
 status_of (refusal.Schedule line) = status.Schedule
 status_of refusal.Events = status.Limit
@@ -44,6 +50,7 @@ limit_words quantity.WordsInFlight = codes "pabble: limit words in flight"
 limit_words quantity.TextNesting = codes "pabble: limit text nesting"
 limit_words quantity.TextStatements = codes "pabble: limit text statements"
 limit_words quantity.Events = codes "pabble: limit events"
+limit_words quantity.Pieces = codes "pabble: limit pieces"
 
 -- a line that tells a place: what, ` at ` and L:C
 abbrev pub line_at : List ℕ → Place → List ℕ
@@ -74,6 +81,29 @@ rule_line rule place n at = rule_words rule place ++ told_line n at
 abbrev pub number_line : List ℕ → ℕ → List ℕ
 number_line what n = what ++ decimal n ++ codes "\n"
 
+-- how the name of a kernel file's body begins
+abbrev pub front_of : KernelKind → List ℕ
+front_of kind.Prelude = codes "prelude"
+front_of kind.Compute = codes "k_"
+front_of kind.Choice = codes "c_"
+front_of kind.Make = codes "make_"
+front_of kind.Take = codes "take_"
+
+-- the prelude has no name
+abbrev pub name_or_none : Option (List ℕ) → List ℕ
+name_or_none None = []
+name_or_none (Some name) = name
+
+-- what is wrong with it, and the line's end
+abbrev pub wrong_words : KernelWrong → List ℕ
+wrong_words wrong.Twice = codes " twice\n"
+wrong_words wrong.Missing = codes " missing\n"
+wrong_words wrong.Extra = codes " extra\n"
+
+-- a line that tells a body of a kernel file
+abbrev pub kernel_line : KernelKind → Option (List ℕ) → KernelWrong → List ℕ
+kernel_line kind name wrong = codes "pabble: kernel " ++ (front_of kind ++ name_or_none name ++ wrong_words wrong)
+
 -- the upper end of a range, and the line's end
 abbrev pub high_words : Option ℕ → List ℕ
 high_words None = codes "..max\n"
@@ -96,6 +126,8 @@ line_of (refusal.Syntax place) = line_at (codes "pabble: syntax") place
 line_of (refusal.Limit limit place) = line_at (limit_words limit) place
 line_of refusal.Breakpoints = codes "pabble: limit breakpoints\n"
 line_of (refusal.Broken rule place n at) = rule_line rule place n at
+line_of (refusal.KernelMarker line) = number_line (codes "pabble: kernel marker at line ") line
+line_of (refusal.Kernel kind name wrong) = kernel_line kind name wrong
 line_of (refusal.Text place) = line_at (codes "pabble: text") place
 line_of (refusal.Schedule line) = number_line (codes "pabble: schedule line ") line
 line_of refusal.Events = codes "pabble: limit events\n"

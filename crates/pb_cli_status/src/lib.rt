@@ -2,12 +2,14 @@
 #![tactic(auto)]
 
 mod broken;
+mod kernel;
 mod parts;
 mod refusal;
 mod refusing;
 mod status;
 mod told;
 
+pub use kernel::{KernelKind, KernelWrong};
 pub use parts::write_parts;
 pub use pb_text::{Name, Place, Quantity};
 pub use refusal::Refusal;

@@ -5,6 +5,7 @@ ghost use Rattle.pb_io.specs.Sinks.{AppendsFront};
 ghost use Rattle.pb_cli_status.specs.Lines.{limit_words, line_at};
 
 use crate::broken::write_broken;
+use crate::kernel::{KernelKind, KernelWrong, write_kernel};
 use crate::parts::write_parts;
 use crate::status::Status;
 use crate::told::{write_number, write_outside};
@@ -46,6 +47,17 @@ pub enum Refusal {
         place: Place,
         n: Option<i64>,
         at: Option<(Name, i64)>,
+    },
+    /// This line of a kernel file is a marker of another form, opens a body inside one, closes one outside, or opens one that
+    /// is never closed.
+    #[error("KernelMarker")]
+    KernelMarker(u32),
+    /// This body of a kernel file is wrong. The prelude has no name.
+    #[error("Kernel")]
+    Kernel {
+        kind: KernelKind,
+        name: Option<Name>,
+        wrong: KernelWrong,
     },
     /// The bytes are no C text of the program's, first at this place.
     #[error("Text")]
@@ -89,6 +101,8 @@ impl Refusal {
             Refusal::Limit(_, _) => Status::Limit,
             Refusal::Breakpoints => Status::Limit,
             Refusal::Broken { .. } => Status::Refused,
+            Refusal::KernelMarker(_) => Status::Kernel,
+            Refusal::Kernel { .. } => Status::Kernel,
             Refusal::Text(_) => Status::Text,
             Refusal::Schedule(_) => Status::Schedule,
             Refusal::Events => Status::Limit,
@@ -117,6 +131,10 @@ impl Refusal {
             Refusal::Limit(limit, place) => write_at(out, limit_words(*limit), *place),
             Refusal::Breakpoints => write_all(out, b"pabble: limit breakpoints\n"),
             Refusal::Broken { rule, place, n, at } => write_broken(out, *rule, *place, *n, at),
+            Refusal::KernelMarker(line) => {
+                write_number(out, b"pabble: kernel marker at line ", *line)
+            }
+            Refusal::Kernel { kind, name, wrong } => write_kernel(out, *kind, name, *wrong),
             Refusal::Text(place) => write_at(out, b"pabble: text", *place),
             Refusal::Schedule(line) => write_number(out, b"pabble: schedule line ", *line),
             Refusal::Events => write_all(out, b"pabble: limit events\n"),
@@ -148,6 +166,7 @@ fn limit_words(limit: Quantity) -> &'static [u8]
         Quantity::TextNesting => b"pabble: limit text nesting",
         Quantity::TextStatements => b"pabble: limit text statements",
         Quantity::Events => b"pabble: limit events",
+        Quantity::Pieces => b"pabble: limit pieces",
     }
 }
 

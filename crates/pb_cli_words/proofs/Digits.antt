@@ -1,10 +1,10 @@
 -- Numbers as digits.
-use Rattle.std.proofs.Common.{◌≡◌, ℕ, ◌+◌, ◌-◌, ◌*◌, ◌^◌, ◌<◌, ◌≤◌, Bool, true, false, cond, List, [], ◌∷◌, length, Option, Some, None, refl, sym, ap, ◌∙◌, nat_lt, nat_le, arith, ltb-true, ltb-false, leb-true, drop, slice_index_or}
+use Rattle.std.proofs.Common.{◌≡◌, ℕ, ◌+◌, ◌-◌, ◌*◌, ◌^◌, ◌<◌, ◌≤◌, Bool, true, false, cond, List, [], ◌∷◌, length, Some, None, refl, ap, ◌∙◌, nat_lt, nat_le, arith, ltb-true, ltb-false, leb-true, drop, slice_index_or}
 use Rattle.std.proofs.lemmas.List.{drop_more}
 use Rattle.std.specs.Prelude.{◌&&◌}
 use Rattle.std.specs.Char.{is_ascii_digit}
 use Rattle.pb_text.specs.Lexemes.{value_from}
-use Rattle.pb_cli_words.specs.Numbers.{all_digits, number_behind, is_number, is_within, number_in}
+use Rattle.pb_cli_words.specs.Numbers.{all_digits, number_behind, number_in}
 
 grows : (n : ℕ) (text : List ℕ) → n ≤ value_from n text
 grows n [] = omega arith

@@ -1,3 +1,11 @@
+pub mod Classes
 pub mod Digits
-pub mod Ended
-pub mod Taken
+pub mod Held
+pub mod Listed
+pub mod Parsed
+pub mod Rows
+pub mod Rules
+pub mod Sorted
+pub mod Spoilt
+pub mod Steps
+pub mod Walked

@@ -1,5 +1,5 @@
 pub mod Numbers
-pub mod Readings
+pub mod Reader
 pub mod Request
 pub mod Said
 pub mod Shown

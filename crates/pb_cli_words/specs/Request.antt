@@ -1,11 +1,10 @@
 -- The forms of the words after the program's name.
-use Rattle.std.specs.Prelude.{ℕ, ◌≤◌, nat_eq, cond, if◌then◌else◌, Bool, List, [], ◌∷◌, ◌++◌, Option, Some, None, codes}
+use Rattle.std.specs.Prelude.{ℕ, ◌≤◌, nat_eq, cond, if◌then◌else◌, List, [], ◌∷◌, ◌++◌, Option, Some, None, codes}
 use Rattle.std.specs.Cmp.Lexicographic.{pointwise}
 use Rattle.std.specs.List.{filter_map}
 use Rattle.pb_text.specs.declared.mode.Mode.TheVariants.{Eager, Waiting}
 use Rattle.pb_text.specs.declared.limits.TheConstants.{MOST_EVENTS, MOST_NUMBER}
-use Rattle.pb_cli_words.specs.declared.key.Key.{Key}
-use Rattle.pb_cli_words.specs.declared.key.Key.TheVariants as K
+use Rattle.pb_cli_words.specs.Said as K
 use Rattle.pb_cli_words.specs.declared.options.Modes.{Modes}
 use Rattle.pb_cli_words.specs.declared.options.Modes.TheVariants.{Each, Mixed}
 use Rattle.pb_cli_words.specs.declared.options.Shown.{Shown}
@@ -14,12 +13,13 @@ use Rattle.pb_cli_words.specs.declared.options.Options.{Options}
 use Rattle.pb_cli_words.specs.declared.command.Command.{Command}
 use Rattle.pb_cli_words.specs.declared.command.Command.TheVariants as C
 use Rattle.pb_cli_words.specs.Numbers.{number_in}
-use Rattle.pb_cli_words.specs.Said.{Given, number_of, Said, said}
+use Rattle.pb_cli_words.specs.Said.{Given, Key, number_of, Said, said}
 
 -- what is asked for, with the names of the files
 pub data Request : Type 0 where
   check : (file : List ℕ) → Request  -- the verdict on a protocol
   gen : (file : List ℕ) → Request  -- its C text
+  gen_with : (file kernels : List ℕ) → Request  -- its C text, with the bodies of a kernel file
   project : (file : List ℕ) → Request  -- its endpoint program
   sim : (text : List ℕ) (options : Options) → Request  -- a simulation of a C text
   replay : (text schedule : List ℕ) (n : ℕ) → Request  -- and one by a schedule
@@ -122,6 +122,17 @@ abbrev pub plain_file : List (List ℕ) → List Given → Option (List ℕ)
 plain_file files [] = one_file files
 plain_file files (given ∷ more) = None
 
+-- `gen` takes a file, and maybe a kernel file behind it
+abbrev pub gen_of : List (List ℕ) → Option Request
+gen_of [] = None
+gen_of (file ∷ []) = Some (gen file)
+gen_of (file ∷ kernels ∷ []) = Some (gen_with file kernels)
+gen_of (file ∷ kernels ∷ another ∷ more) = None
+
+abbrev pub gen_in : List (List ℕ) → List Given → Option Request
+gen_in files [] = gen_of files
+gen_in files (given ∷ more) = None
+
 abbrev pub sim_in : List (List ℕ) → List Given → Option Request
 sim_in files options = one_file files >>= λ text. options_in options >>= λ o. Some (sim text o)
 
@@ -135,7 +146,7 @@ replay_in files options = two_files files >>= λ both. only_n options >>= λ n. 
 abbrev pub asked : List ℕ → List (List ℕ) → List Given → Option Request
 asked command files options =
     if pointwise nat_eq command (codes "check") then (plain_file files options >>= λ file. Some (check file))
-    else if pointwise nat_eq command (codes "gen") then (plain_file files options >>= λ file. Some (gen file))
+    else if pointwise nat_eq command (codes "gen") then gen_in files options
     else if pointwise nat_eq command (codes "project") then (plain_file files options >>= λ file. Some (project file))
     else if pointwise nat_eq command (codes "sim") then sim_in files options
     else if pointwise nat_eq command (codes "replay") then replay_in files options
@@ -159,6 +170,7 @@ request words = said words >>= λ s. request_by s.words s.behind s.options
 abbrev pub request_of : Command → Request
 request_of (C.Check file) = check file.now
 request_of (C.Gen file) = gen file.now
+request_of (C.GenWith file kernels) = gen_with file.now kernels.now
 request_of (C.Project file) = project file.now
 request_of (C.Sim text options) = sim text.now options
 request_of (C.Replay text schedule n) = replay text.now schedule.now n
@@ -172,9 +184,11 @@ request_if (Some command) = Some (request_of command)
 abbrev pub HasFewTurns : Options → Type 0
 HasFewTurns options = options.turns ≤ MOST_EVENTS
 
+-- at most 1,000,000 events are asked for
 abbrev pub AsksForFew : Command → Type 0
 AsksForFew (C.Check file) = Unit {0}
 AsksForFew (C.Gen file) = Unit {0}
+AsksForFew (C.GenWith file kernels) = Unit {0}
 AsksForFew (C.Project file) = Unit {0}
 AsksForFew (C.Sim text options) = HasFewTurns options
 AsksForFew (C.Replay text schedule n) = Unit {0}

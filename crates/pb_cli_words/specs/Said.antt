@@ -1,9 +1,14 @@
 -- The words after the program's name, told apart: options with their values, and other words.
-use Rattle.std.specs.Prelude.{ℕ, suc, zero, ◌&&◌, nat_eq, nat_le, cond, Bool, true, false, List, [], ◌∷◌, length, Option, Some, None, codes}
+use Rattle.std.specs.Prelude.{ℕ, ◌&&◌, nat_eq, nat_le, cond, Bool, true, false, List, [], ◌∷◌, length, Option, Some, None, codes}
 use Rattle.std.specs.Cmp.Lexicographic.{pointwise}
 use Rattle.pb_text_read.specs.Fronts.{strip}
-use Rattle.pb_cli_words.specs.declared.key.Key.{Key}
-use Rattle.pb_cli_words.specs.declared.key.Key.TheVariants.{N, Seed, Turns, Mode, Schedule}
+
+pub data Key : Type 0 where
+  N : Key
+  Seed : Key
+  Turns : Key
+  Mode : Key
+  Schedule : Key
 
 -- how an option is written
 abbrev pub name_of : Key → List ℕ

@@ -1,13 +1,16 @@
 //! The commands of the program.
 
-ghost use Rattle.std.specs.Prelude.{◌≡◌, ◌++◌, map, IfOk, IfSome, OnOk, option_copied, option_map};
+ghost use Rattle.std.specs.Prelude.{◌≡◌, Bool, Some, map, IfOk, IfSome, option_copied, option_map};
 ghost use Rattle.std.specs.String.{string_bytes};
-ghost use Rattle.pb_cli_words.specs.Request.{AsksForFew, asked, named, one_file, plain_file, replay_in, request, request_by, request_if, run_in, sim_in, two_files};
-ghost use Rattle.pb_cli_words.specs.Shown.{plain_given, plain_said};
+ghost use Rattle.pb_cli_words.specs.Request.{AsksForFew, asked, gen_in, gen_of, one_file, plain_file, replay_in, request, request_if, run_in, sim_in, two_files};
+ghost use Rattle.clap.specs.Words.{found_of, rows_of};
+ghost use Rattle.pb_cli_words.specs.Reader.{IsFlag, asked_by, asked_for};
+ghost use Rattle.pb_cli_words.specs.Shown.{options_of};
 
 use crate::given::Given;
 use crate::options::{Options, only_n, options_in};
-use crate::said::{Said, tell_apart};
+use crate::reader::{matches_in, words_behind};
+use clap::ArgMatches;
 use pb_text::NoMemory;
 use std::alloc::Global;
 
@@ -18,6 +21,8 @@ pub enum Command<'a> {
     Check(&'a str),
     /// `gen FILE`: the C text of the protocol in FILE.
     Gen(&'a str),
+    /// `gen FILE KERNELS`: the same with the bodies of the kernel file KERNELS.
+    GenWith(&'a str, &'a str),
     /// `project FILE`: the endpoint program of the protocol in FILE.
     Project(&'a str),
     /// `sim TEXT` with options: a simulation of the C text in TEXT.
@@ -48,97 +53,118 @@ fn two_files<'a>(files: &[&'a str]) -> Option<(&'a str, &'a str)>
 }
 
 /// The file of a command without options.
-fn plain_file<'a>(files: &[&'a str], options: &[Given]) -> Option<&'a str>
-    ensures { option_copied result ≡ plain_file (map (λ f. f.now) files.now) (map plain_given options.now) }
+#[tactic(auto, using(crate::proofs::Listed::plain_is))]
+fn plain_file<'a>(files: &[&'a str], given: &Given) -> Option<&'a str>
+    ensures { option_copied result ≡ plain_file (map (λ f. f.now) files.now) (options_of given.now) }
 {
-    if options.is_empty() {
+    if given.is_empty() {
         one_file(files)
     } else {
         None
     }
 }
 
-fn sim_in<'a>(files: &[&'a str], options: &[Given]) -> Option<Command<'a>>
-    ensures asked { request_if result ≡ sim_in (map (λ f. f.now) files.now) (map plain_given options.now) }
+/// `gen` with a file, or with a file and a kernel file.
+fn gen_of<'a>(files: &[&'a str]) -> Option<Command<'a>>
+    ensures asked { request_if result ≡ gen_of (map (λ f. f.now) files.now) }
+    ensures few { IfSome result AsksForFew }
+{
+    match files {
+        [file] => Some(Command::Gen(*file)),
+        [file, kernels] => Some(Command::GenWith(*file, *kernels)),
+        _ => None,
+    }
+}
+
+#[tactic(auto, using(crate::proofs::Listed::gen_is))]
+fn gen_in<'a>(files: &[&'a str], given: &Given) -> Option<Command<'a>>
+    ensures asked { request_if result ≡ gen_in (map (λ f. f.now) files.now) (options_of given.now) }
+    ensures few { IfSome result AsksForFew }
+{
+    if !given.is_empty() {
+        return None;
+    }
+    gen_of(files)
+}
+
+fn sim_in<'a>(files: &[&'a str], given: &Given) -> Option<Command<'a>>
+    ensures asked { request_if result ≡ sim_in (map (λ f. f.now) files.now) (options_of given.now) }
     ensures few { IfSome result AsksForFew }
 {
     let text = one_file(files)?;
-    let options = options_in(options)?;
+    let options = options_in(given)?;
     Some(Command::Sim(text, options))
 }
 
-fn run_in<'a>(files: &[&'a str], options: &[Given]) -> Option<Command<'a>>
-    ensures asked { request_if result ≡ run_in (map (λ f. f.now) files.now) (map plain_given options.now) }
+fn run_in<'a>(files: &[&'a str], given: &Given) -> Option<Command<'a>>
+    ensures asked { request_if result ≡ run_in (map (λ f. f.now) files.now) (options_of given.now) }
     ensures few { IfSome result AsksForFew }
 {
     let file = one_file(files)?;
-    let options = options_in(options)?;
+    let options = options_in(given)?;
     Some(Command::Run(file, options))
 }
 
-fn replay_in<'a>(files: &[&'a str], options: &[Given]) -> Option<Command<'a>>
-    ensures { request_if result ≡ replay_in (map (λ f. f.now) files.now) (map plain_given options.now) }
+fn replay_in<'a>(files: &[&'a str], given: &Given) -> Option<Command<'a>>
+    ensures { request_if result ≡ replay_in (map (λ f. f.now) files.now) (options_of given.now) }
 {
     let (text, schedule) = two_files(files)?;
-    let n = only_n(options)?;
+    let n = only_n(given)?;
     Some(Command::Replay(text, schedule, n))
 }
 
 /// The command of this name.
-fn asked<'a>(command: &str, files: &[&'a str], options: &[Given]) -> Option<Command<'a>>
-    ensures asked { request_if result ≡ asked command.now (map (λ f. f.now) files.now) (map plain_given options.now) }
+fn asked<'a>(command: &str, files: &[&'a str], given: &Given) -> Option<Command<'a>>
+    ensures asked { request_if result ≡ asked command.now (map (λ f. f.now) files.now) (options_of given.now) }
     ensures few { IfSome result AsksForFew }
 {
     if command == "check" {
-        Some(Command::Check(plain_file(files, options)?))
+        Some(Command::Check(plain_file(files, given)?))
     } else if command == "gen" {
-        Some(Command::Gen(plain_file(files, options)?))
+        gen_in(files, given)
     } else if command == "project" {
-        Some(Command::Project(plain_file(files, options)?))
+        Some(Command::Project(plain_file(files, given)?))
     } else if command == "sim" {
-        sim_in(files, options)
+        sim_in(files, given)
     } else if command == "replay" {
-        replay_in(files, options)
+        replay_in(files, given)
     } else if command == "run" {
-        run_in(files, options)
+        run_in(files, given)
     } else {
         None
     }
 }
 
-/// Appends the words behind the separator.
-fn push_all<'a>(words: &mut Vec<&'a str>, behind: &'a [String]) -> Result<(), NoMemory>
-    ensures { OnOk result (map (λ w. w.now) words.new.items ≡ map (λ w. w.now) words.old.items ++ map string_bytes behind.now) }
-{
-    for word in behind {
-        words.push(word.as_str())?;
-    }
-    Ok(())
-}
-
-/// The command of these words, of which the first is its name.
-fn named<'a>(words: &[&'a str], options: &[Given]) -> Option<Command<'a>>
-    ensures asked { request_if result ≡ named (map (λ w. w.now) words.now) (map plain_given options.now) }
+/// The command of this name, where at least so many files are there as words stand behind the separator: then the name stands
+/// in front of it.
+fn asked_for<'a>(
+    command: &str,
+    files: &[&'a str],
+    given: &Given,
+    behind: usize,
+) -> Option<Command<'a>>
+    ensures asked { request_if result ≡ asked_for (Some command.now) (map (λ f. f.now) files.now) (options_of given.now) behind }
     ensures few { IfSome result AsksForFew }
 {
-    match words {
-        [] => None,
-        [command, files @ ..] => asked(command, files, options),
+    if files.len() < behind {
+        None
+    } else {
+        asked(command, files, given)
     }
 }
 
-/// The command of words that were told apart.
-#[tactic(auto, using(crate::proofs::Ended::no_command))]
-fn request_by<'a>(said: Said<'a>) -> Result<Option<Command<'a>>, NoMemory>
-    ensures asked { IfOk result (λ c. request_if c ≡ request_by (plain_said said.entry).words (plain_said said.entry).behind (plain_said said.entry).options) }
-    ensures few { IfOk result (λ c. IfSome c AsksForFew) }
+/// What the matches ask for, with so many words behind the separator.
+#[tactic(auto, using(crate::proofs::Rows::asked_rows, crate::proofs::Rows::no_command_rows))]
+fn asked_by<'a>(matches: &ArgMatches<'a>, behind: usize) -> Option<Command<'a>>
+    ensures asked { (schedule : Bool) → IsFlag (rows_of (found_of matches.now)) schedule → request_if result ≡ asked_by (rows_of (found_of matches.now)) schedule behind }
+    ensures few { IfSome result AsksForFew }
 {
-    let mut words = said.words;
-    if words.is_empty() {
-        return Ok(None);
+    let given = Given::new(matches);
+    let command = matches.get_str("command")?;
+    match matches.get_strs("files") {
+        None => asked_for(command, &[], &given, behind),
+        Some(files) => asked_for(command, files, &given, behind),
     }
-    push_all(&mut words, said.behind)?;
-    Ok(named(words.as_slice(), said.options.as_slice()))
 }
 
 /// What the words after the program's name ask for, or None where they are in no form.
@@ -146,12 +172,13 @@ fn request_by<'a>(said: Said<'a>) -> Result<Option<Command<'a>>, NoMemory>
 /// The command is the first word that is neither an option nor an option's value, and stands before any `--`; the other such
 /// words are its files, in order. An option stands before `--`, once, as `--n 8` or `--n=8`; a value that is its own word
 /// doesn't begin with `-`. Behind `--` every word is a file. Numbers have 1 to 20 decimal digits.
+#[tactic(auto, using(crate::proofs::Walked::asks, crate::proofs::Walked::unmatched_asks))]
 pub fn command_in(alloc: Global, words: &[String]) -> Result<Option<Command<'_>>, NoMemory>
     ensures asked { IfOk result (λ c. request_if c ≡ request (map string_bytes words.now)) }
     ensures few { IfOk result (λ c. IfSome c AsksForFew) }
 {
-    match tell_apart(alloc, words)? {
+    match matches_in(alloc, words)? {
         None => Ok(None),
-        Some(said) => request_by(said),
+        Some(matches) => Ok(asked_by(&matches, words_behind(words))),
     }
 }

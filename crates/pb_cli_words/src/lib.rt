@@ -1,16 +1,13 @@
 //! The words after the program's name, and what they ask for.
 //!
-//! `specs/` has `Said` (options with their values, and other words), `Numbers` (numbers as words) and `Request` (the forms).
+//! `specs/` has `Said` (options with their values, and other words), `Numbers` (numbers as words) and `Request` (the forms); `Reader` has the command of `clap`.
 #![tactic(auto)]
 
 mod command;
 mod given;
-mod key;
 mod number;
 mod options;
-mod reading;
-mod said;
-mod shape;
+mod reader;
 #[cfg(test)]
 mod tests;
 

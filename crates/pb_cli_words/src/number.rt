@@ -30,6 +30,7 @@ fn digits(text: &[u8]) -> Option<u64>
 /// The number that 1 to 20 decimal digits make, leading zeros allowed, where it is from `low` to `high`.
 pub fn number_in(text: &[u8], low: u64, high: u64) -> Option<u64>
     ensures number { result ≡ number_in low high text.now }
+    ensures least { IfSome result (λ n. low ≤ n) }
     ensures most { IfSome result (λ n. n ≤ high) }
 {
     if text.is_empty() || text.len() > MOST_DIGITS {

@@ -1,11 +1,10 @@
 //! The options of a simulation.
 
-ghost use Rattle.std.specs.Prelude.{◌≡◌, ◌≤◌, map, option_copied, option_map, IfSome};
-ghost use Rattle.pb_cli_words.specs.Request.{value_of, n_in, seed_in, turns_in, modes_in, modes_given, shown_in, options_in, only_n, HasFewTurns};
-ghost use Rattle.pb_cli_words.specs.Shown.{plain_given};
+ghost use Rattle.std.specs.Prelude.{◌≡◌, ◌≤◌, IfSome, Some};
+ghost use Rattle.pb_cli_words.specs.Request.{n_in, seed_in, turns_in, modes_in, modes_given, shown_in, options_in, only_n, HasFewTurns};
+ghost use Rattle.pb_cli_words.specs.Shown.{options_of};
 
 use crate::given::Given;
-use crate::key::Key;
 use crate::number::number_in;
 use pb_text::{MOST_EVENTS, MOST_NUMBER, Mode};
 
@@ -39,94 +38,83 @@ pub struct Options {
     pub shown: Shown,
 }
 
-/// The value of an option, if it is there; None where it is there more than once.
-fn value_of<'a>(options: &[Given<'a>], key: Key) -> Option<Option<&'a [u8]>>
-    ensures { option_map option_copied result ≡ value_of key (map plain_given options.now) }
+#[tactic(auto, using(crate::proofs::Listed::n_value))]
+fn n_in(given: &Given) -> Option<u32>
+    ensures { result ≡ n_in (options_of given.now) }
 {
-    let mut found = None;
-    for given in options {
-        if given.key.number() == key.number() {
-            if found.is_some() {
-                return None;
-            }
-            found = Some(given.value);
-        }
-    }
-    Some(found)
-}
-
-fn n_in(options: &[Given]) -> Option<u32>
-    ensures { result ≡ n_in (map plain_given options.now) }
-{
-    let text = value_of(options, Key::N)??;
-    let n = number_in(text, 0, u64::from(MOST_NUMBER))?;
+    let n = number_in(given.n?.as_bytes(), 0, u64::from(MOST_NUMBER))?;
     Some(n as u32)
 }
 
-fn seed_in(options: &[Given]) -> Option<u64>
-    ensures { result ≡ seed_in (map plain_given options.now) }
+#[tactic(auto, using(crate::proofs::Listed::seed_value))]
+fn seed_in(given: &Given) -> Option<u64>
+    ensures { result ≡ seed_in (options_of given.now) }
 {
-    match value_of(options, Key::Seed)? {
+    match given.seed {
         None => Some(0),
-        Some(text) => number_in(text, 0, u64::MAX),
+        Some(text) => number_in(text.as_bytes(), 0, u64::MAX),
     }
 }
 
-fn turns_in(options: &[Given]) -> Option<u32>
-    ensures turns { result ≡ turns_in (map plain_given options.now) }
+#[tactic(auto, using(crate::proofs::Listed::turns_value))]
+fn turns_in(given: &Given) -> Option<u32>
+    ensures turns { result ≡ turns_in (options_of given.now) }
     ensures few { IfSome result (λ turns. turns ≤ MOST_EVENTS) }
 {
-    match value_of(options, Key::Turns)? {
+    match given.turns {
         None => Some(MOST_EVENTS),
         Some(text) => {
-            let turns = number_in(text, 1, u64::from(MOST_EVENTS))?;
+            let turns = number_in(text.as_bytes(), 1, u64::from(MOST_EVENTS))?;
             Some(turns as u32)
         }
     }
 }
 
-fn modes_in(text: &[u8]) -> Option<Modes>
+fn modes_in(text: &str) -> Option<Modes>
     ensures { result ≡ modes_in text.now }
 {
-    if text == b"eager".as_slice() {
+    if text == "eager" {
         Some(Modes::Each(Mode::Eager))
-    } else if text == b"waiting".as_slice() {
+    } else if text == "waiting" {
         Some(Modes::Each(Mode::Waiting))
-    } else if text == b"mixed".as_slice() {
+    } else if text == "mixed" {
         Some(Modes::Mixed)
     } else {
         None
     }
 }
 
-fn modes_given(options: &[Given]) -> Option<Modes>
-    ensures { result ≡ modes_given (map plain_given options.now) }
+#[tactic(auto, using(crate::proofs::Listed::mode_value))]
+fn modes_given(given: &Given) -> Option<Modes>
+    ensures { result ≡ modes_given (options_of given.now) }
 {
-    match value_of(options, Key::Mode)? {
+    match given.mode {
         None => Some(Modes::Each(Mode::Eager)),
         Some(text) => modes_in(text),
     }
 }
 
-fn shown_in(options: &[Given]) -> Option<Shown>
-    ensures { result ≡ shown_in (map plain_given options.now) }
+#[tactic(auto, using(crate::proofs::Listed::schedule_value))]
+fn shown_in(given: &Given) -> Shown
+    ensures { Some result ≡ shown_in (options_of given.now) }
 {
-    match value_of(options, Key::Schedule)? {
-        None => Some(Shown::Log),
-        Some(_) => Some(Shown::Schedule),
+    if given.schedule {
+        Shown::Schedule
+    } else {
+        Shown::Log
     }
 }
 
 /// The options of a simulation by a seed.
-pub fn options_in(options: &[Given]) -> Option<Options>
-    ensures options { result ≡ options_in (map plain_given options.now) }
+pub fn options_in(given: &Given) -> Option<Options>
+    ensures options { result ≡ options_in (options_of given.now) }
     ensures few { IfSome result HasFewTurns }
 {
-    let n = n_in(options)?;
-    let seed = seed_in(options)?;
-    let turns = turns_in(options)?;
-    let modes = modes_given(options)?;
-    let shown = shown_in(options)?;
+    let n = n_in(given)?;
+    let seed = seed_in(given)?;
+    let turns = turns_in(given)?;
+    let modes = modes_given(given)?;
+    let shown = shown_in(given);
     Some(Options {
         n,
         seed,
@@ -137,18 +125,9 @@ pub fn options_in(options: &[Given]) -> Option<Options>
 }
 
 /// The one option of a replay.
-pub fn only_n(options: &[Given]) -> Option<u32>
-    ensures { result ≡ only_n (map plain_given options.now) }
+pub fn only_n(given: &Given) -> Option<u32>
+    ensures { result ≡ only_n (options_of given.now) }
 {
-    match options {
-        [given] => {
-            if given.key.number() == Key::N.number() {
-                let n = number_in(given.value, 0, u64::from(MOST_NUMBER))?;
-                Some(n as u32)
-            } else {
-                None
-            }
-        }
-        _ => None,
-    }
+    let n = number_in(given.only_n()?.as_bytes(), 0, u64::from(MOST_NUMBER))?;
+    Some(n as u32)
 }

@@ -27,6 +27,11 @@ fn letters(alloc: Global, line: &str) -> Result<Vec<u8>, AllocError> {
             out.push(b'g')?;
             out.extend_from_slice(file.as_bytes())?;
         }
+        Ok(Some(Command::GenWith(file, kernels))) => {
+            out.push(b'k')?;
+            out.extend_from_slice(file.as_bytes())?;
+            out.extend_from_slice(kernels.as_bytes())?;
+        }
         Ok(Some(Command::Project(file))) => {
             out.push(b'p')?;
             out.extend_from_slice(file.as_bytes())?;
@@ -77,6 +82,9 @@ fn reads_commands(rt: HostRuntime) -> Result<(), Fail> {
         ("check -", "c-"),
         ("gen p", "gp"),
         ("gen -- p", "gp"),
+        ("gen p k", "kpk"),
+        ("gen p -- -k", "kp-k"),
+        ("gen -- p k", "kpk"),
         ("project p", "pp"),
         ("sim t --n 8", "sel.t"),
         ("--n 8 sim t", "sel.t"),
@@ -88,6 +96,8 @@ fn reads_commands(rt: HostRuntime) -> Result<(), Fail> {
         ("replay t --n 2 -- s", "r2ts"),
         ("--n 2 replay -- t s", "r2ts"),
         ("run p --n 2000000000 --seed 18446744073709551615", "uNp"),
+        ("run p --n=2", "up"),
+        ("run --n 2 p", "up"),
     ] {
         let got = letters(rt.alloc(), line)?;
         assert_eq!(rt; got.as_slice(), asked.as_bytes());
@@ -107,6 +117,11 @@ fn refuses_words_in_no_form(rt: HostRuntime) -> Result<(), Fail> {
         "check --p",
         "check --n 2 p",
         "gen p --schedule",
+        "gen --n 2 p",
+        "-- gen p",
+        "gen p k l",
+        "gen p k --n 2",
+        "gen p -- k l",
         "sim t",
         "sim t --n",
         "sim t --n --seed 7",
@@ -133,6 +148,7 @@ fn refuses_words_in_no_form(rt: HostRuntime) -> Result<(), Fail> {
         "replay t s --n 2 --seed 7",
         "replay t s --seed 7",
         "run p",
+        "run p --n 2 --n 3",
         "demo 4",
     ] {
         let got = letters(rt.alloc(), line)?;

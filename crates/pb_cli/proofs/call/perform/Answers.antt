@@ -1,5 +1,8 @@
 use Rattle.pb_cli.proofs.call.perform.Goals as goal
 
+pub returns-in-GenWith-clause-reply : goal.returns-in-GenWith-clause-reply
+returns-in-GenWith-clause-reply g c = rw c.in-GenWith.is c.tell_merged.ensures.reply
+
 pub returns-in-Sim-clause-reply : goal.returns-in-Sim-clause-reply
 returns-in-Sim-clause-reply g c = rw c.in-Sim.is c.sim.ensures.reply
 

@@ -1,4 +1,4 @@
-use Rattle.std.proofs.Common.{rules, ◌≡◌, ℕ, ◌+◌, ◌-◌, ◌*◌, ◌<◌, ◌≤◌, ◌^◌, length, sym, ◌∙◌, slice_index_or, arith}
+use Rattle.std.proofs.Common.{rules, ◌+◌, ◌-◌, ◌*◌, ◌<◌, ◌≤◌, ◌^◌, length, sym, ◌∙◌, slice_index_or}
 use Rattle.pb_cli_words.proofs.Digits.{overflows}
 use Rattle.pb_cli_words.proofs.number.digits.Goals as goal
 

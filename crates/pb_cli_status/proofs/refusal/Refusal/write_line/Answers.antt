@@ -12,6 +12,18 @@ returns-in-Breakpoints-clause-whole g c = rw c.in-Breakpoints.is c.write_all-in-
 pub returns-in-Breakpoints-clause-front : goal.returns-in-Breakpoints-clause-front
 returns-in-Breakpoints-clause-front g c = rw c.in-Breakpoints.is c.write_all-in-Breakpoints.ensures.front
 
+pub returns-in-KernelMarker-clause-whole : goal.returns-in-KernelMarker-clause-whole
+returns-in-KernelMarker-clause-whole g c = rw c.in-KernelMarker.is c.write_number.ensures.whole
+
+pub returns-in-KernelMarker-clause-front : goal.returns-in-KernelMarker-clause-front
+returns-in-KernelMarker-clause-front g c = rw c.in-KernelMarker.is c.write_number.ensures.front
+
+pub returns-in-Kernel-clause-whole : goal.returns-in-Kernel-clause-whole
+returns-in-Kernel-clause-whole g c = rw c.in-Kernel.is c.write_kernel.ensures.whole
+
+pub returns-in-Kernel-clause-front : goal.returns-in-Kernel-clause-front
+returns-in-Kernel-clause-front g c = rw c.in-Kernel.is c.write_kernel.ensures.front
+
 pub returns-in-Text-clause-whole : goal.returns-in-Text-clause-whole
 returns-in-Text-clause-whole g c = rw c.in-Text.is c.write_at-in-Text.ensures.whole
 
@@ -19,10 +31,10 @@ pub returns-in-Text-clause-front : goal.returns-in-Text-clause-front
 returns-in-Text-clause-front g c = rw c.in-Text.is c.write_at-in-Text.ensures.front
 
 pub returns-in-Schedule-clause-whole : goal.returns-in-Schedule-clause-whole
-returns-in-Schedule-clause-whole g c = rw c.in-Schedule.is c.write_number.ensures.whole
+returns-in-Schedule-clause-whole g c = rw c.in-Schedule.is c.write_number-in-Schedule.ensures.whole
 
 pub returns-in-Schedule-clause-front : goal.returns-in-Schedule-clause-front
-returns-in-Schedule-clause-front g c = rw c.in-Schedule.is c.write_number.ensures.front
+returns-in-Schedule-clause-front g c = rw c.in-Schedule.is c.write_number-in-Schedule.ensures.front
 
 pub returns-in-Events-clause-whole : goal.returns-in-Events-clause-whole
 returns-in-Events-clause-whole g c = rw c.in-Events.is c.write_all-in-Events.ensures.whole
