@@ -1,0 +1,93 @@
+/// A command.
+#[derive(Clone, Copy, PartialEq)]
+pub enum Verb {
+    Check,
+    Project,
+    Gen,
+    Run,
+    Sim,
+    Replay,
+    Demo,
+}
+
+impl Verb {
+    /// All commands.
+    pub fn all() -> &'static [Verb] {
+        &[
+            Verb::Check,
+            Verb::Project,
+            Verb::Gen,
+            Verb::Run,
+            Verb::Sim,
+            Verb::Replay,
+            Verb::Demo,
+        ]
+    }
+
+    /// How it is written.
+    pub fn name(self) -> &'static str {
+        match self {
+            Verb::Check => "check",
+            Verb::Project => "project",
+            Verb::Gen => "gen",
+            Verb::Run => "run",
+            Verb::Sim => "sim",
+            Verb::Replay => "replay",
+            Verb::Demo => "demo",
+        }
+    }
+
+    /// Its form.
+    pub fn form(self) -> &'static str {
+        match self {
+            Verb::Check => "pabble check FILE",
+            Verb::Project => "pabble project FILE",
+            Verb::Gen => "pabble gen FILE [KERNELS]",
+            Verb::Run => "pabble run FILE --n A [--seed B] [--turns C] [--mode M] [--schedule]",
+            Verb::Sim => "pabble sim TEXT --n A [--seed B] [--turns C] [--mode M] [--schedule]",
+            Verb::Replay => "pabble replay TEXT SCHEDULE --n A",
+            Verb::Demo => "pabble demo K",
+        }
+    }
+
+    /// What it does.
+    pub fn purpose(self) -> &'static str {
+        match self {
+            Verb::Check => "says whether the protocol in FILE is accepted",
+            Verb::Project => "writes the one program that all its ranks run",
+            Verb::Gen => "writes its MPI program in C, with the kernels of KERNELS",
+            Verb::Run => "simulates the protocol at N = A",
+            Verb::Sim => "simulates a C text that `gen` wrote",
+            Verb::Replay => "simulates it by a schedule that `--schedule` wrote",
+            Verb::Demo => "makes, compiles and simulates a protocol of K statements",
+        }
+    }
+
+    /// What its words are, from the first to the last that there must be.
+    pub fn files(self) -> &'static [&'static str] {
+        match self {
+            Verb::Check | Verb::Project | Verb::Gen | Verb::Run => &["FILE"],
+            Verb::Sim => &["TEXT"],
+            Verb::Replay => &["TEXT", "SCHEDULE"],
+            Verb::Demo => &["K"],
+        }
+    }
+
+    /// How many words it takes at most.
+    pub fn most(self) -> usize {
+        match self {
+            Verb::Gen | Verb::Replay => 2,
+            Verb::Check | Verb::Project | Verb::Run | Verb::Sim | Verb::Demo => 1,
+        }
+    }
+
+    /// The command of this name.
+    pub fn of(word: &str) -> Option<Verb> {
+        for verb in Verb::all() {
+            if verb.name() == word {
+                return Some(*verb);
+            }
+        }
+        None
+    }
+}
