@@ -1,0 +1,4 @@
+pub mod Sent
+pub mod Flats
+pub mod Trees
+pub mod Laws

@@ -1,0 +1,9 @@
+pub mod Products
+pub mod Lines
+pub mod Words
+pub mod Build
+pub mod Extend
+pub mod Begin
+pub mod TameLines
+pub mod Crossings
+pub mod Switching

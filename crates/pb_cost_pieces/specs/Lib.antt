@@ -1,0 +1,4 @@
+pub mod Lines
+pub mod Building
+pub mod Joined
+pub mod Switches

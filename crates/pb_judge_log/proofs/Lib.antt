@@ -1,0 +1,11 @@
+pub mod Counts
+pub mod Finding
+pub mod Finished
+pub mod Heard
+pub mod Interning
+pub mod Names
+pub mod Prefixed
+pub mod Spelled
+pub mod Splits
+pub mod Steps
+pub mod Told
