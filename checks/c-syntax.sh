@@ -1,5 +1,5 @@
 #!/usr/bin/env bash
-# Gives the text of the reader's tests, and the C text that the built program prints for each file of examples/, to gcc
+# Gives the text of the reader's tests, and the C text that the built program prints for each protocol of examples/, to gcc
 # and to clang, where they are installed, with `-std=c99 -pedantic -Wall -Wextra -fsyntax-only`, and prints what they say.
 # Further protocol files may be named.
 #
@@ -59,7 +59,7 @@ texts=crates/pb_test_texts/src/tests.rt
 sed -n 's/^    b"\(.*\)\\n",$/\1/p' "$top/$texts" | sed 's/\\"/"/g' >"$work/text.c"
 compile "$texts"
 
-for file in "$top"/examples/*.pbl "$@"; do
+for file in "$top"/examples/*.pbl "$top"/examples/*/*.pbl "$@"; do
     said=$("$program" gen "$file")
     status=$?
     case "$status" in

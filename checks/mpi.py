@@ -13,6 +13,7 @@ import shutil
 import subprocess
 import sys
 import tempfile
+from glob import glob
 
 TOP = os.path.dirname(os.path.dirname(os.path.realpath(__file__)))
 ACTIONS = 2000
@@ -156,7 +157,7 @@ def main():
     if not shutil.which("mpicc") or not shutil.which("mpiexec"):
         print("no MPI is installed here (mpicc, mpiexec): nothing was run, and nothing has passed")
         return 1
-    files = words or sorted(f"{TOP}/examples/{it}" for it in os.listdir(f"{TOP}/examples") if it.endswith(".pbl"))
+    files = words or sorted([*glob(f"{TOP}/examples/*.pbl"), *glob(f"{TOP}/examples/*/*.pbl")])
     passed = failed = 0
     for file in files:
         with tempfile.TemporaryDirectory() as room:

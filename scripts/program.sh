@@ -1,6 +1,7 @@
 #!/usr/bin/env bash
 # What `pabble`, `prove` and the scripts of `bench` share: what the program is made of, and where a built one stands. Run by itself
-# it prints the path of the program that `pabble` runs, and builds that without its proofs where there is none.
+# it prints the path of the program that `pabble` runs, and builds that without its proofs where there is none; or, where PABBLE
+# names another program, the path of that.
 top=$(cd "$(dirname "$(readlink -f "${BASH_SOURCE[0]}")")/.." && pwd) || exit 70
 
 say() { echo "pabble: $*" >&2; }
@@ -102,5 +103,5 @@ program() {
 }
 
 if [ "${BASH_SOURCE[0]}" = "$0" ]; then
-    program || exit 70
+    if [ -n "${PABBLE:-}" ]; then readlink -m "$PABBLE"; else program || exit 70; fi
 fi

@@ -1,0 +1,14 @@
+# Completion of pabble for fish.
+set -l commands check project gen run sim replay
+complete -c pabble -n "not __fish_seen_subcommand_from $commands" -f
+complete -c pabble -n "not __fish_seen_subcommand_from $commands" -a check -d 'Whether a protocol is accepted'
+complete -c pabble -n "not __fish_seen_subcommand_from $commands" -a project -d 'The endpoint program of a protocol'
+complete -c pabble -n "not __fish_seen_subcommand_from $commands" -a gen -d 'The C text of a protocol'
+complete -c pabble -n "not __fish_seen_subcommand_from $commands" -a run -d 'Simulate a protocol'
+complete -c pabble -n "not __fish_seen_subcommand_from $commands" -a sim -d 'Simulate a C text'
+complete -c pabble -n "not __fish_seen_subcommand_from $commands" -a replay -d 'Simulate a C text by a schedule'
+complete -c pabble -n "__fish_seen_subcommand_from run sim replay" -l n -x -d 'The number N'
+complete -c pabble -n "__fish_seen_subcommand_from run sim" -l seed -x -d 'The seed'
+complete -c pabble -n "__fish_seen_subcommand_from run sim" -l turns -x -d 'The most events'
+complete -c pabble -n "__fish_seen_subcommand_from run sim" -l mode -x -a 'eager waiting mixed' -d 'Whether sends wait'
+complete -c pabble -n "__fish_seen_subcommand_from run sim" -l schedule -d 'Write the schedule'
