@@ -1,3 +1,4 @@
+pub mod Covers
 pub mod Bools
 pub mod Meets
 pub mod Parts

@@ -3,6 +3,7 @@
 #![tactic(auto)]
 
 mod area;
+mod cover;
 mod cut;
 mod empty;
 mod first;

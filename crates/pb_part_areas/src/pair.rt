@@ -6,12 +6,34 @@ ghost use Rattle.pb_part_areas.specs.Areas.{has, have};
 ghost use Rattle.pb_part_areas.specs.Fits.{Fits};
 
 use crate::area::{Area, ahead, behind, since, until};
+use crate::cover::is_apart;
 use crate::cut::{above, below};
 use crate::join::{push, push_two};
 use pb_text::NoMemory;
 
 /// Adds what `a` holds of and `b` doesn't.
 pub(crate) fn minus(out: &mut Vec<Area>, a: Area, b: Area) -> Result<(), NoMemory>
+    ensures is { OnOk result ((n : ℤ) (role : ℕ) (x : ℤ) → have out.new.items n role x ≡ have out.old.items n role x || (has a n role x && not (has b n role x))) }
+    ensures fits { OnOk result ((range : NRange) (cuts : List Lin) → All (Fits range cuts) out.old.items → Fits range cuts a → Fits range cuts b → All (Fits range cuts) out.new.items) }
+{
+    if is_apart(a, b) {
+        keep(out, a)
+    } else {
+        cut_out(out, a, b)
+    }
+}
+
+/// Adds the area as it is.
+pub(crate) fn keep(out: &mut Vec<Area>, a: Area) -> Result<(), NoMemory>
+    ensures is { OnOk result ((n : ℤ) (role : ℕ) (x : ℤ) → have out.new.items n role x ≡ have out.old.items n role x || has a n role x) }
+    ensures fits { OnOk result ((range : NRange) (cuts : List Lin) → All (Fits range cuts) out.old.items → Fits range cuts a → All (Fits range cuts) out.new.items) }
+{
+    out.push(a)?;
+    Ok(())
+}
+
+/// Adds the parts of `a` beside `b`.
+fn cut_out(out: &mut Vec<Area>, a: Area, b: Area) -> Result<(), NoMemory>
     ensures is { OnOk result ((n : ℤ) (role : ℕ) (x : ℤ) → have out.new.items n role x ≡ have out.old.items n role x || (has a n role x && not (has b n role x))) }
     ensures fits { OnOk result ((range : NRange) (cuts : List Lin) → All (Fits range cuts) out.old.items → Fits range cuts a → Fits range cuts b → All (Fits range cuts) out.new.items) }
 {

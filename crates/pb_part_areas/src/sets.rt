@@ -6,8 +6,9 @@ ghost use Rattle.pb_part_areas.specs.Areas.{has, have};
 ghost use Rattle.pb_part_areas.specs.Fits.{Fits};
 
 use crate::area::Area;
+use crate::cover::{are_apart, covers, is_covered};
 use crate::join::push;
-use crate::pair::{minus, overlap};
+use crate::pair::{keep, minus, overlap};
 use pb_text::NoMemory;
 use std::alloc::Global;
 
@@ -23,6 +24,18 @@ fn less(alloc: Global, list: &[Area], b: Area) -> Result<Vec<Area>, NoMemory>
     Ok(out)
 }
 
+/// The same of a list that can be used up.
+fn lessened(alloc: Global, list: Vec<Area>, b: Area) -> Result<Vec<Area>, NoMemory>
+    ensures is { IfOk result (λ v. (n : ℤ) (role : ℕ) (x : ℤ) → have v.items n role x ≡ have list.items n role x && not (has b n role x)) }
+    ensures fits { IfOk result (λ v. (range : NRange) (cuts : List Lin) → All (Fits range cuts) list.items → Fits range cuts b → All (Fits range cuts) v.items) }
+{
+    if are_apart(&list, b) {
+        Ok(list)
+    } else {
+        less(alloc, &list, b)
+    }
+}
+
 /// What some area of `list` holds of and none of `others`.
 pub fn without(alloc: Global, list: Vec<Area>, others: &[Area]) -> Result<Vec<Area>, NoMemory>
     ensures is { IfOk result (λ v. (n : ℤ) (role : ℕ) (x : ℤ) → have v.items n role x ≡ have list.items n role x && not (have others.now n role x)) }
@@ -30,7 +43,7 @@ pub fn without(alloc: Global, list: Vec<Area>, others: &[Area]) -> Result<Vec<Ar
 {
     let mut left = list;
     for b in others {
-        left = less(alloc, &left, *b)?;
+        left = lessened(alloc, left, *b)?;
     }
     Ok(left)
 }
@@ -79,23 +92,39 @@ pub fn one(alloc: Global, a: Area) -> Result<Vec<Area>, NoMemory>
     Ok(list)
 }
 
-/// What the area holds of and none of the list.
-fn missing(alloc: Global, a: Area, list: &[Area]) -> Result<Vec<Area>, NoMemory>
-    ensures is { IfOk result (λ v. (n : ℤ) (role : ℕ) (x : ℤ) → have v.items n role x ≡ has a n role x && not (have list.now n role x)) }
-    ensures fits { IfOk result (λ v. (range : NRange) (cuts : List Lin) → Fits range cuts a → All (Fits range cuts) list.now → All (Fits range cuts) v.items) }
+/// Adds `b`, unless `a` holds of all that it holds of.
+#[tactic(auto, using(crate::proofs::Covers::beside))]
+fn keep_beside(out: &mut Vec<Area>, b: Area, a: Area) -> Result<(), NoMemory>
+    ensures is { OnOk result ((n : ℤ) (role : ℕ) (x : ℤ) → have out.new.items n role x || has a n role x ≡ (have out.old.items n role x || has b n role x) || has a n role x) }
+    ensures fits { OnOk result ((range : NRange) (cuts : List Lin) → All (Fits range cuts) out.old.items → Fits range cuts b → All (Fits range cuts) out.new.items) }
 {
-    let alone = one(alloc, a)?;
-    let left = without(alloc, alone, list)?;
-    Ok(left)
+    if covers(a, b) { Ok(()) } else { keep(out, b) }
 }
 
-/// Adds what the area holds of, as far as it isn't there.
+/// The areas of the list that hold of more than the area, and the area.
+fn with_area(alloc: Global, list: &[Area], a: Area) -> Result<Vec<Area>, NoMemory>
+    ensures is { IfOk result (λ v. (n : ℤ) (role : ℕ) (x : ℤ) → have v.items n role x ≡ have list.now n role x || has a n role x) }
+    ensures fits { IfOk result (λ v. (range : NRange) (cuts : List Lin) → All (Fits range cuts) list.now → Fits range cuts a → All (Fits range cuts) v.items) }
+{
+    let mut out = Vec::new(alloc);
+    for b in list {
+        keep_beside(&mut out, *b, a)?;
+    }
+    push(&mut out, a)?;
+    Ok(out)
+}
+
+/// Adds what the area holds of, unless some area of the list holds of all that. Those that it holds of whole go out.
+#[tactic(auto, using(crate::proofs::Covers::covered))]
 pub fn add_new(alloc: Global, out: &mut Vec<Area>, a: Area) -> Result<(), NoMemory>
     ensures is { OnOk result ((n : ℤ) (role : ℕ) (x : ℤ) → have out.new.items n role x ≡ have out.old.items n role x || has a n role x) }
     ensures fits { OnOk result ((range : NRange) (cuts : List Lin) → All (Fits range cuts) out.old.items → Fits range cuts a → All (Fits range cuts) out.new.items) }
 {
-    let new = missing(alloc, a, out)?;
-    add_all(out, &new)?;
+    if is_covered(out, a) {
+        return Ok(());
+    }
+    let list = with_area(alloc, out, a)?;
+    *out = list;
     Ok(())
 }
 

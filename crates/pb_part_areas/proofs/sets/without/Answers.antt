@@ -4,6 +4,6 @@ use Rattle.pb_part_areas.proofs.sets.without.Goals as goal
 
 pub loop-b-preserved : goal.loop-b-preserved
 loop-b-preserved c = record {
-  is = λ n role x. without_step _ _ _ _ _ n role x c.loop-b-test.true (rw c.deref.ensures.value at (c.in_ok-left.ensures.is n role x)) (c.loop-b.invariant.is n role x);
-  fits = λ range cuts h f. (rw c.deref.ensures.value at (c.in_ok-left.ensures.fits range cuts)) (c.loop-b.invariant.fits range cuts h f) (f c.loop-b.b-index blank c.loop-b-test.true);
+  is = λ n role x. without_step _ _ _ _ _ n role x c.loop-b-test.true (c.in_ok-left.ensures.is n role x) (c.loop-b.invariant.is n role x);
+  fits = λ range cuts h f. c.in_ok-left.ensures.fits range cuts (c.loop-b.invariant.fits range cuts h f) (f c.loop-b.b-index blank c.loop-b-test.true);
 }
