@@ -1,5 +1,5 @@
 -- Areas within others, and areas with nothing in common.
-use Rattle.std.proofs.Common.{◌≡◌, ◌≤◌, ℕ, ℤ, pos, ◌≤ℤ◌, ◌<ℤ◌, Bool, true, false, not, ◌&&◌, ◌||◌, int_le, int_lt, nat_eq, ◌⊎◌, inl, inr, refl, arith, ap, sym, ◌∙◌, List, [], ◌∷◌, ◌<◌, ◌+◌, drop, drop_of_length-le, length, get_or, zero, suc}
+use Rattle.std.proofs.Common.{◌≡◌, ◌≤◌, ℕ, ℤ, pos, ◌≤ℤ◌, Bool, true, false, not, ◌&&◌, ◌||◌, int_le, int_lt, nat_eq, refl, arith, ap, sym, ◌∙◌, List, [], ◌∷◌, ◌<◌, ◌+◌, drop, drop_of_length-le, length, get_or, zero, suc}
 use Rattle.std.proofs.lemmas.Int.{ints}
 use Rattle.std.proofs.lemmas.Bool.{and_parts, and_from, eqb-true, or_left, or_right}
 use Rattle.std.proofs.lemmas.Bool.Decides.{nat_tests}
@@ -135,3 +135,7 @@ kept_end_bools false a l h = h
 
 pub kept_end : (xs : List Area) (i : ℕ) (o a l : Bool) (n : ℤ) (role : ℕ) (x : ℤ) → length xs ≤ i → (o || have (drop i xs) n role x) || a ≡ l → o || a ≡ l
 kept_end xs i o a l n role x le h = kept_end_bools o a l (sym (ap (λ z. (o || have z n role x) || a) (drop_of_length-le xs le)) ∙ h)
+
+-- the list without those within an area, and what the area holds of beside them
+pub with_missing : (k l a v o : Bool) → k || a ≡ l || a → v ≡ a && not k → o ≡ k || v → o ≡ l || a
+with_missing k l a v o e f g = grind (arith, nat_tests)

@@ -101,20 +101,40 @@ fn keep_beside(out: &mut Vec<Area>, b: Area, a: Area) -> Result<(), NoMemory>
     if covers(a, b) { Ok(()) } else { keep(out, b) }
 }
 
-/// The areas of the list that hold of more than the area, and the area.
-fn with_area(alloc: Global, list: &[Area], a: Area) -> Result<Vec<Area>, NoMemory>
-    ensures is { IfOk result (λ v. (n : ℤ) (role : ℕ) (x : ℤ) → have v.items n role x ≡ have list.now n role x || has a n role x) }
-    ensures fits { IfOk result (λ v. (range : NRange) (cuts : List Lin) → All (Fits range cuts) list.now → Fits range cuts a → All (Fits range cuts) v.items) }
+/// The areas of the list that hold of more than the area does.
+fn beside(alloc: Global, list: &[Area], a: Area) -> Result<Vec<Area>, NoMemory>
+    ensures is { IfOk result (λ v. (n : ℤ) (role : ℕ) (x : ℤ) → have v.items n role x || has a n role x ≡ have list.now n role x || has a n role x) }
+    ensures fits { IfOk result (λ v. (range : NRange) (cuts : List Lin) → All (Fits range cuts) list.now → All (Fits range cuts) v.items) }
 {
     let mut out = Vec::new(alloc);
     for b in list {
         keep_beside(&mut out, *b, a)?;
     }
-    push(&mut out, a)?;
     Ok(out)
 }
 
-/// Adds what the area holds of, unless some area of the list holds of all that. Those that it holds of whole go out.
+/// What the area holds of and none of the list.
+fn missing(alloc: Global, a: Area, list: &[Area]) -> Result<Vec<Area>, NoMemory>
+    ensures is { IfOk result (λ v. (n : ℤ) (role : ℕ) (x : ℤ) → have v.items n role x ≡ has a n role x && not (have list.now n role x)) }
+    ensures fits { IfOk result (λ v. (range : NRange) (cuts : List Lin) → Fits range cuts a → All (Fits range cuts) list.now → All (Fits range cuts) v.items) }
+{
+    let alone = one(alloc, a)?;
+    let left = without(alloc, alone, list)?;
+    Ok(left)
+}
+
+/// The same ranks as those of the list and of the area, where no area of the list holds of all that the area holds of.
+fn with_area(alloc: Global, list: &[Area], a: Area) -> Result<Vec<Area>, NoMemory>
+    ensures is { IfOk result (λ v. (n : ℤ) (role : ℕ) (x : ℤ) → have v.items n role x ≡ have list.now n role x || has a n role x) }
+    ensures fits { IfOk result (λ v. (range : NRange) (cuts : List Lin) → All (Fits range cuts) list.now → Fits range cuts a → All (Fits range cuts) v.items) }
+{
+    let mut out = beside(alloc, list, a)?;
+    let new = missing(alloc, a, &out)?;
+    add_all(&mut out, &new)?;
+    Ok(out)
+}
+
+/// Adds what the area holds of, as far as it isn't there. The areas of the list that it holds of whole go out.
 #[tactic(auto, using(crate::proofs::Covers::covered))]
 pub fn add_new(alloc: Global, out: &mut Vec<Area>, a: Area) -> Result<(), NoMemory>
     ensures is { OnOk result ((n : ℤ) (role : ℕ) (x : ℤ) → have out.new.items n role x ≡ have out.old.items n role x || has a n role x) }

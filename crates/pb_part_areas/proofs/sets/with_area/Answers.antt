@@ -1,17 +1,11 @@
-use Rattle.std.proofs.Common.{◌∙◌, sym, subst}
-use Rattle.pb_part_areas.specs.Areas.{has, have}
-use Rattle.pb_part_areas.specs.Joins.{blank}
-use Rattle.pb_part_areas.proofs.Covers.{kept_step, kept_end}
+use Rattle.pb_part_areas.proofs.Covers.{with_missing}
 use Rattle.pb_part_areas.proofs.sets.with_area.Goals as goal
 
-pub loop-b-preserved : goal.loop-b-preserved
-loop-b-preserved c = record {
-  is = λ n role x. kept_step _ _ _ _ _ _ n role x c.loop-b-test.true (c.in_ok-keep_beside.ensures.is n role x) (c.loop-b.invariant.is n role x);
-  fits = λ range cuts f. c.in_ok-keep_beside.ensures.fits range cuts (c.loop-b.invariant.fits range cuts f) (f c.loop-b.b-index blank c.loop-b-test.true);
-}
-
 pub returns-clause-is : goal.returns-clause-is
-returns-clause-is c = λ n role x. c.in_ok-push.ensures.is n role x ∙ kept_end _ _ _ _ _ n role x c.loop-b-test.false (c.loop-b.invariant.is n role x)
+returns-clause-is c = λ n role x.
+    with_missing _ _ _ _ _ (c.in_ok-out.ensures.is n role x) (rw c.deref.ensures.value at (c.in_ok-new.ensures.is n role x)) (rw c.deref-2.ensures.value at (c.in_ok-add_all.ensures.is n role x))
 
 pub returns-clause-fits : goal.returns-clause-fits
-returns-clause-fits c = λ range cuts f fa. c.in_ok-push.ensures.fits range cuts (c.loop-b.invariant.fits range cuts f) fa
+returns-clause-fits c = λ range cuts f fa.
+    let kept = c.in_ok-out.ensures.fits range cuts f in
+    (rw c.deref-2.ensures.value at (c.in_ok-add_all.ensures.fits range cuts)) kept ((rw c.deref.ensures.value at (c.in_ok-new.ensures.fits range cuts)) fa kept)

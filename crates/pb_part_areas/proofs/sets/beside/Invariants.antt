@@ -4,7 +4,7 @@ use Rattle.pb_affine.specs.declared.lin.Lin.{Lin}
 use Rattle.pb_affine.specs.declared.range.NRange.{NRange}
 use Rattle.pb_part_areas.specs.Areas.{has, have}
 use Rattle.pb_part_areas.specs.Fits.{Fits}
-use Rattle.pb_part_areas.proofs.sets.with_area.Given as goal
+use Rattle.pb_part_areas.proofs.sets.beside.Given as goal
 
 abbrev pub invariant-loop-b : goal.invariant-loop-b
 invariant-loop-b l = record {

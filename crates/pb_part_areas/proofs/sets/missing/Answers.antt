@@ -1,0 +1,4 @@
+use Rattle.pb_part_areas.proofs.sets.missing.Goals as goal
+
+pub returns-clause-fits : goal.returns-clause-fits
+returns-clause-fits c = λ range cuts f h. c.in_ok-left.ensures.fits range cuts (c.in_ok-alone.ensures.fits range cuts f) h
