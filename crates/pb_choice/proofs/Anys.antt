@@ -89,7 +89,7 @@ all_forks here before none mid new is_none a b sh sb = record {
 
 -- ---- one source
 
-base_is : (a b : Base) (n x : ℤ) → same_base a b ≡ true → base_value a n x ≡ base_value b n x
+pub base_is : (a b : Base) (n x : ℤ) → same_base a b ≡ true → base_value a n x ≡ base_value b n x
 base_is Fixed Fixed n x h = refl
 base_is Param Param n x h = refl
 base_is Var Var n x h = refl

@@ -19,3 +19,4 @@ pub mod RuleTests
 pub mod EmptySteps
 pub mod Lones
 pub mod Circles
+pub mod Alikes

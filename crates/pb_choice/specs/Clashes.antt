@@ -1,6 +1,6 @@
 -- What entries of a branch have to do with others: receives of one label, and of two sources.
 use Rattle.std.specs.Prelude.{◌≡◌, ℕ, ℤ, pos, negsuc, ◌≤ℤ◌, Bool, true, false, not, ◌&&◌, ◌||◌, nat_eq, List}
-use Rattle.std.specs.List.{list_any}
+use Rattle.std.specs.List.{list_any, list_all}
 use Rattle.std.specs.Ordering.{int_eq}
 use Rattle.pb_affine.specs.declared.lin.Base.{Base}
 use Rattle.pb_affine.specs.declared.lin.Base.TheVariants.{Fixed, Param, Var}
@@ -52,6 +52,25 @@ same_base Fixed Fixed = true
 same_base Param Param = true
 same_base Var Var = true
 same_base a b = false
+
+-- a receive from this source as it is written, or no receive
+abbrev pub is_sent_by : Source → Kind → Bool
+is_sent_by a (Receive b l) = nat_eq a.role b.role && same_base a.at.base b.at.base && int_eq a.at.off b.at.off
+is_sent_by a Other = true
+is_sent_by a Again = true
+
+abbrev pub are_sent_by : Source → List Entry → Bool
+are_sent_by a es = list_all (λ e. is_sent_by a e.kind) es
+
+-- no receive of this label
+abbrev pub lacks : ℕ → List Entry → Bool
+lacks l es = list_all (λ e. not (is_label l e.kind)) es
+
+-- no receive of the label of this, if it is a receive
+abbrev pub lacks_label : Kind → List Entry → Bool
+lacks_label (Receive t l) es = lacks l es
+lacks_label Other es = true
+lacks_label Again es = true
 
 -- at N = n the rank with index x has the same sender by both
 abbrev pub agrees : Source → Source → ℤ → ℤ → Bool

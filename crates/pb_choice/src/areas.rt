@@ -4,8 +4,8 @@ ghost use Rattle.pb_part_firsts.specs.Firsts.{is_small_kind, is_small_off, are_s
 ghost use Rattle.pb_choice.specs.Clashes.{AddsWhere, agrees, clash, clash_any, clashes, fork, fork_any, forks, is_strange, same_label, strange};
 
 use crate::agree::agreement;
+use crate::alike::{have_one_source, is_label, is_same, share_no_label};
 use crate::told::copy_of;
-use pb_affine::Base;
 use pb_part_areas::{Area, add_all, common, one, push, without};
 use pb_part_firsts::{Entry, Kind, Source};
 use pb_text::NoMemory;
@@ -36,10 +36,25 @@ pub fn clashes(alloc: Global, here: &[Entry], before: &[Entry]) -> Result<Vec<Ar
     ensures { IfOk result (λ v. (n : ℤ) (role : ℕ) (x : ℤ) → have v.items n role x ≡ clashes here.now before.now n role x) }
 {
     let mut out = Vec::new(alloc);
-    for entry in here {
-        add_clashes(alloc, &mut out, *entry, before)?;
+    if share_no_label(here, before) {
+        return Ok(out);
     }
+    add_all_clashes(alloc, &mut out, here, before)?;
     Ok(out)
+}
+
+fn add_all_clashes(
+    alloc: Global,
+    out: &mut Vec<Area>,
+    here: &[Entry],
+    before: &[Entry],
+) -> Result<(), NoMemory>
+    ensures { OnOk result ((n : ℤ) (role : ℕ) (x : ℤ) → have out.new.items n role x ≡ have out.old.items n role x || clashes here.now before.now n role x) }
+{
+    for entry in here {
+        add_clashes(alloc, out, *entry, before)?;
+    }
+    Ok(())
 }
 
 fn add_clashes(
@@ -71,17 +86,6 @@ fn is_same_label(a: Kind, b: Kind) -> bool
 {
     match a {
         Kind::Receive { label, .. } => is_label(b, label),
-        Kind::Other | Kind::Again => false,
-    }
-}
-
-ghost use Rattle.pb_choice.specs.Clashes.{is_label};
-
-fn is_label(kind: Kind, wanted: u32) -> bool
-    ensures { result ≡ is_label wanted kind }
-{
-    match kind {
-        Kind::Receive { label, .. } => wanted == label,
         Kind::Other | Kind::Again => false,
     }
 }
@@ -124,6 +128,9 @@ fn add_all_forks(
 ) -> Result<(), NoMemory>
     ensures { OnOk result (are_small here.now ≡ true → are_small others.now ≡ true → AddsWhere out.old.items out.new.items (forks here.now others.now)) }
 {
+    if have_one_source(here, others) {
+        return Ok(());
+    }
     for entry in here {
         add_forks(alloc, out, *entry, others)?;
     }
@@ -188,26 +195,6 @@ fn add_unless_same(
         Ok(())
     } else {
         add_apart(alloc, out, a, from, b, second)
-    }
-}
-
-ghost use Rattle.std.specs.Prelude.{nat_eq};
-ghost use Rattle.std.specs.Ordering.{int_eq};
-ghost use Rattle.pb_choice.specs.Clashes.{same_base};
-
-fn is_same(a: Source, b: Source) -> bool
-    ensures { result ≡ (nat_eq a.role b.role && same_base a.at.base b.at.base && int_eq a.at.off b.at.off) }
-{
-    a.role == b.role && is_same_base(a.at.base, b.at.base) && a.at.off == b.at.off
-}
-
-fn is_same_base(a: Base, b: Base) -> bool
-    ensures { result ≡ same_base a b }
-{
-    match a {
-        Base::Fixed => matches!(&b, Base::Fixed),
-        Base::Param => matches!(&b, Base::Param),
-        Base::Var => matches!(&b, Base::Var),
     }
 }
 

@@ -3,6 +3,7 @@
 #![tactic(auto)]
 
 mod agree;
+mod alike;
 mod areas;
 mod branch;
 mod empty;
