@@ -41,7 +41,7 @@ use Rattle.pb_cli.specs.Run.{MayRun, IsRunReply, SaysRun, SaysRunReply}
 use Rattle.pb_cli.specs.Program.{SaysReply}
 use Rattle.pb_cli.specs.Complete.{Comes, Completes, IsComplete}
 use Rattle.pb_cli_file.proofs.Merged.{functions_same, no_fault}
-use Rattle.pb_cli_laws.proofs.Files.{accepted_has_no_fault, one_meaning}
+use Rattle.pb_compile_verdict_laws.proofs.Files.{accepted_has_no_fault, one_meaning}
 use Rattle.pb_cli_laws.proofs.Texts.{text_has_no_fault, one_text_tree}
 use Rattle.pb_cli_laws.proofs.Schedules.{schedule_has_no_fault}
 use Rattle.pb_cli_laws.proofs.Draws.{drawn_has_a_step}

@@ -1,11 +1,7 @@
--- What an accepted file, a text and a schedule are never answered, and that each has one reading.
+-- What a text and a schedule are never answered, and that each has one reading.
 use Rattle.std.specs.Prelude.{◌≡◌, ℕ, ◌<◌, ◌^◌, ℤ, List, length}
 use Rattle.pb_local.specs.Tree.{program_of}
 use Rattle.pb_ctree.specs.declared.tree.CTree.{CTree}
-use Rattle.pb_core_language.specs.Plain.{Protocol}
-use Rattle.pb_compile.specs.Verdict.{IsAcceptedAs, IsVerdict}
-use Rattle.pb_compile.specs.declared.verdict.Verdict.{Verdict}
-use Rattle.pb_compile.specs.declared.verdict.Verdict.TheVariants as verdict
 use Rattle.pb_cli_status.specs.declared.refusal.Refusal.{Refusal}
 use Rattle.pb_cli_status.specs.declared.refusal.Refusal.TheVariants as refusal
 use Rattle.pb_cli_words.specs.declared.options.Modes.{Modes}
@@ -15,14 +11,6 @@ use Rattle.pb_sim.specs.declared.seen.Seen.{Seen}
 use Rattle.pb_sim_play.specs.Plans.{drawn}
 use Rattle.pb_sim_play.specs.Endings.{IsUnready}
 use Rattle.pb_cli_simulate.specs.Sources.{IsTextOf, IsNoText, IsNoSchedule}
-
--- of an accepted file no verdict but want of memory is true
-abbrev pub AcceptedHasNoFault : Type 0
-AcceptedHasNoFault = (bytes : List ℕ) (p : Protocol) → IsAcceptedAs bytes p → (v : Verdict) → IsVerdict bytes v → v ≡ verdict.NoMemory
-
--- and it has one meaning
-abbrev pub OneMeaning : Type 0
-OneMeaning = (bytes : List ℕ) (p q : Protocol) → IsAcceptedAs bytes p → IsAcceptedAs bytes q → p ≡ q
 
 -- of a text no refusal but want of memory is true
 abbrev pub TextHasNoFault : Type 0

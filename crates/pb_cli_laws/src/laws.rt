@@ -1,14 +1,4 @@
-ghost use Rattle.pb_cli_laws.specs.Laws.{AcceptedHasNoFault, DrawnHasAStep, OneMeaning, OneSchedule, OneTextTree, ScheduleHasNoFault, TextHasNoFault};
-
-/// Of an accepted file no verdict but want of memory is true.
-pub fn accepted_has_no_fault()
-    ensures { AcceptedHasNoFault }
-{}
-
-/// An accepted file has one meaning.
-pub fn one_meaning()
-    ensures { OneMeaning }
-{}
+ghost use Rattle.pb_cli_laws.specs.Laws.{DrawnHasAStep, OneSchedule, OneTextTree, ScheduleHasNoFault, TextHasNoFault};
 
 /// Of a text want of memory is the only refusal that is true.
 pub fn text_has_no_fault()

@@ -15,11 +15,11 @@ use Rattle.pb_core_language.specs.Meaning.{meaning}
 use Rattle.pb_core_language.specs.FileRules.{broken}
 use Rattle.pb_compile.specs.Verdict.{IsBrokenAt, IsKept}
 use Rattle.pb_compile.specs.declared.verdict.Verdict.TheVariants as verdict
-use Rattle.pb_cli_laws.specs.Laws.{AcceptedHasNoFault, OneMeaning}
-use Rattle.pb_cli_laws.proofs.Crowds.{no_crowd}
+use Rattle.pb_compile_verdict_laws.specs.Laws.{AcceptedHasNoFault, OneMeaning}
+use Rattle.pb_compile_verdict_laws.proofs.Crowds.{no_crowd}
 
 -- a text has one tree
-one_file : (bytes : List ℕ) (f g : PlainFile) → IsTreeOf bytes f → IsTreeOf bytes g → f ≡ g
+pub one_file : (bytes : List ℕ) (f g : PlainFile) → IsTreeOf bytes f → IsTreeOf bytes g → f ≡ g
 one_file bytes f g a b = one_tree b.0 f g (subst (λ (ts : List Token). IsFile ts f) (one_text bytes a.0 b.0 a.1 b.1) a.2.0) b.2.0
 
 -- it is parsed
