@@ -1,0 +1,6 @@
+//! Law on kernel files: a C text is a kernel file of its own bodies, and merging them into its tree gives that text again.
+#![tactic(auto)]
+
+mod laws;
+
+pub use laws::own_kernels;
