@@ -14,7 +14,7 @@ use Rattle.pb_local.specs.Tree.{Program}
 use Rattle.pb_local.specs.WellMade.{IsWellMade}
 use Rattle.pb_ctree.specs.declared.kernel.Kind.TheVariants.{Make, Take}
 use Rattle.pb_ctree.specs.declared.kernel.KName.{KName}
-use Rattle.pb_ctree.specs.Functions.{has_words, named, kind_of, label_functions, kernel_function, labels_functions, functions_of}
+use Rattle.pb_ctree.specs.Functions.{has_words, named, kind_of, kernel_function, labels_functions, functions_of}
 use Rattle.pb_kernels.specs.declared.file.NamedBody.{NamedBody}
 use Rattle.pb_kernels.specs.Marks.{prelude_name}
 use Rattle.pb_kernels.specs.Names.{kind_number, same_name, is_among, named_bodies, names_of, are_new, are_distinct}
@@ -125,8 +125,8 @@ functions_apart (l ∷ ls) ks h e = at (has_words l.payload) (functions_apart ls
 pub names_apart : (p : Program) → IsWellMade p → AreApart (prelude_name ∷ functions_of p)
 names_apart p made = (
   unlike_both prelude_name (labels_functions p.labels) (map kernel_function p.kernels)
-  (labels_unlike prelude_name (λ v. Unit {0}) (λ v h. (refl, refl)) p.labels (any_name (map (λ l. l.name) p.labels)))
-  (kernels_unlike prelude_name (λ v. Unit {0}) no_prelude p.kernels (any_name (map (λ k. k.name) p.kernels))),
+      (labels_unlike prelude_name (λ v. Unit {0}) (λ v h. (refl, refl)) p.labels (any_name (map (λ l. l.name) p.labels)))
+      (kernels_unlike prelude_name (λ v. Unit {0}) no_prelude p.kernels (any_name (map (λ k. k.name) p.kernels))),
   functions_apart p.labels p.kernels (all_differ (map (λ l. l.name) p.labels) made.labels.distinct) (all_differ (map (λ k. k.name) p.kernels) made.kernels.distinct),
 )
 
@@ -145,8 +145,8 @@ fresh_more : (before : List NamedBody) (b : NamedBody) (ns : List KName) → IsF
 fresh_more before b [] h u = tt
 fresh_more before b (n ∷ ns) h u = (
   list_any-append (λ x. same_name n x.name) before (b ∷ [])
-  ∙ ap (λ x. x || (same_name n b.name || false)) h.0
-  ∙ ap (λ x. x || false) u.0,
+      ∙ ap (λ x. x || (same_name n b.name || false)) h.0
+      ∙ ap (λ x. x || false) u.0,
   fresh_more before b ns h.1 u.1,
 )
 

@@ -1,5 +1,5 @@
 -- Merging a text's own bodies finds each at its place, and nothing is missing or extra.
-use Rattle.std.proofs.Common.{◌≡◌, ℕ, Bool, true, false, not, ◌||◌, if◌then◌else◌, cond, List, [], ◌∷◌, length, map, find, None, Some, refl, sym, ap, subst, ◌∙◌, arith, zip}
+use Rattle.std.proofs.Common.{◌≡◌, ℕ, Bool, true, false, not, ◌||◌, if◌then◌else◌, cond, List, [], ◌∷◌, length, find, None, Some, refl, ap, ◌∙◌, arith, zip}
 use Rattle.std.specs.List.{list_any}
 use Rattle.std.proofs.Math.Bool.{or-true}
 use Rattle.pb_local.specs.Tree.{Program}
@@ -9,7 +9,7 @@ use Rattle.pb_ctree.specs.Functions.{functions_of}
 use Rattle.pb_kernels.specs.declared.file.NamedBody.{NamedBody}
 use Rattle.pb_kernels.specs.Marks.{prelude_name}
 use Rattle.pb_kernels.specs.Merges.{first_missing, first_extra, has_place, misfit, misfit_of, bodies_of}
-use Rattle.pb_kernels.specs.Names.{same_name, is_among, names_of, named_bodies, body_of}
+use Rattle.pb_kernels.specs.Names.{same_name, is_among, named_bodies, body_of}
 use Rattle.pb_kernels.proofs.Keys.{name_decides}
 use Rattle.pb_kernels_laws.specs.Laws.{bodies_by_name}
 use Rattle.pb_kernels_laws.proofs.Apart.{IsUnlike, AreApart, names_apart, names_are}

@@ -1,9 +1,9 @@
 -- What the marker lines of a text are.
-use Rattle.std.proofs.Common.{◌≡◌, ℕ, suc, ◌+◌, ◌<◌, ◌≤◌, Bool, true, false, ◌&&◌, ◌||◌, not, if◌then◌else◌, cond, List, [], ◌∷◌, ◌++◌, length, take, drop, codes, refl, sym, ap, ◌∙◌, arith, append_assoc, nat_le, nat_lt}
+use Rattle.std.proofs.Common.{◌≡◌, ℕ, suc, ◌+◌, ◌<◌, Bool, true, false, ◌&&◌, ◌||◌, not, if◌then◌else◌, cond, List, [], ◌∷◌, ◌++◌, length, take, drop, codes, refl, ap, ◌∙◌, arith, append_assoc, nat_le, nat_lt}
 use Rattle.std.specs.List.{list_all, prefix_len}
 use Rattle.std.proofs.Math.Seq.{take-append_seam, drop-append_seam}
 use Rattle.std.proofs.lemmas.Bool.{and_from, and_parts, ltb-true, le-leb}
-use Rattle.pb_text.specs.Lexemes.{begins_word, goes_on_word}
+use Rattle.pb_text.specs.Lexemes.{goes_on_word}
 use Rattle.pb_syntax.specs.declared.core_label.KernelKind.{KernelKind}
 use Rattle.pb_syntax.specs.declared.core_label.KernelKind.TheVariants as kernel
 use Rattle.pb_local.specs.Names.{is_letter, is_digit, is_word, is_keyword, is_name}

@@ -1,5 +1,5 @@
 -- The lines of a text, each with its line feed, are those that the text is spelled with.
-use Rattle.std.proofs.Common.{◌≡◌, ℕ, suc, ◌+◌, Bool, true, false, not, List, [], ◌∷◌, ◌++◌, length, map, if◌then◌else◌, refl, sym, ap, ◌∙◌, arith, nat_eq, append_assoc, append-nil, All}
+use Rattle.std.proofs.Common.{◌≡◌, ℕ, Bool, true, false, List, [], ◌∷◌, ◌++◌, length, map, if◌then◌else◌, refl, sym, ap, ◌∙◌, arith, nat_eq, append-nil, All}
 use Rattle.std.proofs.lemmas.List.Elements.{All-nil, All-cons, All-head, All-tail}
 use Rattle.pb_local.specs.Pieces.{joined}
 use Rattle.pb_local.specs.Tree.{Program, program_of}
@@ -13,7 +13,7 @@ use Rattle.pb_kernels.specs.Files.{lines}
 use Rattle.pb_cread_frame.specs.Rows.{is_line, bare}
 use Rattle.pb_cread_frame.proofs.Shapes.{line_is}
 use Rattle.pb_cread.specs.Rows.{Begins}
-use Rattle.pb_cread.proofs.Cleared.{AllLines, all_lines}
+use Rattle.pb_cread.proofs.Cleared.{all_lines}
 
 -- ---- whole lines
 

@@ -85,9 +85,9 @@ told_stated p d who rs from [] = (tt, tt)
 told_stated p d who rs from (t ∷ ts) = (
   tt,
   both (probe_lines p (d + 1) rs from ++ test_lines p (d + 1) t ts ++ abort_lines (d + 1)) (line d close true ∷ [])
-  (both (probe_lines p (d + 1) rs from ++ test_lines p (d + 1) t ts) (abort_lines (d + 1))
-  (both (probe_lines p (d + 1) rs from) (test_lines p (d + 1) t ts) (probes_stated p (d + 1) rs from) (tt, (tt, tests_stated p (d + 1) t ts))) (tt, (tt, (tt, tt))))
-  (tt, tt),
+      (both (probe_lines p (d + 1) rs from ++ test_lines p (d + 1) t ts) (abort_lines (d + 1))
+      (both (probe_lines p (d + 1) rs from) (test_lines p (d + 1) t ts) (probes_stated p (d + 1) rs from) (tt, (tt, tests_stated p (d + 1) t ts))) (tt, (tt, (tt, tt))))
+      (tt, tt),
 )
 
 wordy_stated : (p : Program) (label : ℕ) (l : Line) → IsStated l.item → AreStated (if_wordy p label l)
@@ -128,8 +128,8 @@ mutual
   other_stated p d s (more c rest) = (
     tt,
     both (spelled p (d + 1) s c ++ spelled_all p (d + 1) (behind s (loops_at c)) rest) (line d close true ∷ [])
-    (both (spelled p (d + 1) s c) (spelled_all p (d + 1) (behind s (loops_at c)) rest) (code_stated p (d + 1) s c) (codes_stated p (d + 1) (behind s (loops_at c)) rest))
-    (tt, tt),
+        (both (spelled p (d + 1) s c) (spelled_all p (d + 1) (behind s (loops_at c)) rest) (code_stated p (d + 1) s c) (codes_stated p (d + 1) (behind s (loops_at c)) rest))
+        (tt, tt),
   )
 
   parts_stated : (p : Program) (d : ℕ) (s : Scope) (k : ℕ) (tests : List Test) (bs : Parts) → AreStated (spelled_parts p d s k tests bs)

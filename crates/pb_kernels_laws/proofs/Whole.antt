@@ -1,23 +1,20 @@
 -- A text is a kernel file of its own bodies.
-use Rattle.std.proofs.Common.{◌≡◌, ◌⊎◌, ℕ, true, List, length, map, Result, Ok, Err, Option, None, Some, MatchResult, refl, sym, ap, subst, ◌∙◌, inl, inr, All}
+use Rattle.std.proofs.Common.{◌≡◌, ◌⊎◌, ℕ, true, List, length, Result, Ok, Err, Option, None, Some, MatchResult, sym, ap, subst, ◌∙◌, inl, inr, All}
 use Rattle.pb_local.specs.Tree.{program_of}
 use Rattle.pb_ctree.specs.declared.body.Bodies.{Bodies}
 use Rattle.pb_ctree.specs.declared.tree.CTree.{CTree}
 use Rattle.pb_ctree.specs.Bodies.{is_body}
-use Rattle.pb_ctree.specs.Frame.{text_lines}
 use Rattle.pb_ctree.specs.Functions.{functions_of}
-use Rattle.pb_ctree.specs.Texts.{line_text, text_of, text, Spells}
+use Rattle.pb_ctree.specs.Texts.{text, Spells}
 use Rattle.pb_kernels.specs.declared.fault.KernelFault.{KernelFault}
 use Rattle.pb_kernels.specs.declared.fault.KernelFault.TheVariants.{NoMemory}
 use Rattle.pb_kernels.specs.declared.file.NamedBody.{NamedBody}
 use Rattle.pb_kernels.specs.Files.{lines, kernel_file}
 use Rattle.pb_kernels.specs.Format.{IsFile}
-use Rattle.pb_kernels.specs.Marks.{prelude_name}
-use Rattle.pb_kernels.specs.Merges.{bodies_of, misfit}
-use Rattle.pb_kernels.specs.Names.{body_of}
+use Rattle.pb_kernels.specs.Merges.{misfit}
 use Rattle.pb_kernels.specs.Outcomes.{Gives}
 use Rattle.pb_kernels.proofs.Formats.{reads_the_format}
-use Rattle.pb_kernels_laws.specs.Laws.{kernels_of, IsMerged, IsOwnKernelFile, OwnKernels}
+use Rattle.pb_kernels_laws.specs.Laws.{kernels_of, IsMerged, OwnKernels}
 use Rattle.pb_kernels_laws.proofs.Apart.{bodies_distinct}
 use Rattle.pb_kernels_laws.proofs.Found.{FitsItself, fits_itself}
 use Rattle.pb_kernels_laws.proofs.Parted.{spelled_lines}

@@ -1,5 +1,5 @@
 -- The lines of a text are those of a kernel file with its bodies.
-use Rattle.std.proofs.Common.{◌≡◌, ℕ, zero, suc, ◌+◌, Bool, true, false, not, ◌&&◌, if◌then◌else◌, List, [], ◌∷◌, ◌++◌, length, map, codes, refl, sym, ap, subst, ◌∙◌, arith, append_assoc, append-nil, All, nat_eq, zip}
+use Rattle.std.proofs.Common.{◌≡◌, ℕ, ◌+◌, Bool, true, false, not, ◌&&◌, if◌then◌else◌, List, [], ◌∷◌, ◌++◌, length, map, codes, refl, sym, ap, subst, ◌∙◌, arith, append_assoc, append-nil, All, nat_eq, zip}
 use Rattle.std.proofs.Math.Bool.{and-false}
 use Rattle.std.proofs.lemmas.List.{map-append}
 use Rattle.std.proofs.lemmas.List.Elements.{All-head, All-tail}
@@ -17,16 +17,16 @@ use Rattle.pb_local.specs.WellMade.{IsWellMade, outermost}
 use Rattle.pb_ctree.specs.declared.kernel.Kind.TheVariants.{Make, Take}
 use Rattle.pb_ctree.specs.declared.kernel.KName.{KName}
 use Rattle.pb_ctree.specs.Bodies.{is_marker, is_body, lines_of}
-use Rattle.pb_ctree.specs.Frame.{words, role_lines, label_lines, buffer_lines, with_rule, head_lines, body_lines, prelude_lines, number_lines, function_lines, make_head, take_head, kernel_head, kernel_letter, kernel_type, first_body, other_bodies, kernel_lines, words_lines, kernels_after, start_lines, n_text, size_lines, seat_lines, end_lines, main_lines, text_lines}
-use Rattle.pb_ctree.specs.Functions.{has_words, named, kind_of, kernel_function, label_functions, labels_functions, functions_of}
+use Rattle.pb_ctree.specs.Frame.{words, role_lines, label_lines, buffer_lines, with_rule, head_lines, body_lines, prelude_lines, number_lines, function_lines, make_head, take_head, kernel_head, kernel_letter, kernel_type, other_bodies, kernel_lines, words_lines, kernels_after, start_lines, size_lines, seat_lines, end_lines, main_lines, text_lines}
+use Rattle.pb_ctree.specs.Functions.{has_words, named, kernel_function, labels_functions, functions_of}
 use Rattle.pb_ctree.specs.Lines.{raw, Line, line}
-use Rattle.pb_ctree.specs.Rules.{has_size, is_kernel_row, is_single}
+use Rattle.pb_ctree.specs.Rules.{has_size, is_kernel_row}
 use Rattle.pb_ctree.specs.Spelling.{spelled_all}
 use Rattle.pb_ctree.specs.Texts.{line_text}
-use Rattle.pb_ctree_laws.specs.Laws.{HasNoMarker, whole}
+use Rattle.pb_ctree_laws.specs.Laws.{whole}
 use Rattle.pb_ctree_laws.proofs.Bodies.{bodies_are_lines}
 use Rattle.pb_kernels.specs.declared.file.NamedBody.{NamedBody}
-use Rattle.pb_kernels.specs.declared.marker.Marker.TheVariants.{Opening, Closing}
+use Rattle.pb_kernels.specs.declared.marker.Marker.TheVariants.{Opening}
 use Rattle.pb_kernels.specs.Format.{IsBody, IsFile}
 use Rattle.pb_kernels.specs.Format as F
 use Rattle.pb_kernels.specs.Marks.{prelude_name, marker_of}
@@ -136,24 +136,24 @@ functions_added : (p : Program) (ls : List CoreLabel) (ks : List CoreKernel) (bo
 functions_added p [] ks bodies labels kernels each many = kernels_added p [] ks bodies kernels each many
 functions_added p (l ∷ ls) ks bodies labels kernels each many =
     at (has_words l.payload) bodies each many (λ others other_each other_many. functions_added p ls ks others (All-tail HasLabelName l ls labels) kernels other_each other_many) where
-  named_so : is_name l.name ≡ true
-  named_so = All-head HasLabelName l ls labels
+      named_so : is_name l.name ≡ true
+      named_so = All-head HasLabelName l ls labels
 
-  at : (b : Bool) (bodies : List (List ℕ)) → All IsBodyText bodies → length bodies ≡ length ((if b then named Make l.name ∷ named Take l.name ∷ [] else []) ++ labels_functions ls ++ map kernel_function ks)
-      → ((others : List (List ℕ)) → All IsBodyText others → length others ≡ length (labels_functions ls ++ map kernel_function ks)
-      → Adds p (kernels_after ls ks others) (named_bodies (zip (labels_functions ls ++ map kernel_function ks) others))) → Adds p (if b then words_lines l bodies ++ kernels_after ls ks (other_bodies (other_bodies bodies)) else kernels_after ls ks bodies)
-      (named_bodies (zip ((if b then named Make l.name ∷ named Take l.name ∷ [] else []) ++ labels_functions ls ++ map kernel_function ks) bodies))
-  at false bodies each many next = next bodies each many
-  at true [] each many next = absurd cc
-  at true (a ∷ []) each many next = absurd (omega (arith, many))
-  at true (a ∷ b ∷ bs) each many next =
-      let others = All-tail IsBodyText a (b ∷ bs) each in
-      adds_both p (words_lines l (a ∷ b ∷ bs)) (kernels_after ls ks bs) (record { name = named Make l.name; body = a } ∷ record { name = named Take l.name; body = b } ∷ []) (named_bodies (zip (labels_functions ls ++ map kernel_function ks) bs))
-      (adds_both p (function_lines (make_head l) true (codes "make_" ++ l.name) a) (function_lines (take_head l) true (codes "take_" ++ l.name) b)
-      (record { name = named Make l.name; body = a } ∷ []) (record { name = named Take l.name; body = b } ∷ [])
-      (function_added p (make_head l) true (codes "make_" ++ l.name) (named Make l.name) a refl (make_marked l.name named_so) (All-head IsBodyText a (b ∷ bs) each))
-      (function_added p (take_head l) true (codes "take_" ++ l.name) (named Take l.name) b refl (take_marked l.name named_so) (All-head IsBodyText b bs others)))
-      (next bs (All-tail IsBodyText b bs others) (omega (arith, many)))
+      at : (b : Bool) (bodies : List (List ℕ)) → All IsBodyText bodies → length bodies ≡ length ((if b then named Make l.name ∷ named Take l.name ∷ [] else []) ++ labels_functions ls ++ map kernel_function ks)
+          → ((others : List (List ℕ)) → All IsBodyText others → length others ≡ length (labels_functions ls ++ map kernel_function ks)
+          → Adds p (kernels_after ls ks others) (named_bodies (zip (labels_functions ls ++ map kernel_function ks) others))) → Adds p (if b then words_lines l bodies ++ kernels_after ls ks (other_bodies (other_bodies bodies)) else kernels_after ls ks bodies)
+          (named_bodies (zip ((if b then named Make l.name ∷ named Take l.name ∷ [] else []) ++ labels_functions ls ++ map kernel_function ks) bodies))
+      at false bodies each many next = next bodies each many
+      at true [] each many next = absurd cc
+      at true (a ∷ []) each many next = absurd (omega (arith, many))
+      at true (a ∷ b ∷ bs) each many next =
+          let others = All-tail IsBodyText a (b ∷ bs) each in
+          adds_both p (words_lines l (a ∷ b ∷ bs)) (kernels_after ls ks bs) (record { name = named Make l.name; body = a } ∷ record { name = named Take l.name; body = b } ∷ []) (named_bodies (zip (labels_functions ls ++ map kernel_function ks) bs))
+          (adds_both p (function_lines (make_head l) true (codes "make_" ++ l.name) a) (function_lines (take_head l) true (codes "take_" ++ l.name) b)
+          (record { name = named Make l.name; body = a } ∷ []) (record { name = named Take l.name; body = b } ∷ [])
+          (function_added p (make_head l) true (codes "make_" ++ l.name) (named Make l.name) a refl (make_marked l.name named_so) (All-head IsBodyText a (b ∷ bs) each))
+          (function_added p (take_head l) true (codes "take_" ++ l.name) (named Take l.name) b refl (take_marked l.name named_so) (All-head IsBodyText b bs others)))
+          (next bs (All-tail IsBodyText b bs others) (omega (arith, many)))
 
 -- ---- the other lines
 
@@ -170,8 +170,17 @@ rule_plain p rule [] plain = tt
 rule_plain p rule (l ∷ ls) plain = plain
 
 head_plain : (p : Program) → ArePlain p (head_lines p)
-head_plain p = (refl, (refl, (refl, plain_both p (role_lines p.range [] p.roles) (with_rule (has_size p) (label_lines [] p.labels ++ buffer_lines)) (roles_plain p p.range [] p.roles)
-  (rule_plain p (has_size p) (label_lines [] p.labels ++ buffer_lines) (plain_both p (label_lines [] p.labels) buffer_lines (labels_plain p [] p.labels) (refl, (refl, (refl, (refl, tt)))))))))
+head_plain p = (
+  refl,
+  (
+    refl,
+    (
+      refl,
+      plain_both p (role_lines p.range [] p.roles) (with_rule (has_size p) (label_lines [] p.labels ++ buffer_lines)) (roles_plain p p.range [] p.roles)
+          (rule_plain p (has_size p) (label_lines [] p.labels ++ buffer_lines) (plain_both p (label_lines [] p.labels) buffer_lines (labels_plain p [] p.labels) (refl, (refl, (refl, (refl, tt)))))),
+    ),
+  ),
+)
 
 numbers_plain : (p : Program) (rs : List Role) (fs : List Sum) → ArePlain p (number_lines rs fs)
 numbers_plain p [] fs = tt

@@ -1,5 +1,5 @@
 -- A text is a kernel file of its own bodies, and with these its tree has that text again.
-use Rattle.std.specs.Prelude.{◌≡◌, ◌⊎◌, ℕ, true, All, List, [], ◌∷◌, None, Some, Result, IfOk, MatchResult, zip}
+use Rattle.std.specs.Prelude.{◌≡◌, ◌⊎◌, ℕ, true, All, List, ◌∷◌, None, Some, Result, IfOk, MatchResult, zip}
 use Rattle.pb_local.specs.Tree.{Program, program_of}
 use Rattle.pb_ctree.specs.declared.body.Bodies.{Bodies}
 use Rattle.pb_ctree.specs.declared.tree.CTree.{CTree}
