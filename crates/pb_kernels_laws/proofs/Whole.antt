@@ -14,7 +14,7 @@ use Rattle.pb_kernels.specs.Format.{IsFile}
 use Rattle.pb_kernels.specs.Merges.{misfit}
 use Rattle.pb_kernels.specs.Outcomes.{Gives}
 use Rattle.pb_kernels.proofs.Formats.{reads_the_format}
-use Rattle.pb_kernels_laws.specs.Laws.{kernels_of, IsMerged, OwnKernels}
+use Rattle.pb_kernels_laws.specs.Laws.{kernels_of, IsMerged, IsTextOfTree, OwnKernels}
 use Rattle.pb_kernels_laws.proofs.Apart.{bodies_distinct}
 use Rattle.pb_kernels_laws.proofs.Found.{FitsItself, fits_itself}
 use Rattle.pb_kernels_laws.proofs.Parted.{spelled_lines}
@@ -74,3 +74,14 @@ own_kernels tree bodies bytes one each spells = record {
   read = λ answer gives. answered (kernels_of tree bodies) answer (subst (λ (wanted : Result (List NamedBody) KernelFault). Gives wanted answer) (text_read tree bodies bytes one each spells) gives);
   merged = λ answer is. merged tree bodies bytes spells answer is;
 }
+
+-- ---- reading and then merging
+
+pub read_own : (tree : CTree) (bytes : List ℕ) (fault : KernelFault) → IsTextOfTree tree bytes → Gives (kernel_file bytes) (Err fault) → fault ≡ NoMemory
+read_own tree bytes fault t gives = (own_kernels tree t.bodies bytes t.prelude t.list t.spells).read (Err fault) gives
+
+pub merged_own : (tree : CTree) (bytes : List ℕ) (file : List NamedBody) (answer : Result Bodies KernelFault) → IsTextOfTree tree bytes → Gives (kernel_file bytes) (Ok file)
+    → IsMerged tree file answer → MatchResult answer (λ again. Spells tree again bytes) (λ fault. fault ≡ NoMemory)
+merged_own tree bytes file answer t gives is =
+    let law = own_kernels tree t.bodies bytes t.prelude t.list t.spells in
+    law.merged answer (subst (λ (f : List NamedBody). IsMerged tree f answer) (law.read (Ok file) gives) is)

@@ -39,3 +39,10 @@ pub record IsOwnKernelFile (tree : CTree) (bodies : Bodies) (bytes : List ℕ) :
 abbrev pub OwnKernels : Type 0
 OwnKernels = (tree : CTree) (bodies : Bodies) (bytes : List ℕ) → is_body bodies.prelude ≡ true → All (λ body. is_body body ≡ true) bodies.list.items → Spells tree bodies bytes
     → IsOwnKernelFile tree bodies bytes
+
+-- the bytes are the text of the tree with some bodies
+pub record IsTextOfTree (tree : CTree) (bytes : List ℕ) : Type 0 where
+  pub bodies : Bodies
+  pub prelude : is_body bodies.prelude ≡ true
+  pub list : All (λ body. is_body body ≡ true) bodies.list.items
+  pub spells : Spells tree bodies bytes
