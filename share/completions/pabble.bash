@@ -4,7 +4,7 @@ _pabble()
     local word=${COMP_WORDS[COMP_CWORD]} before=${COMP_WORDS[COMP_CWORD-1]} command=${COMP_WORDS[1]}
     COMPREPLY=()
     if [ "$COMP_CWORD" = 1 ]; then
-        mapfile -t COMPREPLY < <(compgen -W 'check project gen run sim replay' -- "$word")
+        mapfile -t COMPREPLY < <(compgen -W 'check project gen run sim replay demo' -- "$word")
         return
     fi
     case $before in
@@ -14,6 +14,7 @@ _pabble()
         ;;
     --n | --seed | --turns) return ;;
     esac
+    [ "$command" = demo ] && return
     if [ "${word#-}" != "$word" ]; then
         case $command in
         run | sim) mapfile -t COMPREPLY < <(compgen -W '--n --seed --turns --mode --schedule' -- "$word") ;;

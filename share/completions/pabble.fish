@@ -1,5 +1,5 @@
 # Completion of pabble for fish.
-set -l commands check project gen run sim replay
+set -l commands check project gen run sim replay demo
 complete -c pabble -n "not __fish_seen_subcommand_from $commands" -f
 complete -c pabble -n "not __fish_seen_subcommand_from $commands" -a check -d 'Whether a protocol is accepted'
 complete -c pabble -n "not __fish_seen_subcommand_from $commands" -a project -d 'The endpoint program of a protocol'
@@ -7,6 +7,8 @@ complete -c pabble -n "not __fish_seen_subcommand_from $commands" -a gen -d 'The
 complete -c pabble -n "not __fish_seen_subcommand_from $commands" -a run -d 'Simulate a protocol'
 complete -c pabble -n "not __fish_seen_subcommand_from $commands" -a sim -d 'Simulate a C text'
 complete -c pabble -n "not __fish_seen_subcommand_from $commands" -a replay -d 'Simulate a C text by a schedule'
+complete -c pabble -n "not __fish_seen_subcommand_from $commands" -a demo -d 'Count what a protocol of so many statements does'
+complete -c pabble -n "__fish_seen_subcommand_from demo" -f
 complete -c pabble -n "__fish_seen_subcommand_from run sim replay" -l n -x -d 'The number N'
 complete -c pabble -n "__fish_seen_subcommand_from run sim" -l seed -x -d 'The seed'
 complete -c pabble -n "__fish_seen_subcommand_from run sim" -l turns -x -d 'The most events'

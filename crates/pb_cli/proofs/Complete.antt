@@ -7,7 +7,7 @@ use Rattle.pb_core_language.specs.Plain.{Protocol}
 use Rattle.pb_local.specs.Tree.{Program, program_of}
 use Rattle.pb_local.specs.Ranks.{total}
 use Rattle.pb_ctree.specs.declared.tree.CTree.{CTree}
-use Rattle.pb_cli_words.specs.Request.{Request, check, gen, gen_with, project, sim, replay, run}
+use Rattle.pb_cli_words.specs.Request.{Request, check, gen, gen_with, project, sim, replay, run, demo}
 use Rattle.pb_cli_words.specs.declared.options.Options.{Options}
 use Rattle.pb_cli_words.specs.declared.options.Shown.{Shown}
 use Rattle.pb_cli_words.specs.declared.options.Shown.TheVariants.{Log}
@@ -36,6 +36,7 @@ use Rattle.pb_kernels.specs.declared.file.NamedBody.{NamedBody}
 use Rattle.pb_kernels.specs.Files.{kernel_file}
 use Rattle.pb_cli_file.specs.Files.{IsFileReply, Makes, OrUnread, SaysOf, most_bytes}
 use Rattle.pb_cli_file.specs.Kernels.{HasEach, IsKernelsReply, IsMergeReply, functions_in}
+use Rattle.pb_cli_demo.specs.Demo as D
 use Rattle.pb_cli.specs.Reply.{IsUsage}
 use Rattle.pb_cli.specs.Run.{MayRun, IsRunReply, SaysRun, SaysRunReply}
 use Rattle.pb_cli.specs.Program.{SaysReply}
@@ -332,6 +333,30 @@ module _ (post : ℕ → ℕ → ℕ → ℕ → Type 0) (unread : List ℕ → 
         says_comes u n (post other) (given (map pair_of others)) (length others) Log 0 (starts_here name files n t u few is told.1 starts) (S.Schedule ∷ [])
         (λ k text reply. fifth S.Done S.Stuck S.Turns S.Limit S.Schedule []) result old new says
 
+-- ---- demos
+
+module _ (post : ℕ → ℕ → ℕ → Type 0) (count : ℕ) where
+  demo_not : (status : Status) (text : List ℕ) → D.IsReply post count status text → NotUsage status
+  demo_not S.Usage text reply = absurd reply
+  demo_not other text reply = tt
+
+  abbrev demo_statuses : List Status
+  demo_statuses = S.Done ∷ S.Refused ∷ S.Limit ∷ S.Turns ∷ []
+
+  demo_comes : (status : Status) (text : List ℕ) → D.IsReply post count status text → Comes demo_statuses status
+  demo_comes S.Done text reply = first S.Done (S.Refused ∷ S.Limit ∷ S.Turns ∷ [])
+  demo_comes S.Refused text reply = second S.Done S.Refused (S.Limit ∷ S.Turns ∷ [])
+  demo_comes S.Limit text reply = third S.Done S.Refused S.Limit (S.Turns ∷ [])
+  demo_comes S.Turns text reply = fourth S.Done S.Refused S.Limit S.Turns []
+  demo_comes S.NoMemory text reply = no_memory demo_statuses
+  demo_comes other text reply = absurd reply
+
+  demo_complete : (holds : Option (List File)) (result : Status) (old new : Option (List ℕ)) → D.SaysDemo post count result old new → (result ≢ S.Usage) × Completes (demo count) holds result
+  demo_complete holds result old new (status, text, reply, says) = (
+    said_not status result text old new (demo_not status text reply) says,
+    said demo_statuses status result text old new (demo_comes status text reply) says,
+  )
+
 -- ---- words in no form
 
 usage_comes : (status : Status) (text : List ℕ) → IsUsage status text → Contains (S.Usage ∷ S.NoMemory ∷ S.WriteFault ∷ []) status
@@ -355,3 +380,4 @@ complete post unread (Some (project name)) holds result old new said = file_comp
 complete post unread (Some (sim name options)) holds result old new said = sim_complete post unread name options holds result old new said
 complete post unread (Some (replay name schedule n)) holds result old new said = replay_complete post unread name schedule n result old new holds said
 complete post unread (Some (run name options)) holds result old new said = run_complete post unread name options holds result old new said
+complete post unread (Some (demo count)) holds result old new said = demo_complete (post count) count holds result old new said

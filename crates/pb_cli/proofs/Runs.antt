@@ -1,18 +1,14 @@
 -- From the simulation of a tree that was compiled to what `run` answers.
-use Rattle.std.proofs.Common.{◌≡◌, ℕ, ◌<◌, ◌≤◌, inl, inr, ℤ, pos, List, length, Option, Some, None, sym, subst, append-nil, arith}
+use Rattle.std.proofs.Common.{◌≡◌, ℕ, ◌<◌, ◌≤◌, inl, inr, pos, List, Option, Some, None, sym, subst, append-nil, arith}
 use Rattle.std.proofs.lemmas.Int.{ints}
 use Rattle.pb_io.specs.Files.{File}
 use Rattle.pb_affine.specs.declared.range.NRange.{NRange}
 use Rattle.pb_world.specs.Actions.{Action}
-use Rattle.pb_world.specs.Family.{Family}
-use Rattle.pb_world.specs.Theorem.{AllRanks, IsWhole}
-use Rattle.pb_world.specs.World as W
-use Rattle.pb_world.specs.World.{World, Reached}
+use Rattle.pb_world.specs.Theorem.{AllRanks}
 use Rattle.pb_core_language.specs.Plain.{Protocol}
 use Rattle.pb_core_language.specs.Ranks.{total}
 use Rattle.pb_core_language.specs.Verdict as V
 use Rattle.pb_core_language.specs.Verdict.{IsIn}
-use Rattle.pb_local.specs.Family.{family}
 use Rattle.pb_local.specs.Tree.{program_of}
 use Rattle.pb_local.specs.WellMade as L
 use Rattle.pb_local.specs.WellMade.{IsInRange}
@@ -20,7 +16,6 @@ use Rattle.pb_ctree.specs.declared.tree.CTree.{CTree}
 use Rattle.pb_shape.specs.Theorem.{sequence_of}
 use Rattle.pb_shape_follow.proofs.Starts.{total_same}
 use Rattle.pb_compile.specs.Compiled.{IsCompiled}
-use Rattle.pb_sim_world.specs.States.{program}
 use Rattle.pb_sim_world.specs.Worlds.{world_of}
 use Rattle.pb_cli_words.specs.declared.options.Modes.{Modes}
 use Rattle.pb_cli_words.specs.declared.options.Options.{Options}
@@ -31,30 +26,20 @@ use Rattle.pb_cli_status.specs.declared.refusal.Refusal.TheVariants as refusal
 use Rattle.pb_cli_status.specs.declared.status.Status.{Status}
 use Rattle.pb_cli_status.specs.declared.status.Status.TheVariants as S
 use Rattle.pb_sim.specs.declared.seen.Seen.{Seen}
-use Rattle.pb_sim.specs.declared.standing.Cause.{Cause}
-use Rattle.pb_sim.specs.declared.standing.Standing.TheVariants as T
 use Rattle.pb_sim.specs.Made as D
 use Rattle.pb_sim.specs.Made.{IsNumber, HasStep}
-use Rattle.pb_sim.specs.Scheduled as R
-use Rattle.pb_sim.specs.Scheduled.{Turn, ScheduledRun}
-use Rattle.pb_sim.specs.Standing.{IsGoing}
-use Rattle.pb_sim_play.specs.Plans.{drawn, May}
+use Rattle.pb_sim.specs.Scheduled.{Turn}
+use Rattle.pb_sim_play.specs.Plans.{drawn}
 use Rattle.pb_sim_play.specs.Plays.{IsPlay}
-use Rattle.pb_sim_play.specs.Endings.{Ran, Stands, IsUnready}
+use Rattle.pb_sim_play.specs.Endings.{Ran, IsUnready}
 use Rattle.pb_cli_simulate.specs.Replies as A
 use Rattle.pb_cli_simulate.specs.Replies.{Starts}
 use Rattle.pb_cli_laws.proofs.Draws.{drawn_has_a_step}
+use Rattle.pb_cli_demo.proofs.Runs.{reaches, whole, never_stuck}
 use Rattle.pb_cli_status.specs.Written.{Says}
 use Rattle.pb_cli.specs.Run.{MayRun, ranks_of, Begins, IsRunReply, SaysRunReply, SaysRun}
 use Rattle.pb_cli_file.specs.Files.{IsFileRefusal, IsTreeOf}
 use Rattle.pb_cli_file.proofs.Answered.{fault_is}
-
--- ---- a run under turns is a run
-
-reached : {S : Type 0} (F : Family S) (answered : ℕ → ℕ → ℕ → Type 0) (may : ℕ → World S → Turn → Type 0) {turns : List Turn} {w : List (ℕ × Action)} {X : World S}
-    → ScheduledRun F answered may turns w X → Reached F w X
-reached F answered may R.start = W.start
-reached F answered may (R.event run allowed turned) = W.event (reached F answered may run) turned.step
 
 -- ---- numbers of a range
 
@@ -94,24 +79,8 @@ module _ (bytes : List ℕ) (p : Protocol) (tree : CTree) (n : ℕ) (is : IsComp
 
     module _ (post : ℕ → ℕ → ℕ → Type 0) (seed : ℕ) (modes : Modes) where
       module _ (turns : List Turn) (w : List (ℕ × Action)) (x : Seen) (play : IsPlay tree (pos n) post (drawn seed modes) turns w x) where
-        reaches : Reached (ranks_of p tree n) w (world_of x.state)
-        reaches =
-            subst (λ (t : CTree). Reached (family (program_of t.local) (pos n) (sequence_of p (pos n))) w (world_of x.state)) play.tree_is
-            (subst (λ (m : ℤ). Reached (family (program x.state) m (sequence_of p (pos n))) w (world_of x.state)) play.n_is
-            (reached (family (program x.state) x.state.n (sequence_of p (pos n))) post (May tree (pos n) (drawn seed modes)) (play.run.run (sequence_of p (pos n)))))
-
         begins : Begins p tree n w
-        begins = all_ranks.covered w (world_of x.state) reaches
-
-        -- where nobody has a step, all is done
-        whole : (IsGoing (ranks_of p tree n) (world_of x.state) → ⊥) → IsWhole (ranks_of p tree n) w (world_of x.state)
-        whole still = all_ranks.whole w (world_of x.state) reaches (λ r there can. still (record { rank = r; there = there; can = can }))
-
-        never_stuck : (rank : ℕ) (cause : Cause) → Stands tree (pos n) x (T.Stuck rank cause) → ⊥
-        never_stuck rank cause stands =
-            let it = stands (sequence_of p (pos n)) in
-            let all = whole it.0 in
-            it.1 (record { ended = all.ended; empty = all.empty })
+        begins = all_ranks.covered w (world_of x.state) (reaches p tree n post (drawn seed modes) turns w x play)
 
         -- the rank that is drawn has a step
         never_unready : (t : ℕ) → IsUnready tree (pos n) (drawn seed modes) t x → ⊥
@@ -133,7 +102,7 @@ module _ (bytes : List ℕ) (p : Protocol) (tree : CTree) (n : ℕ) (is : IsComp
     reply : (status : Status) (text : List ℕ) → A.IsReply tree n post (drawn seed modes) most shown seed status text → IsRunReply p tree n post (drawn seed modes) most shown seed status text
     reply S.Done text (starts, (body, ran, same)) =
         let may = may_run starts in
-        (may, (body, carried may post seed modes most _ _ (λ turns w x play q. (whole may post seed modes turns w x play (q.0 (sequence_of p (pos n))).0, q.2)) ran, same))
+        (may, (body, carried may post seed modes most _ _ (λ turns w x play q. (whole p tree n post (drawn seed modes) turns w x play (all_ranks may) (q.0 (sequence_of p (pos n))).0, q.2)) ran, same))
     reply S.Turns text (starts, (body, ran, same)) =
         let may = may_run starts in
         (may, (body, carried may post seed modes most _ _ (λ turns w x play q. (q.0 (sequence_of p (pos n)), q.1, q.3)) ran, same))
@@ -147,7 +116,7 @@ module _ (bytes : List ℕ) (p : Protocol) (tree : CTree) (n : ℕ) (is : IsComp
         let may = may_run starts in
         inr (may, (body, carried may post seed modes most _ _ (λ turns w x play q. q) ran, same))
     reply S.Stuck text (rank, cause, (starts, (body, ran, same))) =
-        absurd (never_stuck (may_run starts) post seed modes ran.turns ran.w ran.x ran.play rank cause ran.is.0)
+        absurd (never_stuck p tree n post (drawn seed modes) ran.turns ran.w ran.x ran.play (all_ranks (may_run starts)) rank cause ran.is.0)
     reply S.Schedule text (t, (starts, (body, ran, same))) =
         absurd (never_unready (may_run starts) post seed modes ran.turns ran.w ran.x ran.play t ran.is.1)
     reply other text is = absurd is

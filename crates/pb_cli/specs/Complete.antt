@@ -5,7 +5,7 @@ use Rattle.pb_text.specs.declared.limits.TheConstants.{MOST_TEXT_BYTES}
 use Rattle.pb_io.specs.Files.{File}
 use Rattle.pb_core_language.specs.Plain.{Protocol}
 use Rattle.pb_ctree.specs.declared.tree.CTree.{CTree}
-use Rattle.pb_cli_words.specs.Request.{Request, check, gen, gen_with, project, sim, replay, run}
+use Rattle.pb_cli_words.specs.Request.{Request, check, gen, gen_with, project, sim, replay, run, demo}
 use Rattle.pb_cli_status.specs.declared.status.Status.{Status}
 use Rattle.pb_cli_status.specs.declared.status.Status.TheVariants as S
 use Rattle.pb_compile.specs.Verdict.{IsAcceptedAs}
@@ -41,13 +41,14 @@ abbrev pub OnKernels : List ℕ → Protocol → Option (List File) → Type 0 �
 OnKernels name p holds P =
     OnFile name holds (λ bytes. (file : List NamedBody) → length bytes ≤ most_bytes → kernel_file bytes ≡ Ok file → HasEach (functions_in p) file → P)
 
--- what comes where the files are such
+-- what comes where the files are such; of `demo`, which names none, nothing else comes
 abbrev pub Completes : Request → Option (List File) → Status → Type 0
 Completes (check name) holds result = OnAccepted name holds (λ p. Comes (S.Done ∷ []) result)
 Completes (gen name) holds result = OnAccepted name holds (λ p. Comes (S.Done ∷ []) result)
 Completes (gen_with name kernels) holds result = OnAccepted name holds (λ p. OnKernels kernels p holds (Comes (S.Done ∷ []) result))
 Completes (project name) holds result = OnAccepted name holds (λ p. Comes (S.Done ∷ []) result)
 Completes (run name options) holds result = OnAccepted name holds (λ p. MayRun p options.n → Comes (S.Done ∷ S.Turns ∷ S.Limit ∷ []) result)
+Completes (demo count) holds result = Comes (S.Done ∷ S.Refused ∷ S.Limit ∷ S.Turns ∷ []) result
 Completes (sim name options) holds result = OnText name options.n holds (Comes (S.Done ∷ S.Stuck ∷ S.Turns ∷ S.Limit ∷ []) result)
 Completes (replay name schedule n) holds result =
     OnText name n holds (OnSchedule schedule holds (Comes (S.Done ∷ S.Stuck ∷ S.Turns ∷ S.Limit ∷ S.Schedule ∷ []) result))

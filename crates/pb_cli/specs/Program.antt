@@ -1,9 +1,10 @@
 -- What the program answers to the words after its name.
 use Rattle.std.specs.Prelude.{ℕ, Bool, List, Option, Some, None}
 use Rattle.pb_io.specs.Files.{File, IsSureOf}
-use Rattle.pb_cli_words.specs.Request.{Request, check, gen, gen_with, project, sim, replay, run}
+use Rattle.pb_cli_words.specs.Request.{Request, check, gen, gen_with, project, sim, replay, run, demo}
 use Rattle.pb_cli_simulate.specs.Commands.{SaysSim, SaysReplay}
 use Rattle.pb_cli_status.specs.declared.status.Status.{Status}
+use Rattle.pb_cli_demo.specs.Demo.{SaysDemo}
 use Rattle.pb_cli_file.specs.declared.answer.Wanted.TheVariants as W
 use Rattle.pb_cli_file.specs.Files.{IsAcceptedFile, IsFileReply, Makes, OrUnread, SaysOf}
 use Rattle.pb_cli_file.specs.Kernels.{IsMergeReply}
@@ -22,6 +23,7 @@ SaysReply post unread (Some (project name)) holds result old new = SaysOf (OrUnr
 SaysReply post unread (Some (sim name options)) holds result old new = SaysSim post unread name options holds result old new
 SaysReply post unread (Some (replay name schedule n)) holds result old new = SaysReplay post unread name schedule n holds result old new
 SaysReply post unread (Some (run name options)) holds result old new = SaysRun post unread name options holds result old new
+SaysReply post unread (Some (demo count)) holds result old new = SaysDemo (post count) count result old new
 
 -- What is so where a file can't be read. A kernel file is read only where the protocol file is accepted: so where a steady folder
 -- holds the protocol file, it is
@@ -34,3 +36,4 @@ ReadsOn (Some (project name)) steady holds = Unit {0}
 ReadsOn (Some (sim name options)) steady holds = Unit {0}
 ReadsOn (Some (replay name schedule n)) steady holds = Unit {0}
 ReadsOn (Some (run name options)) steady holds = Unit {0}
+ReadsOn (Some (demo count)) steady holds = Unit {0}

@@ -1,7 +1,7 @@
 -- What the words may name, and what words in no form are answered.
 use Rattle.std.specs.Prelude.{◌≡◌, ℕ, Bool, List, Option, Some, None}
 use Rattle.pb_io.specs.Files.{File, IsSureOf}
-use Rattle.pb_cli_words.specs.Request.{Request, check, gen, gen_with, project, sim, replay, run}
+use Rattle.pb_cli_words.specs.Request.{Request, check, gen, gen_with, project, sim, replay, run, demo}
 use Rattle.pb_cli_status.specs.Lines.{line_of}
 use Rattle.pb_cli_status.specs.declared.refusal.Refusal.TheVariants as refusal
 use Rattle.pb_cli_status.specs.declared.status.Status.{Status}
@@ -23,3 +23,4 @@ IsSureOfForm (Some (project name)) steady holds = IsSureOf steady holds name
 IsSureOfForm (Some (sim name options)) steady holds = IsSureOf steady holds name
 IsSureOfForm (Some (replay name schedule n)) steady holds = IsSureOf steady holds name × IsSureOf steady holds schedule
 IsSureOfForm (Some (run name options)) steady holds = IsSureOf steady holds name
+IsSureOfForm (Some (demo count)) steady holds = Unit {0}

@@ -8,6 +8,7 @@ ghost use Rattle.pb_cli.specs.Program.{ReadsOn, SaysReply};
 ghost use Rattle.pb_cli.specs.Reply.{IsSureOfForm};
 
 use crate::running::run;
+use pb_cli_demo::demo;
 use pb_cli_file::{Wanted, tell, tell_merged};
 use pb_cli_simulate::{replay, sim};
 use pb_cli_status::{Refusal, Status, refuse};
@@ -49,13 +50,18 @@ use std::alloc::Global;
 /// its ranks do is, up to swaps of actions of different ranks, a prefix of the protocol's sequential run under the answers that
 /// were given, and where it answers `Done` it is a whole such run.
 ///
+/// `demo K` makes a protocol of K statements, and goes on with its printed bytes as `run` does with a file's, for N = 8, the seed
+/// K, eager events and at most 1,000,000 of them. It writes how many actions of each kind were done, and the words of all sends
+/// and entries, where the run has come to its end, and else the line of the status alone. It never answers `Stuck` or `OutOfRange`.
+///
 /// `Usage` comes only where the words are in no form. `ReadFault` comes only where the folder's count of faults rose in this
 /// call, and never where a steady folder holds the files; `WriteFault` only where the sink's did, and then some first bytes of
 /// what belongs there were written. Want of memory, `NoMemory`, may come in place of each of the others.
 ///
 /// Where the words are in a form, the files keep the rules and the limits, and N is one of the range with at most 1,024 ranks,
 /// it answers `Done`, or want of memory, or a fault that rose; or, of a simulation, `Stuck`, `Turns` or `Limit`, and of a
-/// schedule `Schedule`.
+/// schedule `Schedule`. `demo`, which names no file, answers `Done`, `Refused`, `Limit` or `Turns`, or want of memory, or a write
+/// that failed.
 ///
 /// `answers` gives word number `count` of a rank, from 0, by a seed, the rank and that number.
 ///
@@ -129,5 +135,6 @@ fn perform<F: Folder, O: Sink, A: Fn(u64, u32, u64) -> u32 + Drop>(
             replay(alloc, text, schedule, n, answers, folder, out)
         }
         Command::Run(file, options) => run(alloc, file, options, answers, folder, out),
+        Command::Demo(count) => demo(alloc, count, answers, out),
     }
 }

@@ -13,6 +13,8 @@ ghost use Rattle.pb_cli.specs.Words.{word};
 
 mod call;
 #[cfg(test)]
+mod demo_tests;
+#[cfg(test)]
 mod kernel_tests;
 mod running;
 #[cfg(test)]

@@ -534,7 +534,7 @@ fn faults_and_limits_at_their_places(rt: HostRuntime) -> Result<(), Fail> {
 
 #[test]
 fn words_in_no_form(rt: HostRuntime) -> Result<(), Fail> {
-    let forms: [&[&str]; 16] = [
+    let forms: [&[&str]; 21] = [
         &[],
         &["gen"],
         &["gen", "-p"],
@@ -550,7 +550,12 @@ fn words_in_no_form(rt: HostRuntime) -> Result<(), Fail> {
         &["sim", "p"],
         &["replay", "p", "q"],
         &["run", "p"],
+        &["demo"],
         &["demo", "0"],
+        &["demo", "4001"],
+        &["demo", "4", "5"],
+        &["demo", "--n", "2", "4"],
+        &["demo", "p"],
     ];
     for form in forms {
         let words = strings(rt.alloc(), form)?;

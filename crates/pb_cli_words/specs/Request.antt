@@ -24,6 +24,7 @@ pub data Request : Type 0 where
   sim : (text : List ℕ) (options : Options) → Request  -- a simulation of a C text
   replay : (text schedule : List ℕ) (n : ℕ) → Request  -- and one by a schedule
   run : (file : List ℕ) (options : Options) → Request  -- a simulation of a protocol
+  demo : (count : ℕ) → Request  -- a simulation of a protocol of so many statements that the program makes itself
 
 -- ---- the values of options
 
@@ -142,6 +143,10 @@ run_in files options = one_file files >>= λ file. options_in options >>= λ o. 
 abbrev pub replay_in : List (List ℕ) → List Given → Option Request
 replay_in files options = two_files files >>= λ both. only_n options >>= λ n. Some (replay both.0 both.1 n)
 
+-- `demo` takes a number of statements from 1 to 4,000 in the place of a file
+abbrev pub demo_in : List (List ℕ) → List Given → Option Request
+demo_in files options = plain_file files options >>= λ word. number_in 1 4000 word >>= λ count. Some (demo count)
+
 -- a command by its name, with its files and options
 abbrev pub asked : List ℕ → List (List ℕ) → List Given → Option Request
 asked command files options =
@@ -151,6 +156,7 @@ asked command files options =
     else if pointwise nat_eq command (codes "sim") then sim_in files options
     else if pointwise nat_eq command (codes "replay") then replay_in files options
     else if pointwise nat_eq command (codes "run") then run_in files options
+    else if pointwise nat_eq command (codes "demo") then demo_in files options
     else None
 
 -- the first word is the command, and the others are its files
@@ -175,6 +181,7 @@ request_of (C.Project file) = project file.now
 request_of (C.Sim text options) = sim text.now options
 request_of (C.Replay text schedule n) = replay text.now schedule.now n
 request_of (C.Run file options) = run file.now options
+request_of (C.Demo count) = demo count
 
 abbrev pub request_if : Option Command → Option Request
 request_if None = None
@@ -193,3 +200,4 @@ AsksForFew (C.Project file) = Unit {0}
 AsksForFew (C.Sim text options) = HasFewTurns options
 AsksForFew (C.Replay text schedule n) = Unit {0}
 AsksForFew (C.Run file options) = HasFewTurns options
+AsksForFew (C.Demo count) = Unit {0}

@@ -2,12 +2,13 @@
 
 ghost use Rattle.std.specs.Prelude.{◌≡◌, Bool, Some, map, IfOk, IfSome, option_copied, option_map};
 ghost use Rattle.std.specs.String.{string_bytes};
-ghost use Rattle.pb_cli_words.specs.Request.{AsksForFew, asked, gen_in, gen_of, one_file, plain_file, replay_in, request, request_if, run_in, sim_in, two_files};
+ghost use Rattle.pb_cli_words.specs.Request.{AsksForFew, asked, demo_in, gen_in, gen_of, one_file, plain_file, replay_in, request, request_if, run_in, sim_in, two_files};
 ghost use Rattle.clap.specs.Words.{found_of, rows_of};
 ghost use Rattle.pb_cli_words.specs.Reader.{IsFlag, asked_by, asked_for};
 ghost use Rattle.pb_cli_words.specs.Shown.{options_of};
 
 use crate::given::Given;
+use crate::number::number_in;
 use crate::options::{Options, only_n, options_in};
 use crate::reader::{matches_in, words_behind};
 use clap::ArgMatches;
@@ -32,7 +33,12 @@ pub enum Command<'a> {
     Replay(&'a str, &'a str, u32),
     /// `run FILE` with options: a simulation of the protocol in FILE.
     Run(&'a str, Options),
+    /// `demo K`: a simulation of a protocol of K statements, from 1 to 4,000, that the program makes itself.
+    Demo(u32),
 }
+
+/// The most statements of a demo.
+const MOST_STATEMENTS: u64 = 4_000;
 
 fn one_file<'a>(files: &[&'a str]) -> Option<&'a str>
     ensures { option_copied result ≡ one_file (map (λ f. f.now) files.now) }
@@ -113,6 +119,16 @@ fn replay_in<'a>(files: &[&'a str], given: &Given) -> Option<Command<'a>>
     Some(Command::Replay(text, schedule, n))
 }
 
+/// `demo` with a number of statements in the place of a file.
+fn demo_in<'a>(files: &[&'a str], given: &Given) -> Option<Command<'a>>
+    ensures asked { request_if result ≡ demo_in (map (λ f. f.now) files.now) (options_of given.now) }
+    ensures few { IfSome result AsksForFew }
+{
+    let word = plain_file(files, given)?;
+    let count = number_in(word.as_bytes(), 1, MOST_STATEMENTS)?;
+    Some(Command::Demo(count as u32))
+}
+
 /// The command of this name.
 fn asked<'a>(command: &str, files: &[&'a str], given: &Given) -> Option<Command<'a>>
     ensures asked { request_if result ≡ asked command.now (map (λ f. f.now) files.now) (options_of given.now) }
@@ -130,6 +146,8 @@ fn asked<'a>(command: &str, files: &[&'a str], given: &Given) -> Option<Command<
         replay_in(files, given)
     } else if command == "run" {
         run_in(files, given)
+    } else if command == "demo" {
+        demo_in(files, given)
     } else {
         None
     }

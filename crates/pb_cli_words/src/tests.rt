@@ -70,6 +70,15 @@ fn letters(alloc: Global, line: &str) -> Result<Vec<u8>, AllocError> {
             }
             out.extend_from_slice(file.as_bytes())?;
         }
+        Ok(Some(Command::Demo(count))) => {
+            out.push(b'd')?;
+            if count == 4 {
+                out.push(b'4')?;
+            }
+            if count == 4_000 {
+                out.push(b'M')?;
+            }
+        }
     }
     Ok(out)
 }
@@ -98,6 +107,10 @@ fn reads_commands(rt: HostRuntime) -> Result<(), Fail> {
         ("run p --n 2000000000 --seed 18446744073709551615", "uNp"),
         ("run p --n=2", "up"),
         ("run --n 2 p", "up"),
+        ("demo 4", "d4"),
+        ("demo 04", "d4"),
+        ("demo -- 4", "d4"),
+        ("demo 4000", "dM"),
     ] {
         let got = letters(rt.alloc(), line)?;
         assert_eq!(rt; got.as_slice(), asked.as_bytes());
@@ -149,7 +162,16 @@ fn refuses_words_in_no_form(rt: HostRuntime) -> Result<(), Fail> {
         "replay t s --seed 7",
         "run p",
         "run p --n 2 --n 3",
-        "demo 4",
+        "demo",
+        "demo 0",
+        "demo 4001",
+        "demo 4 5",
+        "demo -- 4 5",
+        "demo p",
+        "demo -4",
+        "demo --n 2 4",
+        "demo 4 --schedule",
+        "-- demo 4",
     ] {
         let got = letters(rt.alloc(), line)?;
         assert_eq!(rt; got.as_slice(), b"-".as_slice());

@@ -11,3 +11,6 @@ returns-in-Replay-clause-reply g c = rw c.in-Replay.is c.replay.ensures.reply
 
 pub returns-in-Run-clause-reply : goal.returns-in-Run-clause-reply
 returns-in-Run-clause-reply g c = rw c.in-Run.is c.run.ensures.reply
+
+pub returns-in-Demo-clause-reply : goal.returns-in-Demo-clause-reply
+returns-in-Demo-clause-reply g c = rw c.in-Demo.is c.demo.ensures.reply
