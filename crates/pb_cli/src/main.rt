@@ -20,7 +20,7 @@ mod tests;
 
 use call::pabble;
 use pb_cli_status::{Refusal, Status, refuse};
-use pb_explain::explain;
+use pb_explain::{RegularFolder, explain};
 use pb_io::{Folder, HostFolder, HostSink, Sink};
 use pb_text::NoMemory;
 use rand_core::utils::NextWord;
@@ -65,7 +65,7 @@ fn respond<F: Folder, O: Sink>(
 /// Tells a person on standard error why a call with these words ended so.
 fn tell(rt: &HostRuntime, words: Result<Vec<String>, NoMemory>, status: Status) {
     if let Ok(all) = words {
-        let mut folder = HostFolder::new(rt);
+        let mut folder = RegularFolder::new(rt);
         let mut err = HostSink::new(rt.stderr());
         explain(
             rt.alloc(),
