@@ -8,10 +8,8 @@
 mod again;
 mod entry;
 mod files;
-mod heard;
 mod kernels;
 mod protocol;
-mod regular;
 mod running;
 mod schedule;
 mod seats;
@@ -23,5 +21,5 @@ mod verdict;
 
 pub use entry::explain;
 pub use pb_cli_status::Status;
+pub use pb_explain_again::RegularFolder;
 pub use pb_io::{Folder, Sink};
-pub use regular::RegularFolder;

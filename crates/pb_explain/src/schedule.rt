@@ -2,7 +2,6 @@
 
 use crate::again::{Again, read_again, tell_once};
 use crate::files::tell_long;
-use crate::heard::{Heard, number_in};
 use crate::running::{tell_many_in, tell_values_in, value};
 use crate::seats::seats_of;
 use crate::stuck::tell_standstill;
@@ -10,6 +9,7 @@ use crate::text::tell_no_text;
 use pb_cli_simulate::{Schedule, read_text, read_turns, replay};
 use pb_cli_status::{Quantity, Refusal, Status};
 use pb_ctree::CTree;
+use pb_explain_again::{Heard, number_in};
 use pb_explain_runs::{tell_events, tell_no_step, tell_schedule_line};
 use pb_explain_source::{NoMemory, Page, Source};
 use pb_explain_syntax::tell_limit;

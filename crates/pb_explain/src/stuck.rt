@@ -1,7 +1,7 @@
 //! Simulations of a text that are played once more, to hear what each rank did last.
 
-use crate::heard::Heard;
 use crate::seats::{Seat, seat_of};
+use pb_explain_again::Heard;
 use pb_explain_runs::{Deed, tell_stuck};
 use pb_explain_source::{NoMemory, Page};
 use std::alloc::Global;

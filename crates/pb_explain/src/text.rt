@@ -2,7 +2,6 @@
 
 use crate::again::{Again, read_again, tell_once};
 use crate::files::tell_long;
-use crate::heard::Heard;
 use crate::running::{tell_many_in, tell_values_in};
 use crate::seats::seats_of;
 use crate::stuck::tell_standstill;
@@ -10,6 +9,7 @@ use pb_cli_simulate::{read_text, sim};
 use pb_cli_status::{Refusal, Status};
 use pb_cli_words::{Options, Shown};
 use pb_ctree::CTree;
+use pb_explain_again::Heard;
 use pb_explain_runs::{tell_text_line, tell_turns};
 use pb_explain_source::{NoMemory, Page, Source};
 use pb_explain_syntax::tell_limit;
