@@ -36,19 +36,12 @@ pub fn read_again<F: Folder>(
 pub fn tell_once(page: &mut Page, file: &str) -> Result<(), NoMemory> {
     page.say(&[
         Part::Text(file),
-        Part::Text(
-            ": it can't be read a second time, as a pipe can't, so no more is told of it\n",
-        ),
+        Part::Text(": it can't be read a second time, as a pipe can't, so no more is told of it\n"),
     ])
 }
 
 /// Writes that a file can't be read.
 pub fn tell_unread(page: &mut Page, file: &str) -> Result<(), NoMemory> {
-    page.say(&[
-        Part::Text(file),
-        Part::Text(": this file can't be read\n"),
-    ])?;
-    page.help(&[Part::Text(
-        "is it there, under this name, as a file that may be read?",
-    )])
+    page.say(&[Part::Text(file), Part::Text(": this file can't be read\n")])?;
+    page.help(&[Part::Text("is it there, under this name, as a file that may be read?")])
 }

@@ -80,11 +80,7 @@ pub fn tell_files<F: Folder, A: Fn(u64, u32, u64) -> u32 + Drop>(
 }
 
 /// Whether a file can be read.
-fn is_read<F: Folder>(
-    alloc: Global,
-    folder: &mut F,
-    file: &str,
-) -> Result<bool, NoMemory> {
+fn is_read<F: Folder>(alloc: Global, folder: &mut F, file: &str) -> Result<bool, NoMemory> {
     match read_again(alloc, folder, file, MOST_TEXT_BYTES)? {
         Again::Bytes(_) | Again::TooLong => Ok(true),
         Again::Unread => Ok(false),

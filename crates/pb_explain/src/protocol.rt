@@ -27,12 +27,7 @@ pub fn warn(alloc: Global, page: &mut Page, source: &Source) -> Result<(), NoMem
 }
 
 /// Explains a limit: one of the protocol, or else one of its simulation.
-fn tell_limits(
-    alloc: Global,
-    page: &mut Page,
-    source: &Source,
-    ask: Ask,
-) -> Result<(), NoMemory> {
+fn tell_limits(alloc: Global, page: &mut Page, source: &Source, ask: Ask) -> Result<(), NoMemory> {
     if tell_refused(alloc, page, source, Status::Limit)? {
         return Ok(());
     }

@@ -135,6 +135,14 @@ help: is it there, under this name, as a file that may be read?
         b"q: it can't be read a second time, as a pipe can't, so no more is told of it\n",
     )?;
     assert!(rt; once);
-    assert!(rt; says(&rt, &["check", "--version"], b"", Status::Usage, b"pabble 1\n")?);
+    assert!(rt;
+        says(
+            &rt,
+            &["check", "--version"],
+            b"",
+            Status::Usage,
+            b"pabble 1\n"
+        )?
+    );
     Ok(())
 }

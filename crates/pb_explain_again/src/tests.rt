@@ -6,7 +6,10 @@ use std::test::Fail;
 #[test]
 fn hears_the_last_lines(rt: HostRuntime) -> Result<(), Fail> {
     let mut heard = Heard::new(rt.alloc());
-    write_all(&mut heard, b"0 send 1 A\n1 recv 0 A\n0 send 2 B\npabble: stuck, rank 1 ")?;
+    write_all(
+        &mut heard,
+        b"0 send 1 A\n1 recv 0 A\n0 send 2 B\npabble: stuck, rank 1 ",
+    )?;
     write_all(&mut heard, b"waits in a collective\n")?;
     assert!(rt; heard.deed(0) == b"send 2 B".as_slice());
     assert!(rt; heard.deed(1) == b"recv 0 A".as_slice());

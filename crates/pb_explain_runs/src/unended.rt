@@ -43,7 +43,9 @@ pub fn tell_flight(page: &mut Page, file: &str) -> Result<(), NoMemory> {
         Part::Text(file),
         Part::Text(": with the next send more than 16777216 words would be under way\n"),
     ])?;
-    page.help(&[Part::Text("with `--mode waiting` each send waits until it is taken; or take a smaller N")])
+    page.help(&[Part::Text(
+        "with `--mode waiting` each send waits until it is taken; or take a smaller N",
+    )])
 }
 
 /// What a rank did last.
