@@ -7,8 +7,8 @@ name, as a shell parts them, with `\\xHH` for a byte; `status`; and, where it is
 more files. The sections are the files of the call, and at the end `said`, what is said on standard error. A line
 `@repeat COUNT LINE` of a file stands for so many lines; in each `<<EXPRESSION>>` is computed with its number k, from 1.
 
-Besides, `check` is silent there on every protocol in `examples`, and `check`, `gen` and `project` write and answer the same with
-standard error closed.
+Rows named `draft` are protocols as one first writes them, each with what led to the next one. Besides, `check` is silent there on
+every protocol in `examples`, and `check`, `gen` and `project` write and answer the same of each draft with standard error closed.
 """
 import os
 import re
@@ -78,8 +78,6 @@ def silent(program, path):
 def closed(program, path):
     """Whether something else is written or answered of a row's protocol where standard error is closed."""
     _, sections = read(path)
-    if "p.pbl" not in sections:
-        return None
     with tempfile.TemporaryDirectory() as room:
         Path(room, "p.pbl").write_text("".join(line + "\n" for line in expanded(sections["p.pbl"].splitlines())))
         for command in ("check", "gen", "project"):
@@ -95,7 +93,7 @@ def main(words):
                               subprocess.check_output([TOP / "scripts/program.sh"], text=True).strip())
     rows = sorted(FOLDER.glob("*.txt"))
     examples = sorted([*TOP.glob("examples/*.pbl"), *TOP.glob("examples/*/*.pbl")])
-    tasks = [(row, it) for it in rows] + [(silent, it) for it in examples] + [(closed, it) for it in rows]
+    tasks = [(row, it) for it in rows] + [(silent, it) for it in examples] + [(closed, it) for it in rows if it.name.startswith("draft")]
     with ThreadPoolExecutor(PROCESSES) as pool:
         found = list(pool.map(lambda task: task[0](program, task[1]), tasks))
     wrong = [it for it in found if it]
