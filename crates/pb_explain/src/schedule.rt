@@ -94,7 +94,7 @@ fn tell_played<F: Folder, A: Fn(u64, u32, u64) -> u32 + Drop>(
     );
     if status == Status::Stuck {
         let seats = seats_of(alloc, tree, n)?;
-        return tell_standstill(alloc, page, asked.text, &heard, seats.as_slice());
+        return tell_standstill(page, asked.text, &heard, seats.as_slice());
     }
     tell_refused_event(page, source, tree, schedule, &heard, n)
 }

@@ -2,16 +2,22 @@
 
 use crate::seats::{Seat, seat_of};
 use pb_explain_again::Heard;
-use pb_explain_runs::{Deed, tell_stuck};
+use pb_explain_runs::{help_stuck, note_deed, tell_stuck};
 use pb_explain_source::{NoMemory, Page};
-use std::alloc::Global;
 
 /// Of how many ranks it is told what they did.
 const MOST_SHOWN: u32 = 16;
 
+/// Writes what a rank did last, where there is one with this number.
+fn tell_deed(page: &mut Page, heard: &Heard, seats: &[Seat], rank: u32) -> Result<(), NoMemory> {
+    match seat_of(seats, i64::from(rank)) {
+        Some((role, index)) => note_deed(page, rank, &role, index, heard.deed(rank as usize)),
+        None => Ok(()),
+    }
+}
+
 /// Writes that nobody can go on, and what the first ranks did last.
 pub fn tell_standstill(
-    alloc: Global,
     page: &mut Page,
     file: &str,
     heard: &Heard,
@@ -20,16 +26,9 @@ pub fn tell_standstill(
     let Some(told) = heard.told().strip_prefix(b"stuck, rank ") else {
         return Ok(());
     };
-    let mut deeds = Vec::new(alloc);
+    tell_stuck(page, file, told)?;
     for rank in 0..MOST_SHOWN {
-        if let Some((role, index)) = seat_of(seats, i64::from(rank)) {
-            deeds.push(Deed {
-                rank,
-                role,
-                index,
-                words: heard.deed(rank as usize),
-            })?;
-        }
+        tell_deed(page, heard, seats, rank)?;
     }
-    tell_stuck(page, file, told, deeds.as_slice())
+    help_stuck(page)
 }

@@ -56,7 +56,7 @@ fn tell_again<F: Folder, A: Fn(u64, u32, u64) -> u32 + Drop>(
     };
     let _status = sim(alloc, file, shown, answers, folder, &mut heard);
     let seats = seats_of(alloc, tree, i64::from(options.n))?;
-    tell_standstill(alloc, page, file, &heard, seats.as_slice())
+    tell_standstill(page, file, &heard, seats.as_slice())
 }
 
 /// Explains what a simulation of a tree came to.

@@ -1,6 +1,6 @@
 //! Why a protocol isn't accepted.
 
-ghost use Rattle.std.specs.Prelude.{◌≡◌, IfSome};
+ghost use Rattle.std.specs.Prelude.{IfErr};
 ghost use Rattle.pb_compile.specs.Verdict.{IsVerdict};
 
 use pb_cli_status::{Quantity, Status};
@@ -17,17 +17,15 @@ use pb_syntax::FileTree;
 use pb_text::{MOST_TEXT_BYTES, Name, Place, Token};
 use std::alloc::Global;
 
-/// The compiler's verdict on bytes that it doesn't accept.
-pub fn verdict_on(alloc: Global, bytes: &[u8]) -> Option<Verdict>
-    ensures { IfSome result (IsVerdict bytes.now) }
+/// Whether the compiler accepts the bytes, and else its verdict on them.
+pub fn verdict_on(alloc: Global, bytes: &[u8]) -> Result<(), Verdict>
+    ensures { IfErr result (IsVerdict bytes.now) }
 {
     if bytes.len() > MOST_TEXT_BYTES as usize {
-        return None;
+        return Ok(());
     }
-    match accept(alloc, bytes) {
-        Ok(_) => None,
-        Err(verdict) => Some(verdict),
-    }
+    let _core = accept(alloc, bytes)?;
+    Ok(())
 }
 
 /// The tree of a protocol file, where it has one.
@@ -160,6 +158,27 @@ fn tell_verdict(
     }
 }
 
+/// The status with which the program ends for a verdict.
+fn status_of(verdict: Verdict) -> Status {
+    let refusal = refusal_of(verdict);
+    refusal.status()
+}
+
+/// Writes what a verdict means, where the program ends with this status for it.
+fn tell_due(
+    alloc: Global,
+    page: &mut Page,
+    source: &Source,
+    status: Status,
+    verdict: Verdict,
+) -> Result<(), NoMemory> {
+    if status_of(verdict) == status {
+        tell_verdict(alloc, page, source, verdict)
+    } else {
+        Ok(())
+    }
+}
+
 /// Writes why a protocol isn't accepted, where the program ends with this status for it. Tells whether it isn't.
 pub fn tell_refused(
     alloc: Global,
@@ -167,11 +186,11 @@ pub fn tell_refused(
     source: &Source,
     status: Status,
 ) -> Result<bool, NoMemory> {
-    let Some(verdict) = verdict_on(alloc, source.bytes) else {
-        return Ok(false);
-    };
-    if refusal_of(verdict).status() == status {
-        tell_verdict(alloc, page, source, verdict)?;
+    match verdict_on(alloc, source.bytes) {
+        Ok(()) => Ok(false),
+        Err(verdict) => {
+            tell_due(alloc, page, source, status, verdict)?;
+            Ok(true)
+        }
     }
-    Ok(true)
 }

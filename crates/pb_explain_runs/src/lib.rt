@@ -15,4 +15,4 @@ pub use outside::{Values, tell_outside, tell_outside_text};
 pub use pb_explain_source::{NoMemory, Page, Place, Source};
 pub use schedules::{tell_no_step, tell_schedule_line};
 pub use sections::tell_text_line;
-pub use unended::{Deed, tell_events, tell_flight, tell_stuck, tell_turns};
+pub use unended::{help_stuck, note_deed, tell_events, tell_flight, tell_stuck, tell_turns};

@@ -48,32 +48,6 @@ pub fn tell_flight(page: &mut Page, file: &str) -> Result<(), NoMemory> {
     )])
 }
 
-/// What a rank did last.
-#[derive(Clone, Copy)]
-pub struct Deed<'a> {
-    /// Its number.
-    pub rank: u32,
-    pub role: Name,
-    pub index: i64,
-    /// As a log has it, without the rank; none where it did nothing.
-    pub words: &'a [u8],
-}
-
-fn say_deed(page: &mut Page, deed: &Deed) -> Result<(), NoMemory> {
-    page.say(&[
-        Part::Text("  rank "),
-        Part::Number(i64::from(deed.rank)),
-        Part::Text(", `"),
-        Part::Rank(&deed.role, deed.index),
-        Part::Text("`: "),
-    ])?;
-    if deed.words.is_empty() {
-        page.say(&[Part::Text("nothing\n")])
-    } else {
-        page.say(&[Part::Bytes(deed.words), Part::Text("\n")])
-    }
-}
-
 /// Appends what the rank waits for, as the status line tells it.
 fn say_told<'x>(page: &mut Page, file: &'x str, told: &'x [u8]) -> Result<(), NoMemory> {
     page.say(&[
@@ -83,19 +57,37 @@ fn say_told<'x>(page: &mut Page, file: &'x str, told: &'x [u8]) -> Result<(), No
     page.say(&[Part::Bytes(told), Part::Text("\n")])
 }
 
-/// Writes that nobody can go on in a simulation of a text: `told` is the rank that is told with what it waits for, and these are
-/// the last deeds of ranks.
-pub fn tell_stuck(
-    page: &mut Page,
-    file: &str,
-    told: &[u8],
-    deeds: &[Deed],
-) -> Result<(), NoMemory> {
+/// Writes that nobody can go on in a simulation of a text: `told` is the rank that is told with what it waits for. What the
+/// ranks did last follows, by `note_deed`, and then `help_stuck`.
+pub fn tell_stuck(page: &mut Page, file: &str, told: &[u8]) -> Result<(), NoMemory> {
     say_told(page, file, told)?;
-    page.say(&[Part::Text("note: the last that each rank did\n")])?;
-    for deed in deeds {
-        say_deed(page, deed)?;
+    page.say(&[Part::Text("note: the last that each rank did\n")])
+}
+
+/// Writes what the rank with this number did last, as a log has it, without the rank; no words where it did nothing.
+pub fn note_deed(
+    page: &mut Page,
+    rank: u32,
+    role: &Name,
+    index: i64,
+    words: &[u8],
+) -> Result<(), NoMemory> {
+    page.say(&[
+        Part::Text("  rank "),
+        Part::Number(i64::from(rank)),
+        Part::Text(", `"),
+        Part::Rank(role, index),
+        Part::Text("`: "),
+    ])?;
+    if words.is_empty() {
+        page.say(&[Part::Text("nothing\n")])
+    } else {
+        page.say(&[Part::Bytes(words), Part::Text("\n")])
     }
+}
+
+/// Writes what helps where nobody can go on.
+pub fn help_stuck(page: &mut Page) -> Result<(), NoMemory> {
     page.help(&[Part::Text(
         "a text as `gen` prints it never comes to this; it was edited outside of its markers: print it anew by `pabble gen FILE`",
     )])
