@@ -136,13 +136,13 @@ fn tell_verdict(
     alloc: Global,
     page: &mut Page,
     source: &Source,
-    verdict: Verdict,
+    verdict: &Verdict,
 ) -> Result<(), NoMemory> {
     match verdict {
-        Verdict::Lex(error) => tell_lexical(page, source, error),
-        Verdict::Unexpected(place) => tell_unexpected(alloc, page, source, place),
-        Verdict::TooDeep(place) => tell_limit(page, source, Quantity::Nesting, Some(place)),
-        Verdict::TooMany(quantity, place) => tell_limit(page, source, quantity, Some(place)),
+        Verdict::Lex(error) => tell_lexical(page, source, *error),
+        Verdict::Unexpected(place) => tell_unexpected(alloc, page, source, *place),
+        Verdict::TooDeep(place) => tell_limit(page, source, Quantity::Nesting, Some(*place)),
+        Verdict::TooMany(quantity, place) => tell_limit(page, source, *quantity, Some(*place)),
         Verdict::Broken {
             rule,
             place,
@@ -150,8 +150,13 @@ fn tell_verdict(
             role,
             index,
         } => {
-            let at = rank_of(role, index);
-            tell_broken(alloc, page, source, Breach { rule, place, n, at })
+            let breach = Breach {
+                rule: *rule,
+                place: *place,
+                n: *n,
+                at: rank_of(*role, *index),
+            };
+            tell_broken(alloc, page, source, breach)
         }
         Verdict::TooManyCases => tell_limit(page, source, Quantity::Breakpoints, None),
         Verdict::NoMemory => Err(NoMemory),
@@ -159,8 +164,8 @@ fn tell_verdict(
 }
 
 /// The status with which the program ends for a verdict.
-fn status_of(verdict: Verdict) -> Status {
-    let refusal = refusal_of(verdict);
+fn status_of(verdict: &Verdict) -> Status {
+    let refusal = refusal_of(*verdict);
     refusal.status()
 }
 
@@ -170,7 +175,7 @@ fn tell_due(
     page: &mut Page,
     source: &Source,
     status: Status,
-    verdict: Verdict,
+    verdict: &Verdict,
 ) -> Result<(), NoMemory> {
     if status_of(verdict) == status {
         tell_verdict(alloc, page, source, verdict)
@@ -189,7 +194,7 @@ pub fn tell_refused(
     match verdict_on(alloc, source.bytes) {
         Ok(()) => Ok(false),
         Err(verdict) => {
-            tell_due(alloc, page, source, status, verdict)?;
+            tell_due(alloc, page, source, status, &verdict)?;
             Ok(true)
         }
     }
