@@ -22,6 +22,7 @@ mod tests;
 
 use call::pabble;
 use pb_cli_status::{Refusal, Status, refuse};
+use pb_explain::{RegularFolder, explain};
 use pb_io::{Folder, HostFolder, HostSink, Sink};
 use pb_text::NoMemory;
 use rand_core::utils::NextWord;
@@ -63,6 +64,22 @@ fn respond<F: Folder, O: Sink>(
     }
 }
 
+/// Tells a person on standard error why a call with these words ended so.
+fn tell(rt: &HostRuntime, words: Result<Vec<String>, NoMemory>, status: Status) {
+    if let Ok(all) = words {
+        let mut folder = RegularFolder::new(rt);
+        let mut err = HostSink::new(rt.stderr());
+        explain(
+            rt.alloc(),
+            all.as_slice(),
+            status,
+            &mut folder,
+            &mut err,
+            word,
+        );
+    }
+}
+
 /// The program's exit status.
 fn exit_code(status: Status) -> ExitCode
     ensures { exit_status result ≡ code_of status }
@@ -74,5 +91,6 @@ fn main(rt: HostRuntime) -> ExitCode {
     let mut folder = HostFolder::new(&rt);
     let mut out = HostSink::new(io::writer(&rt));
     let status = respond(rt.alloc(), words(&rt), &mut folder, &mut out);
+    tell(&rt, words(&rt), status);
     exit_code(status)
 }

@@ -187,7 +187,13 @@ fn at_key(key: Key, stop: &Stop) -> Option<&'static str> {
 fn at_mark(mark: Mark, stop: &Stop) -> Option<&'static str> {
     match mark {
         Mark::Colon => Some(
-            "one end of a message may bind a variable; the other end, and the ends in a `foreach`, a `choice`, a `compute` or a collective may not",
+            "one end of a message may bind a variable, and no other end; a kernel at many ranks is `foreach (i:0..N-1) { compute K at W[i]; }`",
+        ),
+        Mark::LeftParen if wants_number(stop) => Some(
+            "an index has no parentheses: it is a number, or a name with one offset, as `N-1` or `i+1`",
+        ),
+        Mark::Semicolon if wants_mark(stop, Mark::Dots) => Some(
+            "the constant has a range, as `const N = 2..max;`; where it has one value, both ends are it, as `2..2`",
         ),
         Mark::Minus if wants_number(stop) => {
             Some("numbers aren't negative; an offset stands behind a name, as `N-1`")

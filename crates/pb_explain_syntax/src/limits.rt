@@ -6,7 +6,9 @@ use pb_text::{NoMemory, Place, Quantity};
 /// What is too much, and how much there may be.
 fn reason(limit: Quantity) -> &'static str {
     match limit {
-        Quantity::FileBytes => "the file has too many bytes: a protocol has at most 1,048,576",
+        Quantity::FileBytes => {
+            "the file has too many bytes: a protocol and a kernel file have at most 1,048,576, a C text and a schedule 67,108,864"
+        }
         Quantity::NumberSize => "this number is too large: numbers go up to 2,000,000,000",
         Quantity::NameLength => "this name is too long: names have at most 64 bytes",
         Quantity::Nesting => "this would be the 65th open brace: there are at most 64",

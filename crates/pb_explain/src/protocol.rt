@@ -1,0 +1,81 @@
+//! Answers to a protocol file.
+
+use crate::running::{tell_many, tell_values};
+use crate::verdict::{tell_refused, tree_of};
+use pb_cli_status::Status;
+use pb_cli_words::Options;
+use pb_explain_runs::tell_turns;
+use pb_explain_source::{NoMemory, Page, Source};
+use pb_explain_warnings::tell_warnings;
+use std::alloc::Global;
+
+/// What was asked of a protocol.
+#[derive(Clone, Copy)]
+pub enum Ask {
+    /// Its verdict, its text, or its endpoint program.
+    Verdict,
+    /// A simulation.
+    Run(Options),
+}
+
+/// Writes the warnings on an accepted protocol.
+pub fn warn(alloc: Global, page: &mut Page, source: &Source) -> Result<(), NoMemory> {
+    match tree_of(alloc, source.bytes)? {
+        Some(file) => tell_warnings(page, source, &file),
+        None => Ok(()),
+    }
+}
+
+/// Explains a limit: one of the protocol, or else one of its simulation.
+fn tell_limits(alloc: Global, page: &mut Page, source: &Source, ask: Ask) -> Result<(), NoMemory> {
+    if tell_refused(alloc, page, source, Status::Limit)? {
+        return Ok(());
+    }
+    match (ask, tree_of(alloc, source.bytes)?) {
+        (Ask::Run(options), Some(file)) => {
+            tell_many(alloc, page, source, &file, i64::from(options.n))
+        }
+        _ => Ok(()),
+    }
+}
+
+/// Explains what a simulation of the protocol came to.
+fn tell_run(
+    alloc: Global,
+    page: &mut Page,
+    source: &Source,
+    status: Status,
+    options: Options,
+) -> Result<(), NoMemory> {
+    if status == Status::Turns {
+        return tell_turns(page, source.file, u64::from(options.turns));
+    }
+    match tree_of(alloc, source.bytes)? {
+        Some(file) => tell_values(alloc, page, source, &file, i64::from(options.n)),
+        None => Ok(()),
+    }
+}
+
+/// Explains the answer to a protocol of these bytes.
+pub fn tell_protocol(
+    alloc: Global,
+    page: &mut Page,
+    file: &str,
+    bytes: &[u8],
+    status: Status,
+    ask: Ask,
+) -> Result<(), NoMemory> {
+    let source = Source { file, bytes };
+    match (status, ask) {
+        (Status::Done, _) => warn(alloc, page, &source),
+        (Status::Refused, _) => {
+            let _refused = tell_refused(alloc, page, &source, status)?;
+            Ok(())
+        }
+        (Status::Limit, _) => tell_limits(alloc, page, &source, ask),
+        (Status::Turns | Status::OutOfRange, Ask::Run(options)) => {
+            tell_run(alloc, page, &source, status, options)
+        }
+        _ => Ok(()),
+    }
+}
