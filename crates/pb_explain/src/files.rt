@@ -41,7 +41,8 @@ fn tell_file<F: Folder>(
 fn is_warned(command: Command) -> bool {
     match command {
         Command::Check(_) | Command::Gen(_) | Command::GenWith(_, _) | Command::Run(_, _) => true,
-        Command::Project(_) | Command::Sim(_, _) | Command::Replay(_, _, _) => false,
+        Command::Project(_) | Command::Sim(_, _) | Command::Replay(_, _, _) | Command::Demo(_) =>
+            false,
     }
 }
 
@@ -76,6 +77,8 @@ pub fn tell_files<F: Folder, A: Fn(u64, u32, u64) -> u32 + Drop>(
             let asked = Replay { text, schedule, n };
             tell_replay(alloc, page, folder, &asked, status, answers)
         }
+        // a demo reads no file
+        Command::Demo(_) => Ok(()),
     }
 }
 
@@ -119,5 +122,6 @@ pub fn tell_read_fault<F: Folder>(
         Command::Replay(text, schedule, _) => {
             tell_unread_of(alloc, page, folder, text, schedule)
         }
+        Command::Demo(_) => Ok(()),
     }
 }
