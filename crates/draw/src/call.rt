@@ -1,0 +1,105 @@
+//! The whole program.
+
+use crate::fault::{Fault, NO_MEMORY};
+use crate::request::{Request, read_request};
+use crate::status::Status;
+use pb_draw_layout::{Layout, choose, ending, laid_out, stuck_rank, summed};
+use pb_draw_log::read_log;
+use pb_draw_picture::{Scene, picture};
+use pb_draw_times::timed;
+use pb_io::{Folder, OutFault, Sink, read_all, write_all};
+use pb_text::{MOST_TEXT_BYTES, NoMemory, push_decimal};
+use std::alloc::Global;
+
+/// A picture, and the line that is told besides it.
+#[derive(Drop)]
+struct Drawn {
+    picture: Vec<u8>,
+    told: Vec<u8>,
+}
+
+/// Does what the words behind the program's name say: the picture goes to `out`, and else one line to `told`. Where events are
+/// left out for being too many, a line says so beside the picture. `WriteFault` comes where the picture can't be written; that
+/// `told` can't is not told.
+pub fn draw<F: Folder, O: Sink, T: Sink>(
+    alloc: Global,
+    words: &[String],
+    folder: &mut F,
+    out: &mut O,
+    told: &mut T,
+) -> Status {
+    match answer(alloc, words, folder) {
+        Ok(drawn) => {
+            tell(told, &drawn.told);
+            match write_all(out, &drawn.picture) {
+                Ok(()) => Status::Done,
+                Err(OutFault::WriteFault) => {
+                    tell(told, b"draw: write fault\n");
+                    Status::WriteFault
+                }
+            }
+        }
+        Err(fault) => {
+            match fault.line(alloc) {
+                Ok(line) => tell(told, &line),
+                Err(NoMemory) => tell(told, NO_MEMORY),
+            }
+            fault.status()
+        }
+    }
+}
+
+/// Writes a line where that can be done.
+fn tell<T: Sink>(told: &mut T, line: &[u8]) {
+    let _ = write_all(told, line);
+}
+
+fn answer<F: Folder>(alloc: Global, words: &[String], folder: &mut F) -> Result<Drawn, Fault> {
+    let request = match read_request(words) {
+        Some(request) => request,
+        None => return Err(Fault::Usage),
+    };
+    let bytes = read_all(alloc, folder, request.file, MOST_TEXT_BYTES)?;
+    answer_of(alloc, &bytes, &request)
+}
+
+/// The picture of the log in the bytes of a file.
+fn answer_of(alloc: Global, bytes: &[u8], request: &Request<'_>) -> Result<Drawn, Fault> {
+    let log = read_log(alloc, bytes)?;
+    let times = timed(alloc, &log.entries)?;
+    let sums = summed(alloc, &log.entries, &times, log.names.len())?;
+    let ending = ending(bytes, log.end);
+    let stuck = match ending {
+        Some(line) => stuck_rank(line),
+        None => None,
+    };
+    let chosen = choose(alloc, &log.entries, &request.cut)?;
+    let layout = laid_out(alloc, &log.entries, &times, chosen, &request.cut, stuck)?;
+    let scene = Scene {
+        bytes,
+        log: &log,
+        times: &times,
+        layout: &layout,
+        sums: &sums,
+        ending,
+    };
+    let picture = picture(alloc, &scene)?;
+    Ok(Drawn {
+        picture,
+        told: left_out(alloc, &layout)?,
+    })
+}
+
+/// What is told where events are left out for being too many; else nothing.
+fn left_out(alloc: Global, layout: &Layout) -> Result<Vec<u8>, NoMemory> {
+    let mut line = Vec::new(alloc);
+    let drawn = layout.entries.len();
+    if drawn < layout.asked {
+        line.extend_from_slice(b"draw: the first ")?;
+        push_decimal(&mut line, drawn as u64)?;
+        line.extend_from_slice(b" of ")?;
+        push_decimal(&mut line, layout.asked as u64)?;
+        line.extend_from_slice(b" events are drawn; --from and --to choose others\n")?;
+    }
+    Ok(line)
+}
