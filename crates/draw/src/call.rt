@@ -1,5 +1,8 @@
 //! The whole program.
 
+ghost use Rattle.std.specs.Prelude.{◌≡◌};
+ghost use Rattle.pb_io.specs.Faults.{Rose};
+
 use crate::fault::{Fault, NO_MEMORY};
 use crate::request::{Request, read_request};
 use crate::status::Status;
@@ -18,35 +21,50 @@ struct Drawn {
     told: Vec<u8>,
 }
 
-/// Does what the words behind the program's name say: the picture goes to `out`, and else one line to `told`. Where events are
-/// left out for being too many, a line says so beside the picture. `WriteFault` comes where the picture can't be written; that
-/// `told` can't is not told.
-pub fn draw<F: Folder, O: Sink, T: Sink>(
+/// Does what the words behind the program's name say, or tells that there was no memory for them.
+///
+/// The picture alone goes to `out`, and else one line to `told`. Where events are left out for being too many, a line says so
+/// beside the picture. `WriteFault` comes where the picture can't be written; that `told` can't is not told.
+pub fn respond<F: Folder, O: Sink, T: Sink>(
     alloc: Global,
-    words: &[String],
+    words: Result<Vec<String>, NoMemory>,
     folder: &mut F,
     out: &mut O,
     told: &mut T,
-) -> Status {
-    match answer(alloc, words, folder) {
-        Ok(drawn) => {
-            tell(told, &drawn.told);
-            match write_all(out, &drawn.picture) {
-                Ok(()) => Status::Done,
-                Err(OutFault::WriteFault) => {
-                    tell(told, b"draw: write fault\n");
-                    Status::WriteFault
-                }
-            }
-        }
-        Err(fault) => {
-            match fault.line(alloc) {
-                Ok(line) => tell(told, &line),
-                Err(NoMemory) => tell(told, NO_MEMORY),
-            }
-            fault.status()
+) -> Status
+    ensures alone { (result ≡ Status.Done → ⊥) → (result ≡ Status.WriteFault → ⊥) → out.new ≡ out.old }
+    ensures fault { result ≡ Status.WriteFault → Rose (O.faults out.old) (O.faults out.new) }
+{
+    match answer(alloc, &words, folder) {
+        Ok(drawn) => deliver(&drawn, out, told),
+        Err(fault) => refuse(alloc, fault, told),
+    }
+}
+
+/// Writes a picture, and what is told besides.
+fn deliver<O: Sink, T: Sink>(drawn: &Drawn, out: &mut O, told: &mut T) -> Status
+    ensures tried { (result ≡ Status.Done → ⊥) → result ≡ Status.WriteFault }
+    ensures fault { result ≡ Status.WriteFault → Rose (O.faults out.old) (O.faults out.new) }
+{
+    tell(told, &drawn.told);
+    match write_all(out, &drawn.picture) {
+        Ok(()) => Status::Done,
+        Err(OutFault::WriteFault) => {
+            tell(told, b"draw: write fault\n");
+            Status::WriteFault
         }
     }
+}
+
+/// Tells why there is no picture.
+fn refuse<T: Sink>(alloc: Global, fault: Fault, told: &mut T) -> Status
+    ensures { result ≡ Status.WriteFault → ⊥ }
+{
+    match fault.line(alloc) {
+        Ok(line) => tell(told, &line),
+        Err(NoMemory) => tell(told, NO_MEMORY),
+    }
+    fault.status()
 }
 
 /// Writes a line where that can be done.
@@ -54,8 +72,16 @@ fn tell<T: Sink>(told: &mut T, line: &[u8]) {
     let _ = write_all(told, line);
 }
 
-fn answer<F: Folder>(alloc: Global, words: &[String], folder: &mut F) -> Result<Drawn, Fault> {
-    let request = match read_request(words) {
+fn answer<F: Folder>(
+    alloc: Global,
+    words: &Result<Vec<String>, NoMemory>,
+    folder: &mut F,
+) -> Result<Drawn, Fault> {
+    let request = match words {
+        Ok(words) => read_request(words),
+        Err(NoMemory) => return Err(Fault::NoMemory),
+    };
+    let request = match request {
         Some(request) => request,
         None => return Err(Fault::Usage),
     };

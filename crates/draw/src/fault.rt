@@ -1,3 +1,5 @@
+ghost use Rattle.std.specs.Prelude.{◌≡◌};
+
 use crate::status::Status;
 use pb_draw_log::LogFault;
 use pb_draw_times::TimesFault;
@@ -65,7 +67,9 @@ impl From<TimesFault> for Fault {
 
 impl Fault {
     /// How a call with this fault ends. Takes no memory.
-    pub fn status(&self) -> Status {
+    pub fn status(&self) -> Status
+        ensures { result ≡ Status.WriteFault → ⊥ }
+    {
         match self {
             Fault::Usage => Status::Usage,
             Fault::ReadFault => Status::ReadFault,
@@ -89,7 +93,9 @@ impl Fault {
                 line.extend_from_slice(b" is malformed\n")?;
             }
             Fault::Circle => {
-                line.extend_from_slice(b"draw: the log's actions wait for each other in a circle\n")?;
+                line.extend_from_slice(
+                    b"draw: the log's actions wait for each other in a circle\n",
+                )?;
             }
             Fault::NoMemory => line.extend_from_slice(NO_MEMORY)?,
         }

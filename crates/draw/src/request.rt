@@ -1,5 +1,8 @@
 //! What the words of the command line ask for.
 
+ghost use Rattle.std.specs.Prelude.{IfSome};
+ghost use Rattle.draw.specs.Cuts.{IsCut};
+
 use pb_draw_layout::Cut;
 
 /// How many events are drawn where no lines are named.
@@ -28,7 +31,9 @@ struct Said<'a> {
 
 /// What the words behind the program's name ask for. Options stand in any order, each at most once. None where the words are in
 /// no such form.
-pub fn read_request(words: &[String]) -> Option<Request<'_>> {
+pub fn read_request(words: &[String]) -> Option<Request<'_>>
+    ensures { IfSome result (λ request. IsCut request.cut) }
+{
     let mut said = Said {
         file: None,
         from: None,
@@ -84,7 +89,9 @@ impl<'a> Said<'a> {
     }
 
     /// What is asked for. None without a file, and where a range has nothing in it.
-    fn request(self) -> Option<Request<'a>> {
+    fn request(self) -> Option<Request<'a>>
+        ensures { IfSome result (λ request. IsCut request.cut) }
+    {
         let file = self.file?;
         let is_usual = self.from.is_none() && self.to.is_none();
         let (low, high) = self.ranks.unwrap_or((0, u32::MAX));

@@ -54,7 +54,7 @@ impl Band {
 }
 
 /// The collectives of the events that are drawn. `joints` has the number of each event's collective.
-pub fn bands(
+pub fn bands_of(
     alloc: Global,
     entries: &[Entry],
     joints: &[Option<usize>],

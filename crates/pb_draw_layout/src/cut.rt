@@ -1,5 +1,7 @@
 //! Which events are drawn.
 
+ghost use Rattle.std.specs.Prelude.{◌≤◌, IfOk, OnOk, vec_len};
+
 use pb_draw_log::Entry;
 use pb_text::NoMemory;
 use std::alloc::Global;
@@ -40,17 +42,31 @@ pub struct Chosen {
     pub asked: usize,
 }
 
+impl Chosen {
+    /// One more event, which is drawn where fewer than `most` are.
+    fn add(&mut self, place: usize, most: usize) -> Result<(), NoMemory>
+        ensures { OnOk result (vec_len self.old.places ≤ most → vec_len self.new.places ≤ most) }
+    {
+        if self.places.len() < most {
+            self.places.push(place)?;
+        }
+        self.asked = self.asked.saturating_add(1);
+        Ok(())
+    }
+}
+
 /// The events that are asked for, the first so many of them.
-pub fn choose(alloc: Global, entries: &[Entry], cut: &Cut) -> Result<Chosen, NoMemory> {
-    let mut places = Vec::new(alloc);
-    let mut asked: usize = 0;
+pub fn choose(alloc: Global, entries: &[Entry], cut: &Cut) -> Result<Chosen, NoMemory>
+    ensures { IfOk result (λ chosen. vec_len chosen.places ≤ cut.now.most) }
+{
+    let mut chosen = Chosen {
+        places: Vec::new(alloc),
+        asked: 0,
+    };
     for (place, entry) in entries.iter().enumerate() {
         if cut.has_place(place) && cut.has_rank(entry.step.rank) {
-            if asked < cut.most {
-                places.push(place)?;
-            }
-            asked = asked.saturating_add(1);
+            chosen.add(place, cut.most)?;
         }
     }
-    Ok(Chosen { places, asked })
+    Ok(chosen)
 }

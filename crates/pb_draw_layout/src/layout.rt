@@ -4,7 +4,7 @@ ghost use Rattle.std.specs.Prelude.{IfOk};
 ghost use Rattle.pb_draw_times.specs.Pairs.{AreSingle};
 ghost use Rattle.pb_draw_times.specs.Ascents.{AreSound};
 
-use crate::bands::{Band, bands};
+use crate::bands::{Band, bands_of};
 use crate::chain::{Link, drawn_chain};
 use crate::cut::{Chosen, Cut};
 use crate::numbers::{distinct, index_of, number_at, place_in};
@@ -82,7 +82,7 @@ fn laid(
     let rows = rows_of(alloc, &entries, &ranks)?;
     let mates = links_at(alloc, &times.mates, &places)?;
     let joints = joints_at(alloc, &times.links.joints, &places)?;
-    let bands = bands(alloc, &entries, &joints, &columns, &rows)?;
+    let bands = bands_of(alloc, &entries, &joints, &columns, &rows)?;
     let (chain, chain_length) = drawn_chain(alloc, times, &places)?;
     Ok(Layout {
         ranks,

@@ -8,7 +8,7 @@
 mod bands;
 mod chain;
 mod cut;
-mod ending;
+mod endings;
 mod layout;
 mod numbers;
 #[cfg(test)]
@@ -20,7 +20,7 @@ mod tests;
 pub use bands::Band;
 pub use chain::Link;
 pub use cut::{Chosen, Cut, choose};
-pub use ending::{ending, stuck_rank};
+pub use endings::{ending, stuck_rank};
 pub use layout::{Layout, laid_out};
 pub use pb_draw_times::{Deed, Entry, NoMemory, Step, Times, TimesFault};
 pub use sums::{Sum, Sums, summed};

@@ -1,9 +1,9 @@
 //! The arrows of messages.
 
 use crate::pen::Pen;
-use crate::picture::Scene;
 use crate::scale::Scale;
 use crate::tooltip::put_message;
+use crate::whole::Scene;
 use pb_draw_layout::Layout;
 use pb_draw_log::{Deed, Entry};
 use pb_draw_times::link_at;
@@ -43,7 +43,7 @@ pub struct Arrow {
 
 /// The arrows of all messages: from each send to its receive, where both are drawn. A message of which one end is drawn has an
 /// arrow from it or to it that is one column long, and shorter where the other rank has no row.
-pub fn arrows(alloc: Global, scale: &Scale, scene: &Scene<'_>) -> Result<Vec<Arrow>, NoMemory> {
+pub fn arrows_of(alloc: Global, scale: &Scale, scene: &Scene<'_>) -> Result<Vec<Arrow>, NoMemory> {
     let mut all = Vec::new(alloc);
     for (index, entry) in scene.layout.entries.iter().enumerate() {
         if let Some(arrow) = arrow_of(scale, scene, index, entry) {

@@ -1,9 +1,9 @@
 //! The marks of events.
 
 use crate::pen::Pen;
-use crate::picture::Scene;
 use crate::scale::Scale;
 use crate::tooltip::put_tooltip;
+use crate::whole::Scene;
 use pb_draw_log::Deed;
 use pb_text::NoMemory;
 
@@ -67,12 +67,7 @@ pub fn put_events(pen: &mut Pen, scale: &Scale, scene: &Scene<'_>) -> Result<(),
     put_branches(pen, scale, scene)
 }
 
-fn put_marks(
-    pen: &mut Pen,
-    scale: &Scale,
-    scene: &Scene<'_>,
-    form: Form,
-) -> Result<(), NoMemory> {
+fn put_marks(pen: &mut Pen, scale: &Scale, scene: &Scene<'_>, form: Form) -> Result<(), NoMemory> {
     pen.put(form.group())?;
     let layout = scene.layout;
     let spots = layout.columns.iter().zip(&layout.rows);

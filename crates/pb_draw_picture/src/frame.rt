@@ -5,10 +5,10 @@ use crate::scale::Scale;
 use pb_text::NoMemory;
 
 /// How wide a picture is at least, in pixels: what stands below the rows needs this much.
-const LEAST_WIDTH: u64 = 640;
+const LEAST_WIDTH: u64 = 680;
 
 /// The colours by day and by night. Forms differ, too, so that a picture can be read in black and white.
-const STYLE: &[u8] = b"<style>
+pub const STYLE: &[u8] = b"<style>
 svg{background:#fff;color:#1b1f24;font:10px sans-serif}
 text{fill:currentColor}
 path{fill:none;stroke:currentColor}
@@ -45,6 +45,17 @@ marker path{fill:#7fb2ff}
 <marker id=\"head\" viewBox=\"0 0 8 8\" refX=\"11\" refY=\"4\" markerWidth=\"7\" markerHeight=\"7\" orient=\"auto\"><path d=\"M0 0L8 4L0 8z\"/></marker>
 ";
 
+/// What the marks mean, around a middle line.
+pub const LEGEND: &[u8] =
+    b"<g class=\"dots\"><path d=\"M4 0h0\"/></g><text x=\"14\" y=\"4\">send, receive</text>
+<g class=\"bars\"><path d=\"M92 0h18\"/></g><text x=\"115\" y=\"4\">run</text>
+<g class=\"diamonds\"><path d=\"M152-10l10 10-10 10-10-10z\"/></g><text x=\"167\" y=\"4\">choice and its branch</text>
+<g class=\"strokes\"><path d=\"M284-7v14\"/></g><text x=\"291\" y=\"4\">enters or leaves a collective</text>
+<g class=\"arrows open\"><path d=\"M440 0h34\"/></g><text x=\"479\" y=\"4\">not taken</text>
+<path class=\"chain\" d=\"M538 0h20\"/><text x=\"568\" y=\"4\">longest chain</text>
+</g>
+";
+
 /// The head of a picture whose part below the rows is so high.
 pub fn open(pen: &mut Pen, scale: &Scale, below: u64) -> Result<(), NoMemory> {
     let width = scale.right().saturating_add(60).max(LEAST_WIDTH);
@@ -69,15 +80,6 @@ pub fn close(pen: &mut Pen) -> Result<(), NoMemory> {
 pub fn put_legend(pen: &mut Pen, y: u64) -> Result<(), NoMemory> {
     pen.put(b"<g transform=\"translate(14 ")?;
     pen.put_number(y)?;
-    pen.put(
-        b")\">
-<g class=\"dots\"><path d=\"M4 0h0\"/></g><text x=\"14\" y=\"4\">send, receive</text>
-<g class=\"bars\"><path d=\"M92 0h18\"/></g><text x=\"115\" y=\"4\">run</text>
-<g class=\"diamonds\"><path d=\"M152-10l10 10-10 10-10-10z\"/></g><text x=\"167\" y=\"4\">choice and its branch</text>
-<g class=\"strokes\"><path d=\"M284-7v14\"/></g><text x=\"291\" y=\"4\">enters or leaves a collective</text>
-<g class=\"arrows open\"><path d=\"M440 0h34\"/></g><text x=\"479\" y=\"4\">not taken</text>
-<path class=\"chain\" d=\"M538 0h20\"/><text x=\"568\" y=\"4\">longest chain</text>
-</g>
-",
-    )
+    pen.put(b")\">\n")?;
+    pen.put(LEGEND)
 }

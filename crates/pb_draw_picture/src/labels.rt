@@ -2,9 +2,9 @@
 
 use crate::arrows::Arrow;
 use crate::pen::Pen;
-use crate::picture::Scene;
 use crate::scale::{LETTER, Scale};
 use crate::tooltip::name_of;
+use crate::whole::Scene;
 use pb_text::NoMemory;
 use std::alloc::Global;
 
@@ -33,7 +33,9 @@ fn crossing_at(arrow: &Arrow, from: u32, to: u32, gap: u32) -> Crossing {
     });
     let width = arrow.end.x.saturating_sub(arrow.start.x);
     let halves = steps.saturating_mul(2).saturating_add(1);
-    let part = width.saturating_mul(halves).checked_div(count.saturating_mul(2));
+    let part = width
+        .saturating_mul(halves)
+        .checked_div(count.saturating_mul(2));
     Crossing {
         gap,
         x: arrow.start.x.saturating_add(part.unwrap_or(0)),
@@ -92,7 +94,14 @@ pub fn put_labels(
     pen.put(b"<g class=\"labels\">\n")?;
     for arrow in arrows {
         if let Some((from, to)) = arrow.rows {
-            put_label(pen, scale, scene, &crossings, arrow, middle(arrow, from, to))?;
+            put_label(
+                pen,
+                scale,
+                scene,
+                &crossings,
+                arrow,
+                middle(arrow, from, to),
+            )?;
         }
     }
     pen.put(b"</g>\n")
@@ -116,9 +125,15 @@ fn put_label(
         Some(entry) => name_of(scene.log, entry.step.name),
         None => return Ok(()),
     };
-    let wanted = LETTER.saturating_mul(name.len() as u64).saturating_add(MARGIN).saturating_add(MARGIN);
+    let wanted = LETTER
+        .saturating_mul(name.len() as u64)
+        .saturating_add(MARGIN)
+        .saturating_add(MARGIN);
     if wanted <= room(crossings, own, scale.right()) {
-        let y = scale.y(own.gap).saturating_add(scale.row / 2).saturating_add(3);
+        let y = scale
+            .y(own.gap)
+            .saturating_add(scale.row / 2)
+            .saturating_add(3);
         pen.put_label(own.x.saturating_add(MARGIN), y, name)?;
     }
     Ok(())

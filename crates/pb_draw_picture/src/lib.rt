@@ -12,12 +12,12 @@ mod frame;
 mod labels;
 mod lines;
 mod pen;
-mod picture;
 mod scale;
 mod sums;
 #[cfg(test)]
 mod tests;
 mod tooltip;
+mod whole;
 
 pub use pb_text::NoMemory;
-pub use picture::{Scene, picture};
+pub use whole::{Scene, picture};

@@ -1,9 +1,9 @@
 //! The lines of the ranks, the times above them, the bands of collectives, and the rank that is stuck.
 
 use crate::pen::Pen;
-use crate::picture::Scene;
 use crate::scale::{LETTER, Scale};
 use crate::tooltip::name_of;
+use crate::whole::Scene;
 use pb_draw_layout::{Band, Layout, stuck_rank};
 use pb_draw_log::Log;
 use pb_text::NoMemory;
@@ -27,7 +27,10 @@ pub fn put_lines(pen: &mut Pen, scale: &Scale) -> Result<(), NoMemory> {
 pub fn put_ranks(pen: &mut Pen, scale: &Scale, layout: &Layout) -> Result<(), NoMemory> {
     pen.put(b"<g class=\"ends\">\n")?;
     for (row, rank) in layout.ranks.iter().enumerate() {
-        pen.open_label(scale.left.saturating_sub(6), scale.y(row as u32).saturating_add(4))?;
+        pen.open_label(
+            scale.left.saturating_sub(6),
+            scale.y(row as u32).saturating_add(4),
+        )?;
         pen.put(b"rank ")?;
         pen.put_number(u64::from(*rank))?;
         pen.put(b"</text>\n")?;
@@ -59,7 +62,10 @@ fn put_band(pen: &mut Pen, scale: &Scale, log: &Log, band: &Band) -> Result<(), 
     let name = name_of(log, band.name);
     let left = scale.x(band.first).saturating_sub(9);
     let above = scale.y(band.top).saturating_sub(15);
-    let width = scale.x(band.last).saturating_sub(scale.x(band.first)) .saturating_add(18);
+    let width = scale
+        .x(band.last)
+        .saturating_sub(scale.x(band.first))
+        .saturating_add(18);
     pen.put(b"<rect x=\"")?;
     pen.put_number(left)?;
     pen.put(b"\" y=\"")?;
@@ -67,7 +73,12 @@ fn put_band(pen: &mut Pen, scale: &Scale, log: &Log, band: &Band) -> Result<(), 
     pen.put(b"\" width=\"")?;
     pen.put_number(width)?;
     pen.put(b"\" height=\"")?;
-    pen.put_number(scale.y(band.bottom).saturating_sub(scale.y(band.top)).saturating_add(30))?;
+    pen.put_number(
+        scale
+            .y(band.bottom)
+            .saturating_sub(scale.y(band.top))
+            .saturating_add(30),
+    )?;
     pen.put(b"\" rx=\"6\"><title>")?;
     pen.put(name)?;
     pen.put(b": ")?;
@@ -92,14 +103,14 @@ pub fn put_stuck(pen: &mut Pen, scale: &Scale, scene: &Scene<'_>) -> Result<(), 
         None => return Ok(()),
     };
     if let Ok(row) = row {
-        let x = scale.right();
+        let x = scale.right().saturating_add(8);
         let y = scale.y(row as u32);
         pen.put(b"<g class=\"stuck\"><path d=\"M")?;
         pen.put_point(x.saturating_sub(6), y.saturating_sub(6))?;
         pen.put(b"l12 12m0-12l-12 12\"><title>")?;
         pen.put_text(line)?;
         pen.put(b"</title></path>\n")?;
-        pen.put_label(x.saturating_add(10), y.saturating_add(4), b"stuck")?;
+        pen.put_label(x.saturating_add(16), y.saturating_add(4), b"stuck")?;
         pen.put(b"</g>\n")?;
     }
     Ok(())

@@ -2,9 +2,9 @@
 
 use crate::frame::put_legend;
 use crate::pen::Pen;
-use crate::picture::Scene;
 use crate::scale::{LETTER, Scale};
 use crate::tooltip::name_of;
+use crate::whole::Scene;
 use pb_text::NoMemory;
 
 /// From one line to the next, in pixels.
@@ -17,7 +17,7 @@ const LEFT: u64 = 14;
 const COLUMN: u64 = 84;
 
 /// How many lines stand there besides those of labels.
-const OTHER_LINES: u64 = 6;
+const OTHER_LINES: u64 = 7;
 
 /// How high the part below the rows is.
 pub fn height(scene: &Scene<'_>) -> u64 {
@@ -32,6 +32,8 @@ pub fn put_sums(pen: &mut Pen, scale: &Scale, scene: &Scene<'_>) -> Result<(), N
     put_legend(pen, y)?;
     let y = y.saturating_add(LINE).saturating_add(LINE / 2);
     put_extent(pen, scene, y)?;
+    let y = y.saturating_add(LINE);
+    put_ending(pen, scene, y)?;
     put_table(pen, scene, y.saturating_add(LINE).saturating_add(LINE / 4))
 }
 
@@ -58,7 +60,7 @@ fn put_table(pen: &mut Pen, scene: &Scene<'_>, head: u64) -> Result<(), NoMemory
 
 /// How far the names of labels reach.
 fn name_width(scene: &Scene<'_>) -> u64 {
-    let mut width: u64 = 60;
+    let mut width: u64 = 96;
     for sum in &scene.sums.labels {
         let letters = name_of(scene.log, sum.name).len() as u64;
         width = width.max(letters.saturating_mul(LETTER));
@@ -66,23 +68,31 @@ fn name_width(scene: &Scene<'_>) -> u64 {
     width.saturating_add(LEFT)
 }
 
-/// Which events are drawn, how long the longest chain is, and how the run ended.
+/// How many events are drawn, and how long the longest chain is.
 fn put_extent(pen: &mut Pen, scene: &Scene<'_>, y: u64) -> Result<(), NoMemory> {
-    pen.open_label(14, y)?;
+    pen.open_label(LEFT, y)?;
     pen.put_number(scene.layout.entries.len() as u64)?;
     pen.put(b" of ")?;
     pen.put_number(scene.log.entries.len() as u64)?;
-    pen.put(b" events; the longest chain has ")?;
+    pen.put(b" events are drawn; the longest chain has ")?;
     pen.put_number(scene.layout.chain_length as u64)?;
+    pen.put(b" events</text>\n")
+}
+
+/// How the run ended.
+fn put_ending(pen: &mut Pen, scene: &Scene<'_>, y: u64) -> Result<(), NoMemory> {
     if let Some(line) = scene.ending {
-        pen.put(b"; the log ends with: ")?;
+        pen.open_label(LEFT, y)?;
+        pen.put(b"the log ends with: ")?;
         pen.put_text(line)?;
+        pen.put(b"</text>\n")?;
     }
-    pen.put(b"</text>\n")
+    Ok(())
 }
 
 /// The heads of the columns of numbers.
 fn put_heads(pen: &mut Pen, right: u64, y: u64) -> Result<(), NoMemory> {
+    pen.put_label(LEFT, y, b"in the whole log")?;
     pen.put(b"<g class=\"numbers\">\n")?;
     pen.put_label(right.saturating_add(COLUMN), y, b"messages")?;
     pen.put_label(right.saturating_add(COLUMN * 2), y, b"words")?;

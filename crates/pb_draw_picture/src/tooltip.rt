@@ -30,12 +30,7 @@ pub fn put_tooltip(
 }
 
 /// The label and the words of a message, as a tooltip.
-pub fn put_message(
-    pen: &mut Pen,
-    bytes: &[u8],
-    log: &Log,
-    entry: &Entry,
-) -> Result<(), NoMemory> {
+pub fn put_message(pen: &mut Pen, bytes: &[u8], log: &Log, entry: &Entry) -> Result<(), NoMemory> {
     pen.put(b"<title>")?;
     pen.put(name_of(log, entry.step.name))?;
     put_words(pen, bytes, entry)?;

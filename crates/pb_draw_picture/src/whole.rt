@@ -1,6 +1,6 @@
 //! The whole picture.
 
-use crate::arrows::{arrows, put_arrows};
+use crate::arrows::{arrows_of, put_arrows};
 use crate::chain::put_chain;
 use crate::events::put_events;
 use crate::frame::{close, open};
@@ -35,7 +35,7 @@ pub struct Scene<'a> {
 /// The picture of a log. Each event takes less than 200 bytes, where names have at most 8 letters.
 pub fn picture(alloc: Global, scene: &Scene<'_>) -> Result<Vec<u8>, NoMemory> {
     let scale = Scale::of(scene.layout);
-    let arrows = arrows(alloc, &scale, scene)?;
+    let arrows = arrows_of(alloc, &scale, scene)?;
     let mut pen = Pen::new(alloc);
     open(&mut pen, &scale, height(scene))?;
     put_chain(&mut pen, &scale, scene.layout)?;
