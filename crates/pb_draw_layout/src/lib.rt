@@ -22,5 +22,6 @@ pub use chain::Link;
 pub use cut::{Chosen, Cut, choose};
 pub use endings::{ending, stuck_rank};
 pub use layout::{Layout, laid_out};
+pub use numbers::narrow;
 pub use pb_draw_times::{Deed, Entry, NoMemory, Step, Times, TimesFault};
 pub use sums::{Sum, Sums, summed};

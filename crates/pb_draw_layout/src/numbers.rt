@@ -17,10 +17,18 @@ pub fn distinct(alloc: Global, mut numbers: Vec<u32>) -> Result<Vec<u32>, NoMemo
     Ok(once)
 }
 
+/// The number with 32 bits, and the greatest of these where it has more.
+pub fn narrow(number: usize) -> u32 {
+    match u32::try_from(number) {
+        Ok(narrow) => narrow,
+        Err(_) => u32::MAX,
+    }
+}
+
 /// Where a number stands, and 0 where it doesn't.
 pub fn index_of(numbers: &[u32], number: u32) -> u32 {
     match numbers.binary_search(&number) {
-        Ok(index) => index as u32,
+        Ok(index) => narrow(index),
         Err(_) => 0,
     }
 }

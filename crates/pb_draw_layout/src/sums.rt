@@ -1,5 +1,6 @@
 //! How much is sent.
 
+use crate::numbers::narrow;
 use pb_draw_times::{Entry, Times, counted, message_chain};
 use pb_text::NoMemory;
 use std::alloc::Global;
@@ -52,7 +53,7 @@ pub fn summed(
     let counts = counted(alloc, entries, names)?;
     for (name, count) in counts.iter().enumerate() {
         let sum = Sum {
-            name: name as u32,
+            name: narrow(name),
             messages: count.messages,
             words: count.words,
             chain: 0,

@@ -4,7 +4,7 @@ use crate::pen::Pen;
 use crate::scale::Scale;
 use crate::tooltip::put_message;
 use crate::whole::Scene;
-use pb_draw_layout::Layout;
+use pb_draw_layout::{Layout, narrow};
 use pb_draw_log::{Deed, Entry};
 use pb_draw_times::link_at;
 use pb_text::NoMemory;
@@ -123,14 +123,17 @@ fn half(
         x: scale.x(*layout.columns.get(index)?),
         y: scale.y(row),
     };
-    let peer_row = layout.ranks.binary_search(&peer).ok();
+    let peer_row = match layout.ranks.binary_search(&peer) {
+        Ok(other) => Some(narrow(other)),
+        Err(_) => None,
+    };
     let y = match peer_row {
-        Some(other) if other as u32 != row => scale.y(other as u32),
+        Some(other) if other != row => scale.y(other),
         _ if peer < rank => here.y.saturating_sub(scale.row / 2),
         _ => here.y.saturating_add(scale.row / 2),
     };
     let rows = match peer_row {
-        Some(other) => Some((row, other as u32)),
+        Some(other) => Some((row, other)),
         None => None,
     };
     Some(match way {

@@ -4,7 +4,7 @@ use crate::pen::Pen;
 use crate::scale::{LETTER, Scale};
 use crate::tooltip::name_of;
 use crate::whole::Scene;
-use pb_draw_layout::{Band, Layout, stuck_rank};
+use pb_draw_layout::{Band, Layout, narrow, stuck_rank};
 use pb_draw_log::Log;
 use pb_text::NoMemory;
 
@@ -14,7 +14,7 @@ const STEP: usize = 5;
 /// A line for each rank.
 pub fn put_lines(pen: &mut Pen, scale: &Scale) -> Result<(), NoMemory> {
     pen.put(b"<path class=\"rank\" d=\"")?;
-    for row in 0..scale.rows as u32 {
+    for row in 0..scale.rows {
         pen.put(b"M")?;
         pen.put_point(scale.left, scale.y(row))?;
         pen.put(b"H")?;
@@ -29,7 +29,7 @@ pub fn put_ranks(pen: &mut Pen, scale: &Scale, layout: &Layout) -> Result<(), No
     for (row, rank) in layout.ranks.iter().enumerate() {
         pen.open_label(
             scale.left.saturating_sub(6),
-            scale.y(row as u32).saturating_add(4),
+            scale.y(narrow(row)).saturating_add(4),
         )?;
         pen.put(b"rank ")?;
         pen.put_number(u64::from(*rank))?;
@@ -42,7 +42,7 @@ pub fn put_ranks(pen: &mut Pen, scale: &Scale, layout: &Layout) -> Result<(), No
 pub fn put_times(pen: &mut Pen, scale: &Scale, layout: &Layout) -> Result<(), NoMemory> {
     pen.put(b"<g class=\"times\">\n")?;
     for (column, time) in layout.times.iter().enumerate().step_by(STEP) {
-        pen.open_label(scale.x(column as u32), 16)?;
+        pen.open_label(scale.x(narrow(column)), 16)?;
         pen.put_number(u64::from(*time))?;
         pen.put(b"</text>\n")?;
     }
@@ -104,7 +104,7 @@ pub fn put_stuck(pen: &mut Pen, scale: &Scale, scene: &Scene<'_>) -> Result<(), 
     };
     if let Ok(row) = row {
         let x = scale.right().saturating_add(8);
-        let y = scale.y(row as u32);
+        let y = scale.y(narrow(row));
         pen.put(b"<g class=\"stuck\"><path d=\"M")?;
         pen.put_point(x.saturating_sub(6), y.saturating_sub(6))?;
         pen.put(b"l12 12m0-12l-12 12\"><title>")?;

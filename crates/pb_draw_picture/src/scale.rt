@@ -1,6 +1,6 @@
 //! Where rows and columns are.
 
-use pb_draw_layout::Layout;
+use pb_draw_layout::{Layout, narrow};
 
 /// How wide a letter is taken to be, in pixels.
 pub const LETTER: u64 = 6;
@@ -18,18 +18,18 @@ pub struct Scale {
     /// From one row to the next.
     pub row: u64,
     /// How many columns there are.
-    pub columns: u64,
+    pub columns: u32,
     /// How many rows there are.
-    pub rows: u64,
+    pub rows: u32,
 }
 
 impl Scale {
     /// The scale of a layout: wide columns and high rows where there are few of them.
     pub fn of(layout: &Layout) -> Scale {
-        let columns = layout.times.len() as u64;
-        let rows = layout.ranks.len() as u64;
+        let columns = narrow(layout.times.len());
+        let rows = narrow(layout.ranks.len());
         Scale {
-            left: 40 + LETTER * digits(layout.ranks.last().copied()),
+            left: left(layout.ranks.last().copied()),
             column: if columns <= 100 { 34 } else { 24 },
             row: if rows <= 16 { 38 } else { 28 },
             columns,
@@ -39,44 +39,38 @@ impl Scale {
 
     /// Where a column is.
     pub fn x(&self, column: u32) -> u64 {
-        self.before(u64::from(column))
-    }
-
-    fn before(&self, columns: u64) -> u64 {
         let first = self.left.saturating_add(22);
-        first.saturating_add(columns.saturating_mul(self.column))
+        first.saturating_add(u64::from(column).saturating_mul(self.column))
     }
 
     /// Where a row is.
     pub fn y(&self, row: u32) -> u64 {
-        self.above(u64::from(row))
-    }
-
-    fn above(&self, rows: u64) -> u64 {
-        TOP.saturating_add(rows.saturating_mul(self.row))
+        TOP.saturating_add(u64::from(row).saturating_mul(self.row))
     }
 
     /// Where the lines of the ranks end.
     pub fn right(&self) -> u64 {
-        self.before(self.columns)
+        self.x(self.columns)
     }
 
     /// Where what stands under the rows begins.
     pub fn bottom(&self) -> u64 {
-        self.above(self.rows)
+        self.y(self.rows)
     }
 }
 
-/// How many digits a number has; one where there is none.
-fn digits(number: Option<u32>) -> u64 {
-    let mut rest = match number {
-        Some(number) => number,
+/// Where the lines of the ranks begin, so that the greatest number has room in front of them.
+fn left(greatest: Option<u32>) -> u64 {
+    let mut rest = match greatest {
+        Some(rank) => rank,
         None => 0,
     };
-    let mut count = 1;
-    for _ in 0..10 {
+    let mut width: u64 = 46;
+    for _ in 0..9 {
         rest /= 10;
-        count += u64::from(rest > 0);
+        if rest > 0 {
+            width = width.saturating_add(LETTER);
+        }
     }
-    count
+    width
 }
