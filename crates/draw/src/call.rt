@@ -43,7 +43,7 @@ pub fn respond<F: Folder, O: Sink, T: Sink>(
 
 /// Writes a picture, and what is told besides.
 fn deliver<O: Sink, T: Sink>(drawn: &Drawn, out: &mut O, told: &mut T) -> Status
-    ensures tried { (result ≡ Status.Done → ⊥) → result ≡ Status.WriteFault }
+    ensures alone { (result ≡ Status.Done → ⊥) → (result ≡ Status.WriteFault → ⊥) → out.new ≡ out.old }
     ensures fault { result ≡ Status.WriteFault → Rose (O.faults out.old) (O.faults out.new) }
 {
     tell(told, &drawn.told);
