@@ -59,18 +59,12 @@ fn arrow_of(scale: &Scale, scene: &Scene<'_>, index: usize, entry: &Entry) -> Op
     match (entry.step.deed, link_at(&layout.mates, index)) {
         (Deed::Send(_), Some(mate)) => whole(scale, layout, index, mate),
         (Deed::Send(to), None) => {
-            let half = half(scale, layout, index, entry.step.rank, to, Way::Out)?;
-            Some(Arrow {
-                form: form_of(scene, index),
-                ..half
-            })
+            let loose = loose_end(scale, layout, index, entry.step.rank, to)?;
+            Some(loose.outgoing(index, form_of(scene, index)))
         }
         (Deed::Recv(from), None) => {
-            let half = half(scale, layout, index, entry.step.rank, from, Way::In)?;
-            Some(Arrow {
-                form: form_of(scene, index),
-                ..half
-            })
+            let loose = loose_end(scale, layout, index, entry.step.rank, from)?;
+            Some(loose.incoming(index, form_of(scene, index)))
         }
         (Deed::Recv(_), Some(_)) => None,
         (Deed::Choose(_) | Deed::Run | Deed::Enter | Deed::Leave, _) => None,
@@ -102,22 +96,59 @@ fn whole(scale: &Scale, layout: &Layout, index: usize, mate: usize) -> Option<Ar
     })
 }
 
-/// Whether an arrow goes out from the event that is drawn, or comes in.
+/// The drawn end of a message whose other end isn't drawn, and how its arrow lies.
 #[derive(Clone, Copy, Debug, PartialEq, Eq)]
-enum Way {
-    Out,
-    In,
+struct Loose {
+    /// The event.
+    here: Point,
+    /// How far from above the other end of the arrow is.
+    y: u64,
+    /// How far to the right or to the left it is.
+    reach: u64,
+    /// The row of the event.
+    row: u32,
+    /// The row of the other rank.
+    peer_row: Option<u32>,
 }
 
-/// The arrow of a message of which one end is drawn.
-fn half(
-    scale: &Scale,
-    layout: &Layout,
-    index: usize,
-    rank: u32,
-    peer: u32,
-    way: Way,
-) -> Option<Arrow> {
+impl Loose {
+    /// The arrow of a send.
+    fn outgoing(self, index: usize, form: Form) -> Arrow {
+        Arrow {
+            index,
+            start: self.here,
+            end: Point {
+                x: self.here.x.saturating_add(self.reach),
+                y: self.y,
+            },
+            rows: match self.peer_row {
+                Some(other) => Some((self.row, other)),
+                None => None,
+            },
+            form,
+        }
+    }
+
+    /// The arrow of a receive.
+    fn incoming(self, index: usize, form: Form) -> Arrow {
+        Arrow {
+            index,
+            start: Point {
+                x: self.here.x.saturating_sub(self.reach),
+                y: self.y,
+            },
+            end: self.here,
+            rows: match self.peer_row {
+                Some(other) => Some((other, self.row)),
+                None => None,
+            },
+            form,
+        }
+    }
+}
+
+/// How the arrow of a message lies of which this end alone is drawn.
+fn loose_end(scale: &Scale, layout: &Layout, index: usize, rank: u32, peer: u32) -> Option<Loose> {
     let row = *layout.rows.get(index)?;
     let here = Point {
         x: scale.x(*layout.columns.get(index)?),
@@ -132,40 +163,18 @@ fn half(
         _ if peer < rank => here.y.saturating_sub(scale.row / 2),
         _ => here.y.saturating_add(scale.row / 2),
     };
-    let rows = match peer_row {
-        Some(other) => Some((row, other)),
-        None => None,
-    };
-    Some(match way {
-        Way::Out => Arrow {
-            index,
-            start: here,
-            end: Point {
-                x: here.x.saturating_add(reach(scale, rows)),
-                y,
-            },
-            rows,
-            form: Form::Open,
-        },
-        Way::In => Arrow {
-            index,
-            start: Point {
-                x: here.x.saturating_sub(reach(scale, rows)),
-                y,
-            },
-            end: here,
-            rows: match rows {
-                Some((row, other)) => Some((other, row)),
-                None => None,
-            },
-            form: Form::Open,
-        },
+    Some(Loose {
+        here,
+        y,
+        reach: reach(scale, peer_row),
+        row,
+        peer_row,
     })
 }
 
 /// How far an arrow goes whose other end isn't drawn.
-fn reach(scale: &Scale, rows: Option<(u32, u32)>) -> u64 {
-    match rows {
+fn reach(scale: &Scale, peer_row: Option<u32>) -> u64 {
+    match peer_row {
         Some(_) => scale.column,
         None => scale.column / 2,
     }

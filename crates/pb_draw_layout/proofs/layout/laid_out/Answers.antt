@@ -5,5 +5,5 @@ use Rattle.pb_draw_layout.proofs.layout.laid_out.Goals as goal
 
 pub returns-then-branch-clause-single : goal.returns-then-branch-clause-single
 returns-then-branch-clause-single c =
-    let sound : AreSound c.in_ok-laid.layout.entries.items c.in_ok-laid.layout.mates.items c.in_ok-laid.layout.columns.items = search rules in
-    single c.in_ok-laid.layout.entries.items c.in_ok-laid.layout.mates.items sound.pairs
+    let sound : AreSound c.in_ok-layout.layout.entries.items c.in_ok-layout.layout.mates.items c.in_ok-layout.layout.columns.items = search rules in
+    single c.in_ok-layout.layout.entries.items c.in_ok-layout.layout.mates.items sound.pairs
