@@ -6,7 +6,7 @@ use pb_text::NoMemory;
 use std::alloc::Global;
 
 /// How many labels have a sum of their own.
-const MOST_LABELS: usize = 12;
+const MOST_LABELS: usize = 8;
 
 /// What is sent of one label.
 #[derive(Clone, Copy, Debug, PartialEq, Eq)]
@@ -30,7 +30,7 @@ pub struct Sums {
     pub words: u64,
     /// The greatest number of sends on one chain.
     pub chain: u32,
-    /// The first 12 labels that are sent, in the order of the log's names.
+    /// The first 8 labels that are sent, in the order of the log's names.
     pub labels: Vec<Sum>,
     /// How many labels more are sent.
     pub more: usize,
