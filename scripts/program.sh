@@ -1,10 +1,16 @@
 #!/usr/bin/env bash
 # What `pabble`, `prove` and the scripts of `bench` share: what the program is made of, and where a built one stands. Run by itself
 # it prints the path of the program that `pabble` runs, and builds that without its proofs where there is none; or, where PABBLE
-# names another program, the path of that.
+# names another program, the path of that. With PROGRAM_CRATE=draw all of this is said of the program `draw`.
 top=$(cd "$(dirname "$(readlink -f "${BASH_SOURCE[0]}")")/.." && pwd) || exit 70
 
+# The program's crate.
+crate=${PROGRAM_CRATE:-pb_cli}
+
 say() { echo "pabble: $*" >&2; }
+
+# The words that make the proved program.
+prove_words() { if [ "$crate" = pb_cli ]; then echo "$top/prove"; else echo "$top/prove $crate"; fi; }
 
 # The toolchain's folder.
 kit() { dirname "$(dirname "$(readlink -f "$(command -v rt)")")"; }
@@ -36,10 +42,10 @@ kept() {
 
 # The lines of crates.txt, in the repository $1, of the program's crate and of all that it stands on.
 lines() {
-    awk '{ sub(/#.*/, "") }
+    awk -v program="$crate" '{ sub(/#.*/, "") }
         split($0, sides, ":") == 2 { split(sides[1], words, " "); line[words[1]] = $0; below[words[1]] = sides[2] }
         END {
-            found[count = 1] = "pb_cli"
+            found[count = 1] = program
             for (at = 1; at <= count; at++) {
                 print line[found[at]]
                 split(below[found[at]], names, " ")
@@ -81,7 +87,7 @@ build() {
     trap 'rm -rf "$room"' EXIT
     flock 9
     [ ! -x "$1/$2" ] || return 0
-    "$top/scripts/unproved.sh" "$room/program" 9>&- || return 1
+    "$top/scripts/unproved.sh" "$room/program" "$crate" 9>&- || return 1
     [ "$(unproved_name)" = "$2" ] || { say "a source changed meanwhile: run this again"; return 1; }
     keep "$room/program" "$1" "$2"
 }
@@ -92,16 +98,16 @@ program() {
     kept "$(proved_name "$top")" && return 0
     name=$(unproved_name)
     if kept "$name"; then
-        say "this program isn't proved; $top/prove makes the proved one"
+        say "this program isn't proved; $(prove_words) makes the proved one"
         return 0
     fi
     folder=$(store) || return 1
-    say "this program isn't proved, and is built first, in a minute or two; $top/prove makes the proved one"
+    say "this program isn't proved, and is built first, in a minute or two; $(prove_words) makes the proved one"
     (build "$folder" "$name") 9>"$folder/lock" && kept "$name" && return 0
     say "the program couldn't be built"
     return 1
 }
 
 if [ "${BASH_SOURCE[0]}" = "$0" ]; then
-    if [ -n "${PABBLE:-}" ]; then readlink -m "$PABBLE"; else program || exit 70; fi
+    if [ "$crate" = pb_cli ] && [ -n "${PABBLE:-}" ]; then readlink -m "$PABBLE"; else program || exit 70; fi
 fi

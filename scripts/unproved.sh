@@ -1,9 +1,10 @@
 #!/usr/bin/env bash
 # Builds the program without its proofs. It takes what `rt try` hands to clang, leaves out the checks of that, and optimises it as a
-# proved build is. It says nothing of whether the program is right. Takes the program to write. For measuring: callgrind counts a
-# tenth more instructions than on the proved program; hints on inlining are lost, so INLINE and NOINLINE may be given, regular
-# expressions of functions' names, such as 'pb_text::number::push_decimal'.
+# proved build is. It says nothing of whether the program is right. Takes the program to write, and the crate that it is of, `pb_cli`
+# where none is named. For measuring: callgrind counts a tenth more instructions than on the proved program; hints on inlining are
+# lost, so INLINE and NOINLINE may be given, regular expressions of functions' names, such as 'pb_text::number::push_decimal'.
 program=$(readlink -m "${1:?the program to write}")
+crate=${2:-pb_cli}
 top=$(readlink -f "$(dirname "$(readlink -f "$0")")/..")
 command -v rt >/dev/null || { echo "there is no toolchain: put its command rt on the path" >&2; exit 1; }
 kit=$(dirname "$(rt doc)")
@@ -32,7 +33,7 @@ exit 1
 END
 printf '#!/bin/sh\nexit 1\n' > "$room/kit/bin/rattle"
 chmod +x "$room/kit/toolchain/bin/clang" "$room/kit/bin/rattle"
-(cd "$top/crates/pb_cli" && "$room/kit/bin/rt" try --steps 1 -- check none) > "$room/said" 2>&1 < /dev/null
+(cd "$top/crates/$crate" && "$room/kit/bin/rt" try --steps 1 -- check none) > "$room/said" 2>&1 < /dev/null
 if [ ! -f "$room/module.bc" ]; then
     grep -v '^run=none' "$room/said" | head -n 20 >&2
     exit 1

@@ -4,7 +4,6 @@ use Rattle.pb_draw_log.specs.declared.entry.Deed.{Deed}
 use Rattle.pb_draw_log.specs.declared.entry.Deed.TheVariants.{Choose, Run, Send, Recv, Enter, Leave}
 use Rattle.pb_draw_log.specs.declared.entry.Entry.{Entry}
 use Rattle.pb_draw_times.specs.Pairs.{link, ArePairs}
-use Rattle.pb_draw_times.specs.declared.times.Times.{Times}
 
 abbrev pub is_recv : Deed → Bool
 is_recv (Recv from) = true
@@ -39,8 +38,8 @@ pub record StepsAt (entries : List Entry) (times : List ℕ) (old new : ℕ → 
   pub is : slice_get entries place ≡ Some entry
   pub up : StepsUp old new entry.step.rank (slice_index times place)
 
--- what is claimed of the times of a log
-pub record AreSound (entries : List Entry) (found : Times) : Type 0 where
-  pub pairs : ArePairs entries found.mates.items
-  pub arrows : AscendOnArrows entries found.mates.items found.times.items
-  pub ranks : AscendBelow entries found.times.items (length entries)
+-- what is claimed of the messages and the times of actions
+pub record AreSound (entries : List Entry) (mates : List (Option ℕ)) (times : List ℕ) : Type 0 where
+  pub pairs : ArePairs entries mates
+  pub arrows : AscendOnArrows entries mates times
+  pub ranks : AscendBelow entries times (length entries)

@@ -7,26 +7,31 @@ ghost use Rattle.pb_draw_times.specs.Pairs.{link, AreEnds, ArePairs, IsPair};
 ghost use Rattle.pb_draw_times.specs.Ascents.{is_recv, Rises, StepsAt, StepsUp, AscendBelow, AscendOnArrows, AreSound};
 
 use crate::links::link_at;
-use crate::times::Times;
 use indexmap::IndexMap;
 use pb_draw_log::{Deed, Entry, Step};
 use pb_text::NoMemory;
 use std::alloc::Global;
 
-/// Whether all is right.
-pub fn are_sound(alloc: Global, entries: &[Entry], found: &Times) -> Result<bool, NoMemory>
-    ensures { IfOk result (λ b. IsTrue b → AreSound entries.now found.now) }
+/// Whether messages and times are right, each by the place of its action: each mate is the other end of a message, and has
+/// that action for its own mate; times ascend along each rank, and from each send to its receive.
+pub fn are_sound(
+    alloc: Global,
+    entries: &[Entry],
+    mates: &[Option<usize>],
+    times: &[u32],
+) -> Result<bool, NoMemory>
+    ensures { IfOk result (λ b. IsTrue b → AreSound entries.now mates.now times.now) }
 {
-    if found.mates.len() != entries.len() {
+    if mates.len() != entries.len() {
         return Ok(false);
     }
-    if !are_pairs(entries, &found.mates) {
+    if !are_pairs(entries, mates) {
         return Ok(false);
     }
-    if !ascend_on_arrows(entries, &found.mates, &found.times) {
+    if !ascend_on_arrows(entries, mates, times) {
         return Ok(false);
     }
-    ascend_on_ranks(alloc, entries, &found.times)
+    ascend_on_ranks(alloc, entries, times)
 }
 
 /// Whether this sends to the rank.

@@ -20,6 +20,7 @@ mod times;
 mod tops;
 
 pub use chain::longest_chain;
+pub use checked::are_sound;
 pub use counts::{Count, counted, message_chain};
 pub use fault::TimesFault;
 pub use links::{Links, link_at, linked};

@@ -38,11 +38,11 @@ pub struct Times {
 /// Each message joins a send with its receive, and no two actions have one mate. Times ascend along each rank, and from each
 /// send to its receive. `Circle` comes where no such times were found.
 pub fn timed(alloc: Global, entries: &[Entry]) -> Result<Times, TimesFault>
-    ensures sound { IfOk result (λ found. AreSound entries.now found) }
+    ensures sound { IfOk result (λ found. AreSound entries.now found.mates.items found.times.items) }
     ensures single { IfOk result (λ found. AreSingle found.mates.items) }
 {
     let found = found(alloc, entries)?;
-    if are_sound(alloc, entries, &found)? {
+    if are_sound(alloc, entries, &found.mates, &found.times)? {
         Ok(found)
     } else {
         Err(TimesFault::Circle)
