@@ -1,18 +1,18 @@
 -- A round of the run that uses no entry and begins anew goes round for ever.
-use Rattle.std.proofs.Common.{◌≡◌, ◌≢◌, ℕ, zero, suc, ◌+◌, ◌-◌, ◌≤◌, ◌<◌, true, false, ◌⊎◌, inl, inr, List, [], ◌∷◌, ◌++◌, length, drop, slice_get, Some, refl, sym, ap, ap₂, subst, ◌∙◌, arith, append-nil, length-drop}
+use Rattle.std.proofs.Common.{◌≡◌, ℕ, zero, suc, ◌+◌, ◌-◌, ◌≤◌, true, false, inl, inr, List, [], ◌∷◌, ◌++◌, length, drop, slice_get, refl, sym, ap, ap₂, ◌∙◌, arith, append-nil, length-drop}
 use Rattle.std.proofs.lemmas.Option.{slice_get_within, slice_get_cases}
 use Rattle.std.proofs.lemmas.List.{map-append}
 use Rattle.std.proofs.lemmas.List.Elements.{filter_map-append}
 use Rattle.pb_text.specs.declared.action.Action.{Action}
-use Rattle.pb_world.specs.Actions.{IsPrefixOf, AnswerTable}
+use Rattle.pb_world.specs.Actions.{AnswerTable}
 use Rattle.pb_world.specs.Log.{recorded, log_of, entry_by, log_of_rank}
 use Rattle.pb_world.specs.Sequencer.{state_after, emitted}
 use Rattle.pb_world.proofs.Lists.{no_elements, prefix_get, prefix_filter, prefix_length}
 use Rattle.pb_core_language.specs.Flat.{Block}
 use Rattle.pb_core_language.specs.Run.{Setting, State, Frame, emit, next, is_over_at}
-use Rattle.pb_judge_ruling.specs.Ruling.{actions_of, entries_of, Agrees, run, AllAgree, HasAll, GoesBeyond, IsWhole, IsRuling}
+use Rattle.pb_judge_ruling.specs.Ruling.{actions_of, entries_of, Agrees, run, AllAgree, IsWhole, IsRuling}
 use Rattle.pb_judge_ruling.specs.declared.ruling.Ruling.TheVariants.{Covered, Beyond}
-use Rattle.pb_judge_ruling.proofs.Runs.{entries_actions, split, longer, either}
+use Rattle.pb_judge_ruling.proofs.Runs.{split, longer, either}
 use Rattle.pb_judge_ruling.proofs.Rulings.{some_same, agrees_front}
 use Rattle.pb_judge_follow.specs.Follow.{Left, all_of, first_stack, Goes, Circles, IsLeastLeft, IsUsedUp}
 use Rattle.pb_judge_follow.specs.Laws.{CircleRules}

@@ -1,5 +1,5 @@
 -- What is followed is what the run does, and what is left is what the actions left.
-use Rattle.std.proofs.Common.{◌≡◌, ℕ, zero, suc, ◌+◌, ◌==◌, cond, Bool, true, false, inl, inr, List, [], ◌∷◌, ◌++◌, filter_map, Some, None, refl, sym, ap, subst, ◌∙◌, arith}
+use Rattle.std.proofs.Common.{◌≡◌, ℕ, suc, ◌+◌, ◌≤◌, ◌==◌, cond, inl, inr, List, [], ◌∷◌, ◌++◌, filter_map, Some, None, refl, sym, ap, subst, ◌∙◌, arith}
 use Rattle.std.specs.List.{cons_option}
 use Rattle.std.proofs.lemmas.List.{map-append}
 use Rattle.pb_text.specs.declared.action.Action.{Action}
@@ -11,7 +11,7 @@ use Rattle.pb_world.proofs.Lists.{eqb_cases}
 use Rattle.pb_core_language.specs.Run.{Setting, State, Frame, emit, emit_of, next}
 use Rattle.pb_judge_ruling.specs.Ruling.{actions_of}
 use Rattle.pb_judge_follow.specs.Follow.{Left, Fits, passed, AllFit, all_passed, answers_left, doing, moved, Goes, here, step}
-use Rattle.pb_judge_follow.proofs.Passing.{fits_append, passed_append}
+use Rattle.pb_judge_follow.proofs.Passing.{fits_append, passed_append, used_most, used_same}
 
 -- ---- the answers that an action uses are those of the entry that it fits
 
@@ -108,3 +108,11 @@ module _ (s : Setting) where
   goes_then (step f g) h =
       let more = goes_then g h in
       let e = more.1 in (suc more.0, omega (arith, e), step f more.2)
+
+  pub goes_used : {n : ℕ} {K L : List Frame} {left end : Left} → Goes s n K left L end → left.used ≤ end.used
+  goes_used {n = n} {K = K} {left = left} g = subst (λ l. left.used ≤ l.used) (sym (goes_passed g)) (used_most (done n (state K left)) left)
+
+  pub goes_same : {n : ℕ} {K L : List Frame} {left end : Left} → Goes s n K left L end → end.used ≡ left.used → (r : ℕ) → end.entries r ≡ left.entries r
+  goes_same {n = n} {K = K} {left = left} g e r =
+      let is = goes_passed g in
+      ap (λ l. l.entries r) is ∙ used_same (done n (state K left)) left (ap (λ l. l.used) (sym is) ∙ e) r

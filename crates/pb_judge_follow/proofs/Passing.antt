@@ -1,5 +1,5 @@
 -- What actions that fit leave of a log's entries.
-use Rattle.std.proofs.Common.{◌≡◌, ◌≢◌, ℕ, zero, suc, ◌+◌, ◌≤◌, ◌<◌, ◌==◌, cond, Bool, true, false, ◌||◌, ◌⊎◌, inl, inr, List, [], ◌∷◌, ◌++◌, length, drop, slice_get, Option, Some, None, refl, sym, ap, ap₂, subst, ◌∙◌, arith}
+use Rattle.std.proofs.Common.{◌≡◌, ℕ, zero, suc, ◌+◌, ◌≤◌, ◌<◌, ◌==◌, cond, Bool, true, false, ◌||◌, inl, inr, List, [], ◌∷◌, ◌++◌, length, drop, slice_get, Some, None, refl, sym, ap, ap₂, subst, ◌∙◌, arith}
 use Rattle.std.specs.List.{cons_option}
 use Rattle.std.proofs.lemmas.Bool.{eq-eqb}
 use Rattle.pb_text.specs.declared.action.Action.{Action}
@@ -133,3 +133,25 @@ owed_some (a ∷ g) left o h = go (left.entries (rank_of a)) refl (λ p. owed_so
       let v = ap length (rank_same a g (rank_of a) (eq-eqb (rank_of a) (rank_of a) refl)) in omega (arith, u, v),
     )
     go (x ∷ es) e more = longer (more (ap₂ (λ p q. p || q) o (ap is_none e)))
+
+-- ---- what is used
+
+pub used_most : (g : List Action) (left : Left) → left.used ≤ (all_passed g left).used
+used_most [] left = omega arith
+used_most (a ∷ g) left = let le = used_most g (passed a left) in omega (arith, le)
+
+same_entries : (a : Action) (left : Left) (r : ℕ) (es : List (ℕ × Action)) → left.entries (rank_of a) ≡ es → left.used + cond (is_none es) 0 1 ≤ left.used → (passed a left).entries r ≡ left.entries r
+same_entries a left r (e ∷ es) is le = absurd (omega (arith, le))
+same_entries a left r [] is le = elim (eqb_cases (rank_of a) r) [
+  | inl t ↦ (let none : left.entries r ≡ [] = subst (λ q. left.entries q ≡ []) t.0 is in entries_same a left r t.1 ∙ ap behind_first none ∙ sym none)
+  | inr t ↦ entries_other a left r t.1
+]
+
+-- where no more are used, as much is left
+pub used_same : (g : List Action) (left : Left) → (all_passed g left).used ≡ left.used → (r : ℕ) → (all_passed g left).entries r ≡ left.entries r
+used_same [] left h r = refl
+used_same (a ∷ g) left h r =
+    let most = used_most g (passed a left) in
+    let first = used_most (a ∷ []) left in
+    let le : (passed a left).used ≤ left.used = omega (arith, most, h) in
+    used_same g (passed a left) (omega (arith, most, first, h)) r ∙ same_entries a left r (left.entries (rank_of a)) refl le

@@ -1,19 +1,18 @@
 -- How following the run ends tells the ruling.
-use Rattle.std.proofs.Common.{◌≡◌, ◌≢◌, ℕ, zero, suc, ◌+◌, ◌≤◌, ◌<◌, true, false, List, [], ◌∷◌, ◌++◌, length, drop, slice_get, Some, refl, sym, ap, subst, ◌∙◌, arith, append-nil, append_assoc}
+use Rattle.std.proofs.Common.{◌≡◌, ℕ, suc, ◌+◌, ◌≤◌, true, false, List, [], ◌∷◌, ◌++◌, length, drop, slice_get, refl, sym, ap, subst, ◌∙◌, arith, append-nil, append_assoc}
 use Rattle.std.proofs.lemmas.List.{map-append}
 use Rattle.pb_text.specs.declared.action.Action.{Action}
-use Rattle.pb_world.specs.Actions.{IsPrefixOf, AnswerTable}
-use Rattle.pb_world.specs.Log.{recorded, log_of, rank_of, entry_by, log_of_rank, log_answers}
+use Rattle.pb_world.specs.Log.{recorded, log_of, entry_by, log_of_rank, log_answers}
 use Rattle.pb_world.specs.Sequencer.{state_after, emitted}
 use Rattle.pb_world.proofs.Lists.{prefix_filter, prefix_length}
 use Rattle.pb_core_language.specs.Flat.{Block}
-use Rattle.pb_core_language.specs.Run.{Setting, State, Frame, emit, next, seq, first_state, is_over_at}
+use Rattle.pb_core_language.specs.Run.{Setting, State, Frame, emit, next, first_state, is_over_at}
 use Rattle.pb_judge_ruling.specs.Ruling.{actions_of, entries_of, Agrees, run, ends_by, DiffersAt, AllAgree, HasAll, GoesBeyond, IsWhole, IsRuling}
-use Rattle.pb_judge_ruling.specs.declared.ruling.Ruling.TheVariants.{Whole, Covered, Differs, Beyond}
-use Rattle.pb_judge_ruling.proofs.Runs.{entries_actions, split, rank_longer, ended_longest}
+use Rattle.pb_judge_ruling.specs.declared.ruling.Ruling.TheVariants.{Whole, Beyond}
+use Rattle.pb_judge_ruling.proofs.Runs.{entries_actions, split, ended_longest}
 use Rattle.pb_judge_ruling.proofs.Rulings.{agrees_front}
-use Rattle.pb_judge_follow.specs.Follow.{Left, all_of, AllFit, all_passed, first_stack, doing, Goes, Breaks, Circles, IsLeastLeft, IsUsedUp}
-use Rattle.pb_judge_follow.specs.Laws.{Rules, BreaksRule, EndRules, CircleRules}
+use Rattle.pb_judge_follow.specs.Follow.{Left, all_of, AllFit, all_passed, first_stack, doing, Goes, Breaks, IsLeastLeft, IsUsedUp}
+use Rattle.pb_judge_follow.specs.Laws.{Rules, BreaksRule, EndRules}
 use Rattle.pb_judge_follow.proofs.Passing.{fits_append, passed_append, drop_get, drop_none, left_is, fits_agree, part_is, owed_some}
 use Rattle.pb_judge_follow.proofs.Following.{answers_in, state, done, goes_state, goes_fits, goes_passed}
 
@@ -64,20 +63,21 @@ module _ (s : Setting) (protocol : Block) (log : List (ℕ × Action)) where
   pub breaks : (r line : ℕ) → Breaks s (first_stack protocol) (all_of log) r line → DiffersAt s protocol log r line
   breaks r line b =
       let h = reached b.goes in
+      let m = b.misfits in
       let g = run s protocol log b.steps in
-      let at : all_passed (g ++ b.before) (all_of log) ≡ all_passed b.before b.there = passed_append g b.before (all_of log) ∙ ap (all_passed b.before) (sym h.passed) in
-      let k = length (log_of_rank r (g ++ b.before)) in
+      let at : all_passed (g ++ m.before) (all_of log) ≡ all_passed m.before b.there = passed_append g m.before (all_of log) ∙ ap (all_passed m.before) (sym h.passed) in
+      let k = length (log_of_rank r (g ++ m.before)) in
       record {
         steps = b.steps + 1;
-        before = g ++ b.before;
-        action = b.action;
-        after = b.after;
-        other = b.other;
-        is = step_is b.steps b.stack b.there h ∙ ap (λ xs. g ++ xs) b.is ∙ sym (append_assoc g b.before (b.action ∷ b.after));
-        agrees = agrees (g ++ b.before) (fits_append g b.before (all_of log) h.fits (subst (λ l. AllFit b.before l) h.passed b.fits));
-        by = b.by;
-        there = drop_get k (entries_of r log) (line, b.other) b.others (sym (left_is (g ++ b.before) (all_of log) r) ∙ ap (λ l. l.entries r) at ∙ b.first);
-        apart = b.apart;
+        before = g ++ m.before;
+        action = m.action;
+        after = m.after;
+        other = m.other;
+        is = step_is b.steps b.stack b.there h ∙ ap (λ xs. g ++ xs) m.is ∙ sym (append_assoc g m.before (m.action ∷ m.after));
+        agrees = agrees (g ++ m.before) (fits_append g m.before (all_of log) h.fits (subst (λ l. AllFit m.before l) h.passed m.fits));
+        by = m.by;
+        there = drop_get k (entries_of r log) (line, m.other) m.others (sym (left_is (g ++ m.before) (all_of log) r) ∙ ap (λ l. l.entries r) at ∙ m.first);
+        apart = m.apart;
       }
 
   -- ---- what is left

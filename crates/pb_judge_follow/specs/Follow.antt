@@ -5,7 +5,7 @@
 -- fits it, and then no rank has an entry left. The receive finds none, so the log owes it.
 --
 -- r is a rank, K a stack of what is still to do, and g a list of recorded actions.
-use Rattle.std.specs.Prelude.{◌≡◌, ◌≢◌, ℕ, zero, suc, ◌<◌, ◌==◌, cond, Bool, true, false, ◌||◌, List, [], ◌∷◌, ◌++◌, filter_map}
+use Rattle.std.specs.Prelude.{◌≡◌, ◌≢◌, ℕ, zero, suc, ◌+◌, ◌<◌, ◌==◌, cond, Bool, true, false, ◌||◌, List, [], ◌∷◌, ◌++◌, filter_map}
 use Rattle.pb_text.specs.declared.action.Action.{Action}
 use Rattle.pb_world.specs.Actions.{AnswerTable}
 use Rattle.pb_world.specs.Log.{log_of, rank_of, branch_recorded, words_recorded}
@@ -14,13 +14,14 @@ use Rattle.pb_core_language.specs.Flat.{Block}
 use Rattle.pb_core_language.specs.Run.{Setting, Frame, Top, emit_of, move_of, is_over_at}
 use Rattle.pb_judge_ruling.specs.Ruling.{actions_of, entries_of}
 
--- what each rank has left of its entries, and whether some rank had none for an action of the run
+-- what each rank has left of its entries, how many were used, and whether some rank had none for an action of the run
 pub record Left : Type 0 where
   pub entries : ℕ → List (ℕ × Action)
+  pub used : ℕ
   pub owes : Bool
 
 abbrev pub all_of : List (ℕ × Action) → Left
-all_of log = record { entries = λ r. entries_of r log; owes = false }
+all_of log = record { entries = λ r. entries_of r log; used = 0; owes = false }
 
 abbrev pub is_none : List (ℕ × Action) → Bool
 is_none [] = true
@@ -35,6 +36,7 @@ Fits (entry ∷ entries) action = entry.1 ≡ action
 abbrev pub passed : Action → Left → Left
 passed action left = record {
   entries = λ r. cond (rank_of action == r) (behind_first (left.entries r)) (left.entries r);
+  used = left.used + cond (is_none (left.entries (rank_of action))) 0 1;
   owes = left.owes || is_none (left.entries (rank_of action));
 }
 
@@ -45,6 +47,20 @@ AllFit (action ∷ g) left = Fits (left.entries (rank_of action)) action × AllF
 abbrev pub all_passed : List Action → Left → Left
 all_passed [] left = left
 all_passed (action ∷ g) left = all_passed g (passed action left)
+
+-- Of these actions, one isn't the first of its rank's entries that are left, and those before it fit. `line` is the line of
+-- that one
+pub record Misfits (g : List Action) (left : Left) (r line : ℕ) : Type 0 where
+  pub before : List Action
+  pub action : Action
+  pub after : List Action
+  pub other : Action
+  pub others : List (ℕ × Action)
+  pub is : g ≡ before ++ action ∷ after
+  pub fits : AllFit before left
+  pub by : rank_of action ≡ r
+  pub first : (all_passed before left).entries r ≡ (line, other) ∷ others
+  pub apart : action ≢ other
 
 -- the answers that are left
 abbrev pub answers_left : Left → AnswerTable
@@ -66,23 +82,13 @@ module _ (s : Setting) where
     here : {K : List Frame} {left : Left} → Goes zero K left K left
     step : {n : ℕ} {K L : List Frame} {left end : Left} → AllFit (doing K left) left → Goes n (moved K left) (all_passed (doing K left) left) L end → Goes (suc n) K left L end
 
-  -- From here the run comes to an action that isn't the first of its rank's entries that are left. `line` is the line of
-  -- that one
+  -- from here the run comes to an action that isn't the first of its rank's entries that are left
   pub record Breaks (K : List Frame) (left : Left) (r line : ℕ) : Type 0 where
     pub steps : ℕ
     pub stack : List Frame
     pub there : Left
     pub goes : Goes steps K left stack there
-    pub before : List Action
-    pub action : Action
-    pub after : List Action
-    pub other : Action
-    pub others : List (ℕ × Action)
-    pub is : doing stack there ≡ before ++ action ∷ after
-    pub fits : AllFit before there
-    pub by : rank_of action ≡ r
-    pub first : (all_passed before there).entries r ≡ (line, other) ∷ others
-    pub apart : action ≢ other
+    pub misfits : Misfits (doing stack there) there r line
 
   -- From here the run comes to a round in which no entry is used, and which begins anew at its end
   pub record Circles (K : List Frame) (left end : Left) : Type 0 where
