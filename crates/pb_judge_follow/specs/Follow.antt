@@ -32,13 +32,16 @@ abbrev pub Fits : List (ℕ × Action) → Action → Type 0
 Fits [] action = Unit {0}
 Fits (entry ∷ entries) action = entry.1 ≡ action
 
--- what is left behind an action
-abbrev pub passed : Action → Left → Left
-passed action left = record {
-  entries = λ r. cond (rank_of action == r) (behind_first (left.entries r)) (left.entries r);
-  used = left.used + cond (is_none (left.entries (rank_of action))) 0 1;
-  owes = left.owes || is_none (left.entries (rank_of action));
+-- what is left behind an action of this rank
+abbrev pub passed_by : ℕ → Left → Left
+passed_by rank left = record {
+  entries = λ r. cond (rank == r) (behind_first (left.entries r)) (left.entries r);
+  used = left.used + cond (is_none (left.entries rank)) 0 1;
+  owes = left.owes || is_none (left.entries rank);
 }
+
+abbrev pub passed : Action → Left → Left
+passed action left = passed_by (rank_of action) left
 
 abbrev pub AllFit : List Action → Left → Type 0
 AllFit [] left = Unit {0}
