@@ -1,15 +1,14 @@
 -- Linking the entries of a log, from its end on.
-use Rattle.std.proofs.Common.{◌≡◌, ◌≢◌, ℕ, zero, suc, ◌+◌, ◌-◌, ◌<◌, ◌≤◌, ◌==◌, cond, true, false, ◌⊎◌, inl, inr, List, [], ◌∷◌, length, drop, get_or, set, replicate, slice_get, Option, Some, None, refl, sym, ap, subst, ◌∙◌, arith, length-set, get_or-set_same, get_or-set_other}
+use Rattle.std.proofs.Common.{◌≡◌, ◌≢◌, ℕ, zero, suc, ◌+◌, ◌-◌, ◌<◌, ◌≤◌, cond, false, ◌⊎◌, inl, inr, List, [], ◌∷◌, length, drop, get_or, set, replicate, slice_get, Option, Some, refl, sym, ap, subst, ◌∙◌, arith, length-set, get_or-set_same, get_or-set_other}
 use Rattle.std.proofs.lemmas.Bool.{eq-eqb}
 use Rattle.std.proofs.lemmas.Option.{slice_get_within, slice_get_cases}
 use Rattle.pb_text.specs.declared.action.Action.{Action}
 use Rattle.pb_world.specs.Log.{rank_of}
-use Rattle.pb_world.specs.Sequencer.{behind_first}
 use Rattle.pb_world.proofs.Lists.{eqb_cases, not_eqb}
 use Rattle.pb_judge_ruling.specs.Ruling.{entries_of}
 use Rattle.pb_judge_ruling.specs.Laws.{HasRanks}
-use Rattle.pb_judge_follow.specs.Follow.{Left, all_of}
-use Rattle.pb_judge_lists.specs.Places.{Places, left_of, IsNext, AreLinked, count, AreKept}
+use Rattle.pb_judge_follow.specs.Follow.{all_of}
+use Rattle.pb_judge_lists.specs.Places.{left_of, IsNext, AreLinked, count, AreKept}
 
 -- ---- a place in a list
 

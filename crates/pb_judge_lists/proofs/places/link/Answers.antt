@@ -1,4 +1,4 @@
-use Rattle.std.proofs.Common.{◌≡◌, length, ap, subst, ◌∙◌, refl, arith, length-set}
+use Rattle.std.proofs.Common.{length, ap, subst, ◌∙◌, refl, arith, length-set}
 use Rattle.std.proofs.lemmas.List.{length-replicate}
 use Rattle.pb_judge_lists.specs.Places.{AreLinked}
 use Rattle.pb_judge_lists.proofs.Linking.{linked_step, linked_none}

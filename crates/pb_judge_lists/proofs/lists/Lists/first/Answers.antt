@@ -1,7 +1,7 @@
-use Rattle.std.proofs.Common.{◌≡◌, length, get_or, ap, subst, ◌∙◌, arith, slice_index_or}
+use Rattle.std.proofs.Common.{length, get_or, ap, subst, ◌∙◌, slice_index_or}
 use Rattle.pb_judge_lists.specs.Places.{left_of, Begins}
 use Rattle.pb_judge_lists.proofs.Linking.{got_or}
-use Rattle.pb_judge_lists.proofs.Passes.{begins, none_begins}
+use Rattle.pb_judge_lists.proofs.Passes.{begins}
 use Rattle.pb_judge_lists.proofs.lists.Lists.first.Goals as goal
 
 pub returns-then-at-self : goal.returns-then-at-self

@@ -1,4 +1,4 @@
-use Rattle.std.proofs.Common.{◌≡◌, length, take, drop, ◌++◌, ap₂, sym, subst, ◌∙◌, arith}
+use Rattle.std.proofs.Common.{◌≡◌, length, take, drop, ◌++◌, ap₂, sym, subst, ◌∙◌, arith, false}
 use Rattle.std.proofs.lemmas.List.{take_at}
 use Rattle.pb_judge_lists.specs.Places.{left_of, AreKept}
 use Rattle.pb_judge_lists.proofs.Linking.{left_first, kept_first}

@@ -1,7 +1,7 @@
-use Rattle.std.proofs.Common.{◌≡◌, length, get_or, ap, ◌∙◌, arith}
+use Rattle.std.proofs.Common.{length, get_or, ap, ◌∙◌}
 use Rattle.pb_judge_follow.specs.Follow.{passed_by}
 use Rattle.pb_judge_lists.specs.Places.{left_of}
-use Rattle.pb_judge_lists.proofs.Passes.{left_further, kept_further, left_owing, kept_owing}
+use Rattle.pb_judge_lists.proofs.Passes.{left_further, kept_further}
 use Rattle.pb_judge_lists.proofs.lists.Lists.pass.Goals as goal
 
 pub invariant_of-self : goal.invariant_of-self
