@@ -154,8 +154,8 @@ module _ (s : Setting) (protocol : Block) (log : List (ℕ × Action)) (end : Le
   circling : ((r line : ℕ) → IsLeastLeft end r line → IsRuling s protocol log (Beyond r line)) × (IsUsedUp end → IsRuling s protocol log Covered)
   circling = (
     λ r line least. beyond s protocol log c.steps c.stack c.there r line h
-      (record { entry = least.entry; entries = least.entries; is = sym (c.same r) ∙ least.is; least = λ p lt. sym (c.same p) ∙ least.least p lt }) circle_agrees
-      (most r (line, least.entry) least.entries (sym (c.same r) ∙ least.is)),
+        (record { entry = least.entry; entries = least.entries; is = sym (c.same r) ∙ least.is; least = λ p lt. sym (c.same p) ∙ least.least p lt }) circle_agrees
+        (most r (line, least.entry) least.entries (sym (c.same r) ∙ least.is)),
     λ up. (circle_agrees, λ r. has_all s protocol log c.steps c.stack c.there r h (sym (c.same r) ∙ up r), not_whole),
   )
 

@@ -60,10 +60,10 @@ used_one x xs left r h =
     let e = rank_recorded x.0 x.1 in
     elim (eqb_cases x.0 r) [
       | inl y ↦ ap (λ t. answers_after_all (cons_option (cond t (Some x.1) None) (of_rank r xs)) (answers_left left r)) y.1
-        ∙ ap (answers_after_all (of_rank r xs)) (after_fits x.0 x.1 (left.entries r) (subst (λ q. Fits (left.entries q) b) (e ∙ y.0) h))
-        ∙ ap (λ t. answers_after_all (of_rank r xs) (answers_in (actions_of (cond t (behind_first (left.entries r)) (left.entries r))))) (sym (ap (λ q. q == r) e ∙ y.1))
+          ∙ ap (answers_after_all (of_rank r xs)) (after_fits x.0 x.1 (left.entries r) (subst (λ q. Fits (left.entries q) b) (e ∙ y.0) h))
+          ∙ ap (λ t. answers_after_all (of_rank r xs) (answers_in (actions_of (cond t (behind_first (left.entries r)) (left.entries r))))) (sym (ap (λ q. q == r) e ∙ y.1))
       | inr y ↦ ap (λ t. answers_after_all (cons_option (cond t (Some x.1) None) (of_rank r xs)) (answers_left left r)) y.1
-        ∙ ap (λ t. answers_after_all (of_rank r xs) (answers_in (actions_of (cond t (behind_first (left.entries r)) (left.entries r))))) (sym (ap (λ q. q == r) e ∙ y.1))
+          ∙ ap (λ t. answers_after_all (of_rank r xs) (answers_in (actions_of (cond t (behind_first (left.entries r)) (left.entries r))))) (sym (ap (λ q. q == r) e ∙ y.1))
     ]
 
 pub used : (xs : List (ℕ × W.Action)) (left : Left) (r : ℕ) → AllFit (log_of xs) left → answers_after_all (of_rank r xs) (answers_left left r) ≡ answers_left (all_passed (log_of xs) left) r

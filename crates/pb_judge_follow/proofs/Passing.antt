@@ -66,7 +66,7 @@ pub left_is : (g : List Action) (left : Left) (r : ℕ) → (all_passed g left).
 left_is [] left r = refl
 left_is (a ∷ g) left r = elim (eqb_cases (rank_of a) r) [
   | inl y ↦ left_is g (passed a left) r ∙ ap (drop (length (log_of_rank r g))) (entries_same a left r y.1) ∙ drop_first (length (log_of_rank r g)) (left.entries r)
-  ∙ ap (λ xs. drop (length xs) (left.entries r)) (sym (rank_same a g r y.1))
+      ∙ ap (λ xs. drop (length xs) (left.entries r)) (sym (rank_same a g r y.1))
   | inr y ↦ left_is g (passed a left) r ∙ ap (drop (length (log_of_rank r g))) (entries_other a left r y.1) ∙ ap (λ xs. drop (length xs) (left.entries r)) (sym (rank_other a g r y.1))
 ]
 
@@ -82,7 +82,7 @@ pub fits_agree : (g : List Action) (left : Left) (r k : ℕ) (x y : Action) → 
 fits_agree [] left r k x y f h i = absurd cc
 fits_agree (a ∷ g) left r k x y f h i = elim (eqb_cases (rank_of a) r) [
   | inl t ↦ one_place (left.entries r) (log_of_rank r g) a k x y (subst (λ q. Fits (left.entries q) a) t.0 f.0) (ap (λ xs. slice_get xs k) (sym (rank_same a g r t.1)) ∙ h) i
-    (λ j u v. fits_agree g (passed a left) r j x y f.1 u (ap (λ es. slice_get (actions_of es) j) (entries_same a left r t.1) ∙ v))
+      (λ j u v. fits_agree g (passed a left) r j x y f.1 u (ap (λ es. slice_get (actions_of es) j) (entries_same a left r t.1) ∙ v))
   | inr t ↦ fits_agree g (passed a left) r k x y f.1 (ap (λ xs. slice_get xs k) (sym (rank_other a g r t.1)) ∙ h) (ap (λ es. slice_get (actions_of es) k) (entries_other a left r t.1) ∙ i)
 ]
 
@@ -130,7 +130,7 @@ owed_some (a ∷ g) left o h = go (left.entries (rank_of a)) refl (λ p. owed_so
     go [] e more = (
       rank_of a,
       let u = ap length e in
-      let v = ap length (rank_same a g (rank_of a) (eq-eqb (rank_of a) (rank_of a) refl)) in omega (arith, u, v),
+          let v = ap length (rank_same a g (rank_of a) (eq-eqb (rank_of a) (rank_of a) refl)) in omega (arith, u, v),
     )
     go (x ∷ es) e more = longer (more (ap₂ (λ p q. p || q) o (ap is_none e)))
 

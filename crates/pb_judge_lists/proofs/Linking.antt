@@ -77,7 +77,7 @@ module _ (log : List (ℕ × Action)) (k at : ℕ) (e : ℕ × Action) (next aft
       let lt' : r < length next = omega (arith, lt, size) in
       elim (eqb_cases rank r) [
         | inl t ↦ subst (λ q. IsNext log r at q) (sym (ap (λ j. get_or new_next j (length log)) (sym t.0) ∙ get_or-set_same next rank at (length log) few))
-          (record { own = λ x i. (let same : e ≡ x = some (sym here ∙ i) in ap (λ (y : ℕ × Action). rank_of y.1) (sym same) ∙ t.0); first = refl })
+            (record { own = λ x i. (let same : e ≡ x = some (sym here ∙ i) in ap (λ (y : ℕ × Action). rank_of y.1) (sym same) ∙ t.0); first = refl })
         | inr t ↦ subst (λ q. IsNext log r at q) (sym (get_or-set_other next rank r at (length log) (λ z. t.0 (sym z)))) (skips r lt' t.0)
       ]
     where
@@ -113,10 +113,10 @@ get_none (suc many) (suc r) d = get_none many r d
 pub linked_none : (log : List (ℕ × Action)) (next after : List ℕ) → next ≡ replicate (length next) (length log) → AreLinked log (length log) next after
 linked_none log next after h = record {
   nexts = λ r lt. (let e : get_or next r (length log) ≡ length log = ap (λ l. get_or l r (length log)) h ∙ get_none (length next) r (length log) in
-    record {
-      own = λ x i. (let within = slice_get_within log _ x i in absurd (omega (arith, within, e)));
-      first = ap (λ q. entries_of r (drop q log)) e;
-    });
+      record {
+        own = λ x i. (let within = slice_get_within log _ x i in absurd (omega (arith, within, e)));
+        first = ap (λ q. entries_of r (drop q log)) e;
+      });
   afters = λ q x le i. (let within = slice_get_within log q x i in absurd (omega (arith, within, le)));
 }
 
@@ -181,8 +181,8 @@ kept_first total log next after size ranks h = record {
   own = λ r e lt i. (h.nexts r lt).own e i;
   afters = λ q e i. h.afters q e (omega arith) i;
   used = (let c = ap (λ l. count (length next) l.entries) (left_first total log next after size ranks h) in
-    let d = ap (λ n. count n (λ r. entries_of r log)) size in
-    let a = count_all total log ranks in omega (arith, c, d, a));
+      let d = ap (λ n. count n (λ r. entries_of r log)) size in
+      let a = count_all total log ranks in omega (arith, c, d, a));
 }
 
 pub got_or : {A : Type 0} (xs : List A) (k : ℕ) (d : A) → k < length xs → slice_get xs k ≡ Some (get_or xs k d)
@@ -208,4 +208,4 @@ linked_step log total k rank d next after some most own size ranks long h =
     let value : get_or next rank 0 ≡ get_or next (rank_of e.1) (length log) = any_default next rank 0 (length log) few' ∙ ap (λ r. get_or next r (length log)) own in
     subst (λ r. AreLinked log at (set next r at) (set after at (get_or next rank 0))) (sym own)
     (subst (λ v. AreLinked log at (set next (rank_of e.1) at) (set after at v)) (sym value)
-      (linked_more log k at e next after (omega (arith, some)) here few long h))
+    (linked_more log k at e next after (omega (arith, some)) here few long h))

@@ -139,8 +139,8 @@ module _ (p : Places) (kept : AreKept p) (rank at : ℕ) (is : at ≡ get_or p.n
       own = own_further;
       afters = kept.afters;
       used = (let c = counts in
-        let k = kept.used in
-        let size = ap (λ n. count n (left_of further).entries) (length-set p.next rank q) in omega (arith, c, k, size));
+          let k = kept.used in
+          let size = ap (λ n. count n (left_of further).entries) (length-set p.next rank q) in omega (arith, c, k, size));
     }
 
 -- ---- what is left over

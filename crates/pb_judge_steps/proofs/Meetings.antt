@@ -106,8 +106,7 @@ module _ {X : Type 0} (shows : Action → Option X) (make : X → Action) (shown
   other_answer left rank entry x y (Some d) mid e f b none m =
       let o = first_of (make x) left d.rank d.line m in
       let same : rank ≡ d.rank = sym e ∙ o.4 in
-      let head : entry.1 ≡ o.0 = heads (sym b.1 ∙ ap (λ r. left.entries r) same ∙ o.2) in
-      (
+      let head : entry.1 ≡ o.0 = heads (sym b.1 ∙ ap (λ r. left.entries r) same ∙ o.2) in (
         met_differs (make y) rank d.line left mid d (sym same) refl f (o.0, o.1, ap (λ r. left.entries r) same ∙ o.2, λ h. apart (sym none ∙ ap shows (head ∙ sym h) ∙ shown y)),
         λ h. some h,
       )

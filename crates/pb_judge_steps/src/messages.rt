@@ -9,13 +9,7 @@ use crate::meeting::{Difference, meet};
 use pb_judge_lists::Lists;
 
 /// A message with so many words: its send, and then its receive with the same words.
-pub fn message(
-    lists: &mut Lists,
-    from: u32,
-    to: u32,
-    label: u32,
-    size: u32,
-) -> Option<Difference>
+pub fn message(lists: &mut Lists, from: u32, to: u32, label: u32, size: u32) -> Option<Difference>
     ensures { Met (E.Send from to label (words_sent (left_of lists.old) from size) ∷ E.Recv to from label (words_sent (left_of lists.old) from size) ∷ []) (left_of lists.old) result (left_of lists.new) }
 {
     let words = first_words(lists.first(from), size);

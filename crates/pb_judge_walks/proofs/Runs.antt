@@ -22,7 +22,7 @@ module _ (s : Setting) (protocol : Block) (w : List (ℕ × W.Action)) (log : Li
   covered = (
     m,
     subst (λ l. LogCovers (log_of (seq s protocol (log_answers (actions_of log)) m)) l) (sym is)
-    (subst (λ (A : AnswerTable). LogCovers (log_of (seq s protocol A m)) (log_of w)) same_answers (log_laws.covers (seq s protocol (answers_of w) m) w covers)),
+        (subst (λ (A : AnswerTable). LogCovers (log_of (seq s protocol A m)) (log_of w)) same_answers (log_laws.covers (seq s protocol (answers_of w) m) w covers)),
   )
 
   ruled : (x : Ruling) → IsRuling s protocol log x → (x ≡ Whole) ⊎ (x ≡ Covered)

@@ -11,7 +11,7 @@ invariant_of-result c =
     let size : length c.link.new.next ≡ c.args.total = omega (arith, c.link.ensures.next, c.deref_mut.ensures.len, c.in_ok-next.ensures.len) in
     subst (λ xs. AreKept (record { log = c.args.log.now; next = xs; after = take c.in_ok-after.after.len (c.link.new.after ++ drop (length c.link.new.after) c.in_ok-after.after.items); total = c.args.total; used = 0; owes = false })) (sym n)
     (subst (λ ys. AreKept (record { log = c.args.log.now; next = c.link.new.next; after = ys; total = c.args.total; used = 0; owes = false })) (sym a)
-      (kept_first c.args.total c.args.log.now c.link.new.next c.link.new.after size c.requires c.link.ensures.linked))
+    (kept_first c.args.total c.args.log.now c.link.new.next c.link.new.after size c.requires c.link.ensures.linked))
 
 pub returns : goal.returns
 returns c =
