@@ -1,6 +1,6 @@
 -- What can end of a core is what can end of its flat protocol.
-use Rattle.std.proofs.Common.{◌≡◌, ℕ, zero, suc, cond, Bool, true, false, List, [], ◌∷◌, refl, sym, ap, ap₂, ◌∙◌, ℤ, pos}
-use Rattle.std.specs.Prelude.{◌&&◌, ◌||◌, not, nat_lt}
+use Rattle.std.proofs.Common.{◌≡◌, ℕ, suc, cond, Bool, true, false, List, [], ◌∷◌, refl, ap, ap₂, ◌∙◌, ℤ}
+use Rattle.std.specs.Prelude.{◌&&◌, ◌||◌, nat_lt}
 use Rattle.std.proofs.lemmas.Bool.{and_parts}
 use Rattle.pb_affine.specs.Values.{value, range}
 use Rattle.pb_core_language.specs.declared.protocol.CoreRole.{CoreRole}
@@ -9,7 +9,7 @@ use Rattle.pb_core_language.specs.Flat as F
 use Rattle.pb_core_language.specs.Flat.{Block, stop, can_end, some_can_end}
 use Rattle.pb_core_language.specs.FlatOf.{for_each, flat_stmt, flat_block, flat_branches}
 use Rattle.pb_core_language.specs.Sound.{Rows, is_item, is_end, has_branch, is_stmt, is_block, are_branches}
-use Rattle.pb_judge_endings.specs.Endings.{ends, all_end, some_ends, count, ending, first_ending, EndingsAreFlat}
+use Rattle.pb_judge_endings.specs.Endings.{ends, all_end, some_ends, count, ending, EndingsAreFlat}
 
 and_true : (b : Bool) → (b && true) ≡ b
 and_true true = refl

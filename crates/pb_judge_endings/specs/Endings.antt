@@ -1,6 +1,6 @@
 -- What of a core can end: a choice if some branch can, a loop if its body can, and a continue never. The items of a foreach
 -- can end.
-use Rattle.std.specs.Prelude.{◌≡◌, ℕ, zero, suc, cond, Bool, true, false, ◌&&◌, ◌||◌, List, ℤ, nat_lt}
+use Rattle.std.specs.Prelude.{◌≡◌, ℕ, suc, cond, Bool, true, false, ◌&&◌, ◌||◌, List, ℤ, nat_lt}
 use Rattle.pb_core_language.specs.declared.protocol.CoreRole.{CoreRole}
 use Rattle.pb_core_language.specs.Tree.{StmtTree, message, foreach, loop, again, choice, run, barrier, broadcast, reduce, allreduce, BlockTree, nothing, more, BranchTrees, no_branch, branch}
 use Rattle.pb_core_language.specs.Flat as F
