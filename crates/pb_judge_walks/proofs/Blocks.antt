@@ -1,15 +1,15 @@
 -- Walks one behind the other, and in a choice.
-use Rattle.std.proofs.Common.{◌≡◌, ◌≢◌, ℕ, zero, suc, ◌+◌, List, [], ◌∷◌, refl, sym, ap, ap₂, subst, ◌∙◌, arith}
+use Rattle.std.proofs.Common.{◌≡◌, ℕ, suc, ◌+◌, List, [], ◌∷◌, refl, sym, ap, subst, ◌∙◌, arith}
 use Rattle.pb_text.specs.declared.action.Action.{Action}
 use Rattle.pb_text.specs.declared.action.Action.TheVariants as E
-use Rattle.pb_core_language.specs.Flat.{Origin, Block, stop, choice, looped, again, Branches, branch_at}
+use Rattle.pb_core_language.specs.Flat.{Origin, Block, stop, choice, again, Branches, branch_at}
 use Rattle.pb_core_language.specs.FlatOf.{between}
-use Rattle.pb_core_language.specs.Run.{Setting, Opener, Chosen, Body, Frame, back, back_over, branch_now}
+use Rattle.pb_core_language.specs.Run.{Setting, Opener, Chosen, Frame, back, back_over, branch_now}
 use Rattle.pb_judge_follow.specs.Follow.{Left, AllFit, all_passed, Misfits, answers_left, doing, moved, Goes, here, step, Breaks, Circles}
 use Rattle.pb_judge_follow.proofs.Following.{goes_then}
 use Rattle.pb_judge_walks.specs.declared.flow.Flow.{Flow}
 use Rattle.pb_judge_walks.specs.declared.flow.Flow.TheVariants.{Passed, Back, Differs, Endless}
-use Rattle.pb_judge_walks.specs.Walks.{frame, Anywhere, Walked, IsStop}
+use Rattle.pb_judge_walks.specs.Walks.{frame, Walked, IsStop}
 use Rattle.pb_judge_walks.specs.Laws.{Does, StepsAreWalked, ChoicesAreWalked}
 
 module _ (s : Setting) where

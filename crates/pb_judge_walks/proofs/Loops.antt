@@ -1,7 +1,6 @@
 -- Walks round by round.
-use Rattle.std.proofs.Common.{◌≡◌, ◌≢◌, ℕ, zero, suc, ◌+◌, Bool, true, false, List, [], ◌∷◌, refl, sym, ap, ap₂, subst, ◌∙◌, arith, if◌then◌else◌}
+use Rattle.std.proofs.Common.{◌≡◌, ◌≢◌, ℕ, suc, true, false, List, ◌∷◌, refl, ap, subst, arith, if◌then◌else◌}
 use Rattle.std.specs.Prelude.{nat_eq}
-use Rattle.std.proofs.lemmas.Bool.{cases_Bool}
 use Rattle.std.proofs.lemmas.Bool.Decides.{nat_tests}
 use Rattle.pb_core_language.specs.Flat.{Origin, Block, stop, looped}
 use Rattle.pb_core_language.specs.FlatOf.{between}
@@ -10,7 +9,7 @@ use Rattle.pb_judge_follow.specs.Follow.{Left, Goes}
 use Rattle.pb_judge_follow.proofs.Following.{goes_then, goes_same}
 use Rattle.pb_judge_walks.specs.declared.flow.Flow.{Flow}
 use Rattle.pb_judge_walks.specs.declared.flow.Flow.TheVariants.{Passed, Back, Differs, Endless}
-use Rattle.pb_judge_walks.specs.Walks.{frame, Anywhere, Walked, AtRound}
+use Rattle.pb_judge_walks.specs.Walks.{frame, Walked, AtRound}
 use Rattle.pb_judge_walks.specs.Laws.{LoopsAreWalked}
 use Rattle.pb_judge_walks.proofs.Blocks.{silent, then_more, breaks_behind, circles_behind}
 

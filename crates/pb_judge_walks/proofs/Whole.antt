@@ -1,5 +1,5 @@
 -- The end of the walk over a whole protocol.
-use Rattle.std.proofs.Common.{◌≡◌, ℕ, suc, List, [], ◌∷◌, refl}
+use Rattle.std.proofs.Common.{ℕ, suc, List, [], ◌∷◌, refl}
 use Rattle.pb_text.specs.declared.action.Action.{Action}
 use Rattle.pb_core_language.specs.Flat.{Block, stop}
 use Rattle.pb_core_language.specs.Run.{Setting, Top}
@@ -7,10 +7,9 @@ use Rattle.pb_judge_follow.specs.Follow.{Left, all_of, first_stack, Goes}
 use Rattle.pb_judge_follow.proofs.Following.{goes_then}
 use Rattle.pb_judge_follow.proofs.Rules.{breaks_rule, end_rules}
 use Rattle.pb_judge_follow.proofs.Circling.{circle_rules}
-use Rattle.pb_judge_walks.specs.declared.flow.Flow.{Flow}
 use Rattle.pb_judge_walks.specs.declared.flow.Flow.TheVariants.{Passed, Back, Differs, Endless}
-use Rattle.pb_judge_walks.specs.Walks.{frame, Walked}
-use Rattle.pb_judge_walks.specs.Laws.{Rulings, EndlessRulings, IsRuledBy, WalksAreRuled}
+use Rattle.pb_judge_walks.specs.Walks.{frame}
+use Rattle.pb_judge_walks.specs.Laws.{Rulings, WalksAreRuled}
 use Rattle.pb_judge_walks.proofs.Blocks.{silent}
 
 ended : (s : Setting) (protocol : Block) (log : List (ℕ × Action)) (n : ℕ) (left : Left) → Goes s n (first_stack protocol) (all_of log) [] left → Rulings s protocol log left

@@ -3,7 +3,7 @@
 -- `meaning` puts the statement or the block before what is done after it. `opens` has the ids of the loops around, the
 -- innermost first.
 use Rattle.std.specs.Prelude.{ℕ, suc, List, ◌∷◌}
-use Rattle.pb_core_language.specs.Flat.{Block, stop}
+use Rattle.pb_core_language.specs.Flat.{Block}
 use Rattle.pb_core_language.specs.FlatOf.{between}
 use Rattle.pb_core_language.specs.Run.{Setting, Opener, Body, Frame, back, back_over}
 use Rattle.pb_judge_follow.specs.Follow.{Left, Goes, Breaks, Circles}
