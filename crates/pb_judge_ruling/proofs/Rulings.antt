@@ -16,7 +16,7 @@ use Rattle.pb_judge_ruling.specs.declared.ruling.Ruling.{Ruling}
 use Rattle.pb_judge_ruling.specs.declared.ruling.Ruling.TheVariants.{Whole, Covered, Differs, Beyond}
 use Rattle.pb_judge_ruling.proofs.Runs.{entry_action, longer, rank_longer, either, ended_longest, same_place}
 
-some_same : {A : Type 0} {a b : A} → ◌≡◌ {A = Option A} (Some a) (Some b) → a ≡ b
+pub some_same : {A : Type 0} {a b : A} → ◌≡◌ {A = Option A} (Some a) (Some b) → a ≡ b
 some_same e = cc
 
 -- the rank's own action stands behind what it did before
@@ -28,7 +28,7 @@ own_place before after a =
     ∙ get_end (log_of_rank r before) a (log_of_rank r after)
 
 -- a list that begins one that agrees, agrees
-agrees_front : (xs ys w : List Action) → IsPrefixOf xs ys → Agrees ys w → Agrees xs w
+pub agrees_front : (xs ys w : List Action) → IsPrefixOf xs ys → Agrees ys w → Agrees xs w
 agrees_front xs ys w p h r k x y a b = h r k x y (prefix_get _ _ k x (prefix_filter (entry_by r) xs ys p) a) b
 
 -- a list that agrees with another and isn't shorter goes on where that ends
@@ -130,7 +130,7 @@ module _ (s : Setting) (protocol : Block) (log : List (ℕ × Action)) where
       let pair : ◌≡◌ {A = ℕ × Action} (line, a.other) (other, b.other) = some_same (sym a.there ∙ ap (slice_get (entries_of r log)) many ∙ b.there) in
       ap (λ (x : ℕ × Action). x.0) pair
 
-  order : (r q : ℕ) → (r < q) ⊎ ((r ≡ q) ⊎ (q < r))
+  pub order : (r q : ℕ) → (r < q) ⊎ ((r ≡ q) ⊎ (q < r))
   order r q = grind arith
 
   one_beyond : (r q line other : ℕ) → GoesBeyond s protocol log r line → ((p : ℕ) → p < r → HasAll s protocol log p) → GoesBeyond s protocol log q other → ((p : ℕ) → p < q → HasAll s protocol log p) → Beyond r line ≡ Beyond q other

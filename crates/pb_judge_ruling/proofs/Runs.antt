@@ -39,7 +39,7 @@ stopped s zero K A e = refl
 stopped s (suc m) [] A e = stopped s m [] (next s (record { stack = []; left = A })).left refl
 stopped s (suc m) (f ∷ K) A e = absurd cc
 
-split : (s : Setting) (m more : ℕ) (q : State) → emitted (emit s) (next s) (m + more) q ≡ emitted (emit s) (next s) m q ++ emitted (emit s) (next s) more (state_after (emit s) (next s) m q)
+pub split : (s : Setting) (m more : ℕ) (q : State) → emitted (emit s) (next s) (m + more) q ≡ emitted (emit s) (next s) m q ++ emitted (emit s) (next s) more (state_after (emit s) (next s) m q)
 split s zero more q = let e : 0 + more ≡ more = omega arith in ap (λ k. emitted (emit s) (next s) k q) e
 split s (suc m) more q =
     let e : suc m + more ≡ suc (m + more) = omega arith in

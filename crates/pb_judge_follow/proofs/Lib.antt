@@ -1,0 +1,4 @@
+pub mod Circling
+pub mod Following
+pub mod Passing
+pub mod Rules
