@@ -1,0 +1,4 @@
+pub mod Counts
+pub mod Clipped
+pub mod Adding
+pub mod Merging
