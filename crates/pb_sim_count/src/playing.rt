@@ -43,11 +43,12 @@ fn event<A: Fn(u64, u32, u64) -> u32 + Drop>(
     }
     let rank = picks.next().among(ready);
     match sim.step(alloc, rank, Mode::Eager) {
-        Ok(_) => Ok(()),
+        Ok(_) => {}
         Err(StepFault::NotReady) => unreachable!(),
-        Err(StepFault::Full) => Err(Stop::Full),
-        Err(StepFault::NoMemory) => Err(Stop::NoMemory),
+        Err(StepFault::Full) => return Err(Stop::Full),
+        Err(StepFault::NoMemory) => return Err(Stop::NoMemory),
     }
+    Ok(())
 }
 
 /// Makes the events of a seed, as many as there are, and at most 1,000,000.
