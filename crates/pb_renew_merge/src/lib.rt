@@ -10,6 +10,8 @@ mod lost;
 mod made;
 mod marker;
 mod renewed;
+#[cfg(test)]
+mod tests;
 
 pub use left::left_for;
 pub use pb_kernels::{CTree, KName, KernelFault, KernelFile, NoMemory};

@@ -8,6 +8,8 @@ mod fault;
 mod names;
 mod put;
 mod steps;
+#[cfg(test)]
+mod tests;
 
 pub use fault::PutFault;
 pub use names::left_name;

@@ -10,6 +10,8 @@ mod host;
 mod mem_files;
 mod mem_store;
 mod store;
+#[cfg(test)]
+mod tests;
 mod whole;
 
 pub use host::HostStore;
