@@ -1,0 +1,4 @@
+pub mod Left
+pub mod Lost
+pub mod Renewed
+pub mod Texts

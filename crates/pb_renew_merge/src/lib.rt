@@ -1,0 +1,18 @@
+//! Renewing a C text: what the bodies of an old text become in the text of another tree.
+//!
+//! `renew_text` takes the old text as a kernel file. The new text has each body that still has a function, and default bodies
+//! for new functions; `gone` are the names of the bodies that it lacks. `left_for` puts these behind the bytes of a kernel
+//! file. Both read again what they made, and each old body is looked up there.
+#![tactic(auto)]
+
+mod left;
+mod lost;
+mod made;
+mod marker;
+mod renewed;
+#[cfg(test)]
+mod tests;
+
+pub use left::left_for;
+pub use pb_kernels::{CTree, KName, KernelFault, KernelFile, NoMemory};
+pub use renewed::{Renewed, renew_text};

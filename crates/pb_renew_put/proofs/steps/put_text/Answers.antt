@@ -1,0 +1,15 @@
+use Rattle.std.proofs.Common.{◌≡◌}
+use Rattle.pb_renew_put.proofs.Chains.{err_then, ok_then, on_err}
+use Rattle.pb_renew_put.proofs.Puts.{fresh_kept, text_put}
+use Rattle.pb_renew_put.proofs.steps.put_text.Goals as goal
+
+pub returns-in_err-write_new-clause-kept : goal.returns-in_err-write_new-clause-kept
+returns-in_err-write_new-clause-kept g c = on_err _ (fresh_kept _ _ _ _ c.requires _ _ c.write_new.ensures.others)
+
+pub returns-clause-done : goal.returns-clause-done
+returns-clause-done g c =
+    ok_then c.rename.result (text_put _ _ _ _ c.requires _ _ _ _ c.in_ok-write_new.ensures.whole c.write_new.ensures.others) c.rename.ensures.renamed
+
+pub returns-clause-kept : goal.returns-clause-kept
+returns-clause-kept g c =
+    err_then c.rename.result (λ e. rw e (fresh_kept _ _ _ _ c.requires _ _ c.write_new.ensures.others)) c.rename.ensures.kept

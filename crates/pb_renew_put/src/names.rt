@@ -1,0 +1,37 @@
+//! The names of the files beside OUT.
+
+ghost use Rattle.std.specs.Prelude.{◌≡◌, ◌++◌, IfOk};
+ghost use Rattle.std.specs.String.{string_bytes};
+ghost use Rattle.pb_renew_put.specs.Names.{left_name, new_name, spare_name};
+
+use crate::NoMemory;
+use std::alloc::Global;
+
+/// The name of OUT.left.
+pub fn left_name(alloc: Global, out: &str) -> Result<String, NoMemory>
+    ensures { IfOk result (λ name. string_bytes name ≡ left_name out.now) }
+{
+    joined(alloc, out, ".left")
+}
+
+/// The name of a new OUT, before it has its own.
+pub fn new_name(alloc: Global, out: &str) -> Result<String, NoMemory>
+    ensures { IfOk result (λ name. string_bytes name ≡ new_name out.now) }
+{
+    joined(alloc, out, ".new")
+}
+
+/// The name of a new OUT.left, before it has its own.
+pub fn spare_name(alloc: Global, out: &str) -> Result<String, NoMemory>
+    ensures { IfOk result (λ name. string_bytes name ≡ spare_name out.now) }
+{
+    joined(alloc, out, ".left.new")
+}
+
+fn joined(alloc: Global, name: &str, ending: &str) -> Result<String, NoMemory>
+    ensures { IfOk result (λ joined. string_bytes joined ≡ name.now ++ ending.now) }
+{
+    let mut joined = String::from_str(alloc, name)?;
+    joined.push_str(ending)?;
+    Ok(joined)
+}

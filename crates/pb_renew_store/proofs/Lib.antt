@@ -1,0 +1,4 @@
+pub mod Files
+pub mod Names
+pub mod Retained
+pub mod Steps
