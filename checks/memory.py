@@ -33,7 +33,8 @@ class Run:
 
     def answer(self, refused):
         said = subprocess.run(self.words, capture_output=True, timeout=SECONDS, env={"LD_PRELOAD": self.library, **refused})
-        return (said.returncode, said.stdout), int(said.stderr or 0)
+        # the last line is the library's count, behind what the program tells a person
+        return (said.returncode, said.stdout), int((said.stderr.split() or [0])[-1])
 
     def outcome(self, refused):
         """How a run ends in which allocations are refused; None where it ends as it must not."""
