@@ -102,7 +102,7 @@ program() {
         return 0
     fi
     folder=$(store) || return 1
-    say "this program isn't proved, and is built first, in a minute or two; $(prove_words) makes the proved one"
+    say "this program isn't proved, and is built first, in about three minutes; $(prove_words) makes the proved one"
     (build "$folder" "$name") 9>"$folder/lock" && kept "$name" && return 0
     say "the program couldn't be built"
     return 1
