@@ -15,6 +15,7 @@ use Rattle.pb_compile.specs.declared.verdict.Verdict.{Verdict}
 use Rattle.pb_cli_verdict.specs.Refusals.{refusal_of}
 use Rattle.pb_cli_status.specs.Lines.{line_of, status_of}
 use Rattle.pb_cli_status.specs.Written.{Says}
+use Rattle.pb_cli_status.specs.declared.refusal.Refusal.{Refusal}
 use Rattle.pb_cli_status.specs.declared.refusal.Refusal.TheVariants as refusal
 use Rattle.pb_cli_status.specs.declared.status.Status.{Status}
 use Rattle.pb_cli_status.specs.declared.status.Status.TheVariants as S
@@ -38,6 +39,13 @@ most_bytes = 1048576
 -- one of the trees that may be printed for it
 abbrev pub IsTreeOf : ℕ → CTree → Type 0
 IsTreeOf count tree = (p : Protocol) × IsCompiled (bytes_of count) p tree
+
+-- why there is none: memory is wanting, there are more bytes than a file may have, or else the verdict on them
+abbrev pub IsDenied : ℕ → Refusal → Type 0
+IsDenied count why =
+    (why ≡ refusal.NoMemory)
+    ⊎ (((most_bytes < length (bytes_of count)) × (why ≡ refusal.FileBytes))
+    ⊎ ((v : Verdict) × IsVerdict (bytes_of count) v × (why ≡ refusal_of v)))
 
 -- its seven lines
 abbrev pub summary : ℕ → Counts → List ℕ

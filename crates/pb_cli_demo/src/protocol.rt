@@ -1,8 +1,7 @@
 //! The C tree of the demo protocol.
 
-ghost use Rattle.std.specs.Prelude.{◌≡◌, ℕ, IfOk, IfErr};
-ghost use Rattle.pb_cli_status.specs.Lines.{line_of, status_of};
-ghost use Rattle.pb_cli_demo.specs.Demo.{IsReply, IsTreeOf, bytes_of};
+ghost use Rattle.std.specs.Prelude.{◌≡◌, IfOk, IfErr};
+ghost use Rattle.pb_cli_demo.specs.Demo.{IsDenied, IsTreeOf, bytes_of};
 
 use pb_cli_status::Refusal;
 use pb_cli_verdict::refusal_of;
@@ -23,10 +22,10 @@ fn bytes_of(alloc: Global, count: u32) -> Result<Vec<u8>, NoMemory>
 }
 
 /// The tree of the C text of the protocol of so many statements, or why there is none.
-#[tactic(auto, using(crate::proofs::Replies::long, crate::proofs::Replies::told, crate::proofs::Replies::compiled))]
+#[tactic(auto, using(crate::proofs::Replies::no_room, crate::proofs::Replies::long, crate::proofs::Replies::told, crate::proofs::Replies::compiled))]
 pub fn tree_of(alloc: Global, count: u32) -> Result<CTree, Refusal>
     ensures tree { IfOk result (IsTreeOf count) }
-    ensures denied { IfErr result (λ why. (post : ℕ → ℕ → ℕ → Type 0) → IsReply post count (status_of why) (line_of why)) }
+    ensures denied { IfErr result (IsDenied count) }
 {
     let bytes = match bytes_of(alloc, count) {
         Ok(bytes) => bytes,

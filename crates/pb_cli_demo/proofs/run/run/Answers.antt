@@ -2,6 +2,7 @@ use Rattle.std.proofs.Common.{sym, subst}
 use Rattle.std.specs.Prelude.{IfOk, IfErr}
 use Rattle.pb_cli_status.specs.Lines.{line_of, status_of}
 use Rattle.pb_cli_demo.specs.Demo.{HasCounts, IsReply, IsTreeOf}
+use Rattle.pb_cli_demo.proofs.Replies.{treeless}
 use Rattle.pb_cli_demo.proofs.run.run.Goals as goal
 
 pub simulated-requires-clause-compiled : goal.simulated-requires-clause-compiled
@@ -14,3 +15,6 @@ returns-in-Ok-clause-counts g c =
 pub returns-in-Ok-clause-denied : goal.returns-in-Ok-clause-denied
 returns-in-Ok-clause-denied g c =
     subst (λ s. IfErr c.simulated.result (λ why. IsReply (λ r k w. g.A.Fn.post c.args.answers (s, (r, (k, tt))) w) s (status_of why) (line_of why))) c.from.ensures c.simulated.ensures.denied
+
+pub returns-in-Err-clause-denied : goal.returns-in-Err-clause-denied
+returns-in-Err-clause-denied g c = treeless (λ r k w. g.A.Fn.post c.args.answers (c.args.count, (r, (k, tt))) w) c.args.count c.in-Err.why c.in-Err.ensures.denied
