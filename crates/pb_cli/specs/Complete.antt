@@ -11,7 +11,6 @@ use Rattle.pb_cli_status.specs.declared.status.Status.TheVariants as S
 use Rattle.pb_compile.specs.Verdict.{IsAcceptedAs}
 use Rattle.pb_sched.specs.Outcomes.{IsSchedule}
 use Rattle.pb_sched.specs.declared.schedule.Turn.{Turn}
-use Rattle.pb_cli_simulate.specs.Commands as T
 use Rattle.pb_cli_simulate.specs.Sources.{IsTextOf}
 use Rattle.pb_cli_simulate.specs.Replies.{Starts}
 use Rattle.pb_kernels.specs.declared.file.NamedBody.{NamedBody}
