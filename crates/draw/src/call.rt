@@ -1,6 +1,6 @@
 //! The whole program.
 
-ghost use Rattle.std.specs.Prelude.{◌≡◌};
+ghost use Rattle.std.specs.Prelude.{◌≡◌, ◌≤◌, length};
 ghost use Rattle.pb_io.specs.Faults.{Rose};
 
 use crate::fault::{Fault, NO_MEMORY};
@@ -90,7 +90,9 @@ fn answer<F: Folder>(
 }
 
 /// The picture of the log in the bytes of a file.
-fn answer_of(alloc: Global, bytes: &[u8], request: &Request<'_>) -> Result<Drawn, Fault> {
+fn answer_of(alloc: Global, bytes: &[u8], request: &Request<'_>) -> Result<Drawn, Fault>
+    requires { length bytes.now ≤ MOST_TEXT_BYTES }
+{
     let log = read_log(alloc, bytes)?;
     let times = timed(alloc, &log.entries)?;
     let sums = summed(alloc, &log.entries, &times, log.names.len())?;
