@@ -70,7 +70,7 @@ class Room:
         status, last, words = case
         with tempfile.TemporaryFile() as out:
             try:
-                code = subprocess.run(words, stdout=out, timeout=SECONDS).returncode
+                code = subprocess.run(words, stdout=out, stderr=subprocess.DEVNULL, timeout=SECONDS).returncode
             except subprocess.TimeoutExpired:
                 return f"{words[1:]}: no answer in {SECONDS} seconds"
             out.seek(max(0, out.tell() - 4096))

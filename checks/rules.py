@@ -218,7 +218,7 @@ def difference(program, path, row):
     path.write_text(text)
     for command in COMMANDS:
         try:
-            done = subprocess.run([program, command, path], stdout=subprocess.PIPE, text=True, timeout=SECONDS)
+            done = subprocess.run([program, command, path], stdout=subprocess.PIPE, stderr=subprocess.DEVNULL, text=True, timeout=SECONDS)
         except subprocess.TimeoutExpired:
             return f"{command} {row}: no answer in {SECONDS} seconds"
         got = (done.returncode, done.stdout)

@@ -48,7 +48,7 @@ def difference(program, path, name, data):
     path.write_bytes(data)
     wanted = answer(data)
     try:
-        done = subprocess.run([program, "gen", path], stdout=subprocess.PIPE, timeout=SECONDS)
+        done = subprocess.run([program, "gen", path], stdout=subprocess.PIPE, stderr=subprocess.DEVNULL, timeout=SECONDS)
     except subprocess.TimeoutExpired:
         return f"{name}: no answer in {SECONDS} seconds"
     code, out = done.returncode, done.stdout
