@@ -168,7 +168,7 @@ fn made(alloc: Global, seed: u32) -> Result<Vec<Entry>, NoMemory> {
 fn done(rank: u32, deed: Deed, name: u32) -> Entry {
     Entry {
         step: Step { rank, deed, name },
-        words: 1 + rank,
+        words: rank.saturating_add(1),
         start: 0,
     }
 }
