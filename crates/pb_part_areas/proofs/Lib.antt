@@ -2,6 +2,7 @@ pub mod Covers
 pub mod Bools
 pub mod Meets
 pub mod Parts
+pub mod Wide
 pub mod Cuts
 pub mod Joins
 pub mod Lists

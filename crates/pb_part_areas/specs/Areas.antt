@@ -1,5 +1,6 @@
 -- The ranks that areas hold of.
-use Rattle.std.specs.Prelude.{◌≡◌, ℕ, ℤ, pos, ◌≤ℤ◌, Bool, true, false, ◌&&◌, ◌||◌, nat_eq, int_le, int_lt, Option, Some, None, List, [], ◌∷◌}
+use Rattle.std.specs.Prelude.{◌≡◌, ℕ, ℤ, pos, ◌≤ℤ◌, ◌<ℤ◌, Bool, true, false, ◌&&◌, ◌||◌, nat_eq, int_le, int_lt, Option, Some, None, List, [], ◌∷◌}
+use Rattle.std.specs.List.{All}
 use Rattle.pb_affine.specs.declared.lin.Base.{Base}
 use Rattle.pb_affine.specs.declared.lin.Base.TheVariants.{Fixed, Param, Var}
 use Rattle.pb_affine.specs.declared.lin.Lin.{Lin}
@@ -38,6 +39,23 @@ have (a ∷ rest) n role x = has a n role x || have rest n role x
 abbrev pub have_two : Two → ℤ → ℕ → ℤ → Bool
 have_two t n role x = has t.first n role x || has t.second n role x
 
+-- at some N the area holds of some index
+pub record IsSomewhere (a : Area) : Type 0 where
+  pub n : ℤ
+  pub role : ℕ
+  pub index : ℤ
+  pub there : has a n role index ≡ true
+
+-- no area of the list is empty
+abbrev pub AreSomewhere : List Area → Type 0
+AreSomewhere list = All IsSomewhere list
+
 -- at each N that the area speaks of, its end isn't below its low end
 pub record IsUpright (a : Area) : Type 0 where
   pub upright : (n : ℤ) → is_when n a ≡ true → at a.low n ≤ℤ at a.end n
+
+-- at some N that the area speaks of, its end is below its low end
+pub record LiesBack (a : Area) : Type 0 where
+  pub n : ℤ
+  pub when : is_when n a ≡ true
+  pub back : at a.end n <ℤ at a.low n

@@ -1,7 +1,7 @@
 ghost use Rattle.std.specs.Prelude.{◌≡◌, ◌<◌, ℕ, ℤ, pos, ◌&&◌, int_le, true, false, List, IfSome};
 ghost use Rattle.pb_affine.specs.declared.lin.Lin.{Lin};
 ghost use Rattle.pb_affine.specs.declared.range.NRange.{NRange};
-ghost use Rattle.pb_part_areas.specs.Areas.{has, at, is_before, IsUpright};
+ghost use Rattle.pb_part_areas.specs.Areas.{has, at, is_before, IsUpright, IsSomewhere, LiesBack};
 ghost use Rattle.pb_part_areas.specs.Fits.{Fits};
 
 use crate::area::{Area, since, until};
@@ -34,10 +34,11 @@ pub(crate) fn is_open(from: u32, until: Option<u32>) -> bool
     }
 }
 
-#[tactic(auto, using(crate::proofs::Parts::empty_same, crate::proofs::Parts::empty_from, crate::proofs::Parts::empty_until))]
-/// True only where the area has no index, for each N that it speaks of.
+#[tactic(auto, using(crate::proofs::Parts::empty_same, crate::proofs::Parts::empty_from, crate::proofs::Parts::empty_until, crate::proofs::Wide::wide_same, crate::proofs::Wide::wide_from, crate::proofs::Wide::wide_late, crate::proofs::Wide::wide_until))]
+/// True exactly where the area has no index, for each N that it speaks of, if it speaks of any.
 fn is_narrow(a: Area) -> bool
-    ensures { result ≡ true → (n : ℤ) (role : ℕ) (x : ℤ) → has a n role x ≡ false }
+    ensures narrow { result ≡ true → (n : ℤ) (role : ℕ) (x : ℤ) → has a n role x ≡ false }
+    ensures wide { result ≡ false → IfSome a.until (λ b. a.from < b) → IsSomewhere a }
 {
     if is_param(a.low.base) == is_param(a.end.base) {
         a.end.off <= a.low.off
@@ -51,10 +52,11 @@ fn is_narrow(a: Area) -> bool
     }
 }
 
-/// True only where the area holds of nothing.
+/// True exactly where the area holds of nothing.
 #[tactic(auto, using(crate::proofs::Parts::over))]
 pub(crate) fn is_empty(a: Area) -> bool
-    ensures { result ≡ true → (n : ℤ) (role : ℕ) (x : ℤ) → has a n role x ≡ false }
+    ensures empty { result ≡ true → (n : ℤ) (role : ℕ) (x : ℤ) → has a n role x ≡ false }
+    ensures some { result ≡ false → IsSomewhere a }
 {
     if is_open(a.from, a.until) {
         is_narrow(a)
@@ -63,10 +65,11 @@ pub(crate) fn is_empty(a: Area) -> bool
     }
 }
 
-#[tactic(auto, using(crate::proofs::Parts::upright_same, crate::proofs::Parts::upright_from, crate::proofs::Parts::upright_until))]
-/// True only where the area's end isn't below its low end, for each N that it speaks of.
+#[tactic(auto, using(crate::proofs::Parts::upright_same, crate::proofs::Parts::upright_from, crate::proofs::Parts::upright_until, crate::proofs::Wide::back_same, crate::proofs::Wide::back_from, crate::proofs::Wide::back_late, crate::proofs::Wide::back_until))]
+/// True exactly where the area's end isn't below its low end, for each N that it speaks of, if it speaks of any.
 pub(crate) fn is_upright(a: Area) -> bool
-    ensures { result ≡ true → IsUpright a }
+    ensures upright { result ≡ true → IsUpright a }
+    ensures back { result ≡ false → IfSome a.until (λ b. a.from < b) → LiesBack a }
 {
     if is_param(a.low.base) == is_param(a.end.base) {
         a.low.off <= a.end.off

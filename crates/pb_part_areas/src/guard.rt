@@ -1,4 +1,4 @@
-ghost use Rattle.std.specs.Prelude.{◌≡◌, ◌<◌, ◌≤◌, ℕ, ℤ, pos, ◌+ℤ◌, negsuc, int_le, ◌||◌, true, IfOk, OnOk, IfSome, Some};
+ghost use Rattle.std.specs.Prelude.{◌≡◌, ◌<◌, ◌≤◌, ℕ, ℤ, pos, ◌+ℤ◌, negsuc, int_le, ◌||◌, true, false, IfOk, OnOk, IfSome, Some};
 ghost use Rattle.std.specs.List.{All};
 ghost use Rattle.pb_affine.specs.Values.{holds, hold, is_from_on, is_up_to, IsSmallGuard};
 ghost use Rattle.pb_cases.specs.Breakpoints.{Division, IsInRange};
@@ -21,9 +21,10 @@ fn from_of(from: u32, range: NRange) -> Option<u32>
     if from <= range.low { None } else { Some(from) }
 }
 
-/// True where the number is past the end of the range.
+/// True exactly where the number is past the end of the range.
 fn is_past(n: u32, range: NRange) -> bool
-    ensures { result ≡ true → (m : ℤ) → IsInRange range m → is_before m (Some n) ≡ true }
+    ensures past { result ≡ true → (m : ℤ) → IsInRange range m → is_before m (Some n) ≡ true }
+    ensures near { result ≡ false → is_up_to (pos n) range.high ≡ true }
 {
     match range.high {
         None => false,

@@ -3,7 +3,7 @@ ghost use Rattle.std.specs.List.{All};
 ghost use Rattle.pb_affine.specs.declared.lin.Lin.{Lin};
 ghost use Rattle.pb_affine.specs.declared.range.NRange.{NRange};
 ghost use Rattle.pb_part_areas.specs.declared.area.Area.{Area};
-ghost use Rattle.pb_part_areas.specs.Areas.{has, have, have_two};
+ghost use Rattle.pb_part_areas.specs.Areas.{has, have, have_two, AreSomewhere};
 ghost use Rattle.pb_part_areas.specs.Fits.{Fits, FitTwo};
 ghost use Rattle.pb_part_areas.specs.Joins.{IsUnion, IsJoin};
 
@@ -96,6 +96,7 @@ fn neighbour(list: &[Area], a: Area) -> Option<Join>
 pub fn push(out: &mut Vec<Area>, a: Area) -> Result<(), NoMemory>
     ensures is { OnOk result ((n : ℤ) (role : ℕ) (x : ℤ) → have out.new.items n role x ≡ have out.old.items n role x || has a n role x) }
     ensures fits { OnOk result ((range : NRange) (cuts : List Lin) → All (Fits range cuts) out.old.items → Fits range cuts a → All (Fits range cuts) out.new.items) }
+    ensures some { OnOk result (AreSomewhere out.old.items → AreSomewhere out.new.items) }
 {
     let mut last = tightened(a);
     if is_empty(last) {
@@ -113,6 +114,7 @@ pub fn push(out: &mut Vec<Area>, a: Area) -> Result<(), NoMemory>
 pub(crate) fn push_two(out: &mut Vec<Area>, two: Two) -> Result<(), NoMemory>
     ensures is { OnOk result ((n : ℤ) (role : ℕ) (x : ℤ) → have out.new.items n role x ≡ have out.old.items n role x || have_two two n role x) }
     ensures fits { OnOk result ((range : NRange) (cuts : List Lin) → All (Fits range cuts) out.old.items → FitTwo range cuts two → All (Fits range cuts) out.new.items) }
+    ensures some { OnOk result (AreSomewhere out.old.items → AreSomewhere out.new.items) }
 {
     push(out, two.first)?;
     push(out, two.second)?;

@@ -2,7 +2,7 @@ ghost use Rattle.std.specs.Prelude.{◌≡◌, ℕ, ℤ, ◌&&◌, ◌||◌, not
 ghost use Rattle.std.specs.List.{All};
 ghost use Rattle.pb_affine.specs.declared.lin.Lin.{Lin};
 ghost use Rattle.pb_affine.specs.declared.range.NRange.{NRange};
-ghost use Rattle.pb_part_areas.specs.Areas.{has, have};
+ghost use Rattle.pb_part_areas.specs.Areas.{has, have, IsSomewhere, AreSomewhere};
 ghost use Rattle.pb_part_areas.specs.Fits.{Fits};
 
 use crate::area::{Area, ahead, behind, since, until};
@@ -15,6 +15,7 @@ use pb_text::NoMemory;
 pub(crate) fn minus(out: &mut Vec<Area>, a: Area, b: Area) -> Result<(), NoMemory>
     ensures is { OnOk result ((n : ℤ) (role : ℕ) (x : ℤ) → have out.new.items n role x ≡ have out.old.items n role x || (has a n role x && not (has b n role x))) }
     ensures fits { OnOk result ((range : NRange) (cuts : List Lin) → All (Fits range cuts) out.old.items → Fits range cuts a → Fits range cuts b → All (Fits range cuts) out.new.items) }
+    ensures some { OnOk result (AreSomewhere out.old.items → IsSomewhere a → AreSomewhere out.new.items) }
 {
     if is_apart(a, b) {
         keep(out, a)
@@ -27,6 +28,7 @@ pub(crate) fn minus(out: &mut Vec<Area>, a: Area, b: Area) -> Result<(), NoMemor
 pub(crate) fn keep(out: &mut Vec<Area>, a: Area) -> Result<(), NoMemory>
     ensures is { OnOk result ((n : ℤ) (role : ℕ) (x : ℤ) → have out.new.items n role x ≡ have out.old.items n role x || has a n role x) }
     ensures fits { OnOk result ((range : NRange) (cuts : List Lin) → All (Fits range cuts) out.old.items → Fits range cuts a → All (Fits range cuts) out.new.items) }
+    ensures some { OnOk result (AreSomewhere out.old.items → IsSomewhere a → AreSomewhere out.new.items) }
 {
     out.push(a)?;
     Ok(())
@@ -36,6 +38,7 @@ pub(crate) fn keep(out: &mut Vec<Area>, a: Area) -> Result<(), NoMemory>
 fn cut_out(out: &mut Vec<Area>, a: Area, b: Area) -> Result<(), NoMemory>
     ensures is { OnOk result ((n : ℤ) (role : ℕ) (x : ℤ) → have out.new.items n role x ≡ have out.old.items n role x || (has a n role x && not (has b n role x))) }
     ensures fits { OnOk result ((range : NRange) (cuts : List Lin) → All (Fits range cuts) out.old.items → Fits range cuts a → Fits range cuts b → All (Fits range cuts) out.new.items) }
+    ensures some { OnOk result (AreSomewhere out.old.items → AreSomewhere out.new.items) }
 {
     if a.role == b.role {
         push(out, until(a, b.from))?;
@@ -53,6 +56,7 @@ fn cut_out(out: &mut Vec<Area>, a: Area, b: Area) -> Result<(), NoMemory>
 pub(crate) fn overlap(out: &mut Vec<Area>, a: Area, b: Area) -> Result<(), NoMemory>
     ensures is { OnOk result ((n : ℤ) (role : ℕ) (x : ℤ) → have out.new.items n role x ≡ have out.old.items n role x || (has a n role x && has b n role x)) }
     ensures fits { OnOk result ((range : NRange) (cuts : List Lin) → All (Fits range cuts) out.old.items → Fits range cuts a → Fits range cuts b → All (Fits range cuts) out.new.items) }
+    ensures some { OnOk result (AreSomewhere out.old.items → AreSomewhere out.new.items) }
 {
     if a.role == b.role {
         let part = ahead(since(a, b.from), b.until);

@@ -2,7 +2,7 @@ ghost use Rattle.std.specs.Prelude.{◌≡◌, ℕ, ℤ, ◌&&◌, ◌||◌, not
 ghost use Rattle.std.specs.List.{All};
 ghost use Rattle.pb_affine.specs.declared.lin.Lin.{Lin};
 ghost use Rattle.pb_affine.specs.declared.range.NRange.{NRange};
-ghost use Rattle.pb_part_areas.specs.Areas.{has, have};
+ghost use Rattle.pb_part_areas.specs.Areas.{has, have, IsSomewhere, AreSomewhere};
 ghost use Rattle.pb_part_areas.specs.Fits.{Fits};
 
 use crate::area::Area;
@@ -16,6 +16,7 @@ use std::alloc::Global;
 fn less(alloc: Global, list: &[Area], b: Area) -> Result<Vec<Area>, NoMemory>
     ensures is { IfOk result (λ v. (n : ℤ) (role : ℕ) (x : ℤ) → have v.items n role x ≡ have list.now n role x && not (has b n role x)) }
     ensures fits { IfOk result (λ v. (range : NRange) (cuts : List Lin) → All (Fits range cuts) list.now → Fits range cuts b → All (Fits range cuts) v.items) }
+    ensures some { IfOk result (λ v. AreSomewhere list.now → AreSomewhere v.items) }
 {
     let mut out = Vec::new(alloc);
     for a in list {
@@ -28,6 +29,7 @@ fn less(alloc: Global, list: &[Area], b: Area) -> Result<Vec<Area>, NoMemory>
 fn lessened(alloc: Global, list: Vec<Area>, b: Area) -> Result<Vec<Area>, NoMemory>
     ensures is { IfOk result (λ v. (n : ℤ) (role : ℕ) (x : ℤ) → have v.items n role x ≡ have list.items n role x && not (has b n role x)) }
     ensures fits { IfOk result (λ v. (range : NRange) (cuts : List Lin) → All (Fits range cuts) list.items → Fits range cuts b → All (Fits range cuts) v.items) }
+    ensures some { IfOk result (λ v. AreSomewhere list.items → AreSomewhere v.items) }
 {
     if are_apart(&list, b) {
         Ok(list)
@@ -40,6 +42,7 @@ fn lessened(alloc: Global, list: Vec<Area>, b: Area) -> Result<Vec<Area>, NoMemo
 pub fn without(alloc: Global, list: Vec<Area>, others: &[Area]) -> Result<Vec<Area>, NoMemory>
     ensures is { IfOk result (λ v. (n : ℤ) (role : ℕ) (x : ℤ) → have v.items n role x ≡ have list.items n role x && not (have others.now n role x)) }
     ensures fits { IfOk result (λ v. (range : NRange) (cuts : List Lin) → All (Fits range cuts) list.items → All (Fits range cuts) others.now → All (Fits range cuts) v.items) }
+    ensures some { IfOk result (λ v. AreSomewhere list.items → AreSomewhere v.items) }
 {
     let mut left = list;
     for b in others {
@@ -52,6 +55,7 @@ pub fn without(alloc: Global, list: Vec<Area>, others: &[Area]) -> Result<Vec<Ar
 fn overlap_all(out: &mut Vec<Area>, a: Area, list: &[Area]) -> Result<(), NoMemory>
     ensures is { OnOk result ((n : ℤ) (role : ℕ) (x : ℤ) → have out.new.items n role x ≡ have out.old.items n role x || (has a n role x && have list.now n role x)) }
     ensures fits { OnOk result ((range : NRange) (cuts : List Lin) → All (Fits range cuts) out.old.items → Fits range cuts a → All (Fits range cuts) list.now → All (Fits range cuts) out.new.items) }
+    ensures some { OnOk result (AreSomewhere out.old.items → AreSomewhere out.new.items) }
 {
     for b in list {
         overlap(out, a, *b)?;
@@ -63,6 +67,7 @@ fn overlap_all(out: &mut Vec<Area>, a: Area, list: &[Area]) -> Result<(), NoMemo
 pub fn common(alloc: Global, list: &[Area], others: &[Area]) -> Result<Vec<Area>, NoMemory>
     ensures is { IfOk result (λ v. (n : ℤ) (role : ℕ) (x : ℤ) → have v.items n role x ≡ have list.now n role x && have others.now n role x) }
     ensures fits { IfOk result (λ v. (range : NRange) (cuts : List Lin) → All (Fits range cuts) list.now → All (Fits range cuts) others.now → All (Fits range cuts) v.items) }
+    ensures some { IfOk result (λ v. AreSomewhere v.items) }
 {
     let mut out = Vec::new(alloc);
     for a in list {
@@ -75,6 +80,7 @@ pub fn common(alloc: Global, list: &[Area], others: &[Area]) -> Result<Vec<Area>
 pub fn add_all(out: &mut Vec<Area>, more: &[Area]) -> Result<(), NoMemory>
     ensures is { OnOk result ((n : ℤ) (role : ℕ) (x : ℤ) → have out.new.items n role x ≡ have out.old.items n role x || have more.now n role x) }
     ensures fits { OnOk result ((range : NRange) (cuts : List Lin) → All (Fits range cuts) out.old.items → All (Fits range cuts) more.now → All (Fits range cuts) out.new.items) }
+    ensures some { OnOk result (AreSomewhere out.old.items → AreSomewhere out.new.items) }
 {
     for a in more {
         push(out, *a)?;
@@ -86,6 +92,7 @@ pub fn add_all(out: &mut Vec<Area>, more: &[Area]) -> Result<(), NoMemory>
 pub fn one(alloc: Global, a: Area) -> Result<Vec<Area>, NoMemory>
     ensures is { IfOk result (λ v. (n : ℤ) (role : ℕ) (x : ℤ) → have v.items n role x ≡ has a n role x) }
     ensures fits { IfOk result (λ v. (range : NRange) (cuts : List Lin) → Fits range cuts a → All (Fits range cuts) v.items) }
+    ensures some { IfOk result (λ v. AreSomewhere v.items) }
 {
     let mut list = Vec::new(alloc);
     push(&mut list, a)?;
@@ -97,6 +104,7 @@ pub fn one(alloc: Global, a: Area) -> Result<Vec<Area>, NoMemory>
 fn keep_beside(out: &mut Vec<Area>, b: Area, a: Area) -> Result<(), NoMemory>
     ensures is { OnOk result ((n : ℤ) (role : ℕ) (x : ℤ) → have out.new.items n role x || has a n role x ≡ (have out.old.items n role x || has b n role x) || has a n role x) }
     ensures fits { OnOk result ((range : NRange) (cuts : List Lin) → All (Fits range cuts) out.old.items → Fits range cuts b → All (Fits range cuts) out.new.items) }
+    ensures some { OnOk result (AreSomewhere out.old.items → IsSomewhere b → AreSomewhere out.new.items) }
 {
     if covers(a, b) { Ok(()) } else { keep(out, b) }
 }
@@ -105,6 +113,7 @@ fn keep_beside(out: &mut Vec<Area>, b: Area, a: Area) -> Result<(), NoMemory>
 fn beside(alloc: Global, list: &[Area], a: Area) -> Result<Vec<Area>, NoMemory>
     ensures is { IfOk result (λ v. (n : ℤ) (role : ℕ) (x : ℤ) → have v.items n role x || has a n role x ≡ have list.now n role x || has a n role x) }
     ensures fits { IfOk result (λ v. (range : NRange) (cuts : List Lin) → All (Fits range cuts) list.now → All (Fits range cuts) v.items) }
+    ensures some { IfOk result (λ v. AreSomewhere list.now → AreSomewhere v.items) }
 {
     let mut out = Vec::new(alloc);
     for b in list {
@@ -117,6 +126,7 @@ fn beside(alloc: Global, list: &[Area], a: Area) -> Result<Vec<Area>, NoMemory>
 fn missing(alloc: Global, a: Area, list: &[Area]) -> Result<Vec<Area>, NoMemory>
     ensures is { IfOk result (λ v. (n : ℤ) (role : ℕ) (x : ℤ) → have v.items n role x ≡ has a n role x && not (have list.now n role x)) }
     ensures fits { IfOk result (λ v. (range : NRange) (cuts : List Lin) → Fits range cuts a → All (Fits range cuts) list.now → All (Fits range cuts) v.items) }
+    ensures some { IfOk result (λ v. AreSomewhere v.items) }
 {
     let alone = one(alloc, a)?;
     let left = without(alloc, alone, list)?;
@@ -127,6 +137,7 @@ fn missing(alloc: Global, a: Area, list: &[Area]) -> Result<Vec<Area>, NoMemory>
 fn with_area(alloc: Global, list: &[Area], a: Area) -> Result<Vec<Area>, NoMemory>
     ensures is { IfOk result (λ v. (n : ℤ) (role : ℕ) (x : ℤ) → have v.items n role x ≡ have list.now n role x || has a n role x) }
     ensures fits { IfOk result (λ v. (range : NRange) (cuts : List Lin) → All (Fits range cuts) list.now → Fits range cuts a → All (Fits range cuts) v.items) }
+    ensures some { IfOk result (λ v. AreSomewhere list.now → AreSomewhere v.items) }
 {
     let mut out = beside(alloc, list, a)?;
     let new = missing(alloc, a, &out)?;
@@ -139,6 +150,7 @@ fn with_area(alloc: Global, list: &[Area], a: Area) -> Result<Vec<Area>, NoMemor
 pub fn add_new(alloc: Global, out: &mut Vec<Area>, a: Area) -> Result<(), NoMemory>
     ensures is { OnOk result ((n : ℤ) (role : ℕ) (x : ℤ) → have out.new.items n role x ≡ have out.old.items n role x || has a n role x) }
     ensures fits { OnOk result ((range : NRange) (cuts : List Lin) → All (Fits range cuts) out.old.items → Fits range cuts a → All (Fits range cuts) out.new.items) }
+    ensures some { OnOk result (AreSomewhere out.old.items → AreSomewhere out.new.items) }
 {
     if is_covered(out, a) {
         return Ok(());
@@ -152,6 +164,7 @@ pub fn add_new(alloc: Global, out: &mut Vec<Area>, a: Area) -> Result<(), NoMemo
 pub fn absorb(alloc: Global, out: &mut Vec<Area>, more: &[Area]) -> Result<(), NoMemory>
     ensures is { OnOk result ((n : ℤ) (role : ℕ) (x : ℤ) → have out.new.items n role x ≡ have out.old.items n role x || have more.now n role x) }
     ensures fits { OnOk result ((range : NRange) (cuts : List Lin) → All (Fits range cuts) out.old.items → All (Fits range cuts) more.now → All (Fits range cuts) out.new.items) }
+    ensures some { OnOk result (AreSomewhere out.old.items → AreSomewhere out.new.items) }
 {
     for a in more {
         add_new(alloc, out, *a)?;
@@ -163,6 +176,7 @@ pub fn absorb(alloc: Global, out: &mut Vec<Area>, more: &[Area]) -> Result<(), N
 pub fn copied(alloc: Global, list: &[Area]) -> Result<Vec<Area>, NoMemory>
     ensures is { IfOk result (λ v. (n : ℤ) (role : ℕ) (x : ℤ) → have v.items n role x ≡ have list.now n role x) }
     ensures fits { IfOk result (λ v. (range : NRange) (cuts : List Lin) → All (Fits range cuts) list.now → All (Fits range cuts) v.items) }
+    ensures some { IfOk result (λ v. AreSomewhere v.items) }
 {
     let mut copy = Vec::new(alloc);
     add_all(&mut copy, list)?;

@@ -1,11 +1,12 @@
 use Rattle.std.proofs.Common.{ap, sym, ◌∙◌, ◌||◌, subst}
 use Rattle.std.specs.List.{All}
 use Rattle.std.proofs.lemmas.List.Elements.{All-push}
-use Rattle.pb_part_areas.specs.Areas.{have}
+use Rattle.pb_part_areas.specs.Areas.{have, IsSomewhere, AreSomewhere}
 use Rattle.pb_part_areas.specs.Fits.{Fits}
 use Rattle.pb_part_areas.specs.Joins.{IsJoin}
 use Rattle.pb_part_areas.proofs.Joins.{join_is, join_fits, All_removed}
 use Rattle.pb_part_areas.proofs.Lists.{have_pushed}
+use Rattle.pb_part_areas.proofs.Wide.{union_somewhere, removed_somewhere}
 use Rattle.pb_part_areas.proofs.join.push.Goals as goal
 
 pub loop-join-preserved : goal.loop-join-preserved
@@ -15,6 +16,8 @@ loop-join-preserved c =
       is = λ n role x. join_is c.loop-join.out.items c.remove.new.self.items c.in-Some.join.place c.loop-join.last c.in-Some.join.area j c.remove.ensures.items n role x _ (c.loop-join.invariant.is n role x);
       fits = λ range cuts h f. All_removed range cuts c.loop-join.out.items c.remove.new.self.items c.in-Some.join.place c.remove.ensures.items (c.loop-join.invariant.fits range cuts h f);
       own = λ range cuts h f. join_fits range cuts c.loop-join.out.items c.in-Some.join.place c.loop-join.last c.in-Some.join.area j (c.loop-join.invariant.fits range cuts h f) (c.loop-join.invariant.own range cuts h f);
+      some = λ h. removed_somewhere c.loop-join.out.items c.remove.new.self.items c.in-Some.join.place c.remove.ensures.items (c.loop-join.invariant.some h);
+      last_some = λ h. union_somewhere _ c.loop-join.last c.in-Some.join.area j.union (c.loop-join.invariant.last_some h);
     }
 
 pub returns-clause-is : goal.returns-clause-is
@@ -28,3 +31,8 @@ returns-clause-fits c = λ range cuts h f.
     let g = c.tightened-last.ensures.fits range cuts f in
     subst (All (Fits range cuts)) (sym c.in_ok-push.ensures.items)
     (All-push (Fits range cuts) c.loop-join.out.items c.loop-join.last (c.loop-join.invariant.fits range cuts h g) (c.loop-join.invariant.own range cuts h g))
+
+pub returns-clause-some : goal.returns-clause-some
+returns-clause-some c = λ h.
+    subst AreSomewhere (sym c.in_ok-push.ensures.items)
+    (All-push IsSomewhere c.loop-join.out.items c.loop-join.last (c.loop-join.invariant.some h) (c.loop-join.invariant.last_some (c.is_empty.ensures.some c.if-is_empty.false)))

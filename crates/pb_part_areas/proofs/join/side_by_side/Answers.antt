@@ -6,4 +6,4 @@ pub returns-then-is_upright-2 : goal.returns-then-is_upright-2
 returns-then-is_upright-2 c =
     let el : c.args.a.end ≡ c.args.b.low = search rules in
     let eu : c.args.a.until ≡ c.args.b.until = search rules in
-    beside c.args.a c.args.b c.if-a-b.true el c.if-a-b-2.true eu (c.is_upright.ensures c.if-is_upright.true) (c.is_upright-then-is_upright.ensures c.if-is_upright-2.true)
+    beside c.args.a c.args.b c.if-a-b.true el c.if-a-b-2.true eu (c.is_upright.ensures.upright c.if-is_upright.true) (c.is_upright-then-is_upright.ensures.upright c.if-is_upright-2.true)

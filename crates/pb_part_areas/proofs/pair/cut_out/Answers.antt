@@ -24,3 +24,7 @@ returns-in_ok-push_two-2-clause-fits c = λ range cuts h fa fb.
 
 pub returns-else-a-b-clause-fits : goal.returns-else-a-b-clause-fits
 returns-else-a-b-clause-fits c = on_ok_weaker c.push-else-a-b.result (λ d range cuts h fa fb. d range cuts h fa) c.push-else-a-b.ensures.fits
+
+pub returns-in_ok-push_two-2-clause-some : goal.returns-in_ok-push_two-2-clause-some
+returns-in_ok-push_two-2-clause-some c = λ h.
+    c.in_ok-push_two-2.ensures.some (c.in_ok-push_two.ensures.some (c.in_ok-push-2.ensures.some (c.in_ok-push.ensures.some h)))

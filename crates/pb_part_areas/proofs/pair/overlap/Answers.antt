@@ -23,3 +23,9 @@ returns-else-a-b-clause-is c = λ n role x. apart c.args.a c.args.b _ n role x c
 
 pub returns-else-a-b-clause-fits : goal.returns-else-a-b-clause-fits
 returns-else-a-b-clause-fits c = λ range cuts h fa fb. h
+
+pub returns-in_ok-push_two-2-clause-some : goal.returns-in_ok-push_two-2-clause-some
+returns-in_ok-push_two-2-clause-some c = λ h. c.in_ok-push_two-2.ensures.some (c.in_ok-push_two.ensures.some h)
+
+pub returns-else-a-b-clause-some : goal.returns-else-a-b-clause-some
+returns-else-a-b-clause-some c = λ h. h

@@ -6,6 +6,7 @@ pub loop-a-preserved : goal.loop-a-preserved
 loop-a-preserved c = record {
   is = λ n role x. add_step _ _ _ _ _ n role x c.loop-a-test.true (c.in_ok-push.ensures.is n role x) (c.loop-a.invariant.is n role x);
   fits = λ range cuts h f. c.in_ok-push.ensures.fits range cuts (c.loop-a.invariant.fits range cuts h f) (f c.loop-a.a-index blank c.loop-a-test.true);
+  some = λ h. c.in_ok-push.ensures.some (c.loop-a.invariant.some h);
 }
 
 pub returns-clause-is : goal.returns-clause-is

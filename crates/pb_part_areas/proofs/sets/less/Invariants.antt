@@ -2,7 +2,7 @@ use Rattle.std.proofs.Common.{◌≡◌, ℕ, ℤ, ◌||◌, List, ◌&&◌, not
 use Rattle.std.specs.List.{All}
 use Rattle.pb_affine.specs.declared.lin.Lin.{Lin}
 use Rattle.pb_affine.specs.declared.range.NRange.{NRange}
-use Rattle.pb_part_areas.specs.Areas.{has, have}
+use Rattle.pb_part_areas.specs.Areas.{has, have, AreSomewhere}
 use Rattle.pb_part_areas.specs.Fits.{Fits}
 use Rattle.pb_part_areas.proofs.sets.less.Given as goal
 
@@ -10,4 +10,5 @@ abbrev pub invariant-loop-a : goal.invariant-loop-a
 invariant-loop-a l = record {
   is : (n : ℤ) (role : ℕ) (x : ℤ) → have l.out.items n role x || (have (drop l.a-index l.list) n role x && not (has l.b n role x)) ≡ have l.list n role x && not (has l.b n role x);
   fits : (range : NRange) (cuts : List Lin) → All (Fits range cuts) l.list → Fits range cuts l.b → All (Fits range cuts) l.out.items;
+  some : AreSomewhere l.list → AreSomewhere l.out.items;
 }

@@ -9,3 +9,6 @@ pub returns-clause-fits : goal.returns-clause-fits
 returns-clause-fits c = λ range cuts f fa.
     let kept = c.in_ok-out.ensures.fits range cuts f in
     (rw c.deref-2.ensures.value at (c.in_ok-add_all.ensures.fits range cuts)) kept ((rw c.deref.ensures.value at (c.in_ok-new.ensures.fits range cuts)) fa kept)
+
+pub returns-clause-some : goal.returns-clause-some
+returns-clause-some c = λ h. c.in_ok-add_all.ensures.some (c.in_ok-out.ensures.some h)
