@@ -8,6 +8,7 @@ ghost use Rattle.pb_cases.specs.Building.{IsAdded, IsAddedTwice, IsPartOfAll, Ha
 
 use crate::ascending::{is_at, place_of};
 use crate::fault::CaseFault;
+use crate::guesses::Guesses;
 use pb_affine::{Base, Lin, NRange};
 use pb_text::NoMemory;
 use std::alloc::Global;
@@ -26,14 +27,18 @@ fn is_in_range(range: NRange, m: i64) -> bool
 }
 
 /// Adds the number to the ascending list, where it is in the range.
-fn add(list: &mut Vec<i64>, range: NRange, m: i64) -> Result<(), NoMemory>
+fn add(list: &mut Vec<i64>, guesses: &mut Guesses, range: NRange, m: i64) -> Result<(), NoMemory>
     requires { IsAscending list.old.items }
     ensures { IfOk result (λ _. IsAdded range m list.old.items list.new.items) }
 {
     if !is_in_range(range, m) {
         return Ok(());
     }
+    if is_at(list, guesses.of(m), m) {
+        return Ok(());
+    }
     let i = place_of(list, m);
+    guesses.learn(m, i);
     if is_at(list, i, m) {
         return Ok(());
     }
@@ -42,13 +47,18 @@ fn add(list: &mut Vec<i64>, range: NRange, m: i64) -> Result<(), NoMemory>
 }
 
 /// Adds the number and the one after it.
-fn add_both(list: &mut Vec<i64>, range: NRange, m: i64) -> Result<(), NoMemory>
+fn add_both(
+    list: &mut Vec<i64>,
+    guesses: &mut Guesses,
+    range: NRange,
+    m: i64,
+) -> Result<(), NoMemory>
     requires ascending { IsAscending list.old.items }
     requires near { IsNear m }
     ensures { IfOk result (λ _. IsAddedTwice range m list.old.items list.new.items) }
 {
-    add(list, range, m)?;
-    add(list, range, m + 1)?;
+    add(list, guesses, range, m)?;
+    add(list, guesses, range, m + 1)?;
     Ok(())
 }
 
@@ -63,7 +73,13 @@ fn meeting(d: Lin, c: Lin) -> i64
 }
 
 /// Adds what the fixed cut gives with all moving ones.
-fn add_meetings(list: &mut Vec<i64>, range: NRange, cuts: &[Lin], d: Lin) -> Result<(), CaseFault>
+fn add_meetings(
+    list: &mut Vec<i64>,
+    guesses: &mut Guesses,
+    range: NRange,
+    cuts: &[Lin],
+    d: Lin,
+) -> Result<(), CaseFault>
     requires part { IsPartOfAll range cuts.now list.old.items }
     requires cuts { All IsCut cuts.now }
     requires fixed { d.base ≡ Fixed }
@@ -73,7 +89,7 @@ fn add_meetings(list: &mut Vec<i64>, range: NRange, cuts: &[Lin], d: Lin) -> Res
 {
     for c in cuts {
         if let Base::Param = c.base {
-            add_both(list, range, meeting(d, *c))?;
+            add_both(list, guesses, range, meeting(d, *c))?;
             if list.len() > MOST {
                 return Err(CaseFault::TooManyCases);
             }
@@ -82,7 +98,8 @@ fn add_meetings(list: &mut Vec<i64>, range: NRange, cuts: &[Lin], d: Lin) -> Res
     Ok(())
 }
 
-/// The breakpoints of the range and the cuts, ascending, in an order of work of the cuts' number squared.
+/// The breakpoints of the range and the cuts, ascending. Each pair of a fixed and a moving cut takes a look at a guess, and a
+/// search where that is out of date.
 pub(crate) fn breakpoints_of(
     alloc: Global,
     range: NRange,
@@ -96,9 +113,10 @@ pub(crate) fn breakpoints_of(
     if list.push(i64::from(range.low)).is_err() {
         return Err(CaseFault::NoMemory);
     }
+    let mut guesses = Guesses::new(alloc)?;
     for d in cuts {
         if let Base::Fixed = d.base {
-            add_meetings(&mut list, range, cuts, *d)?;
+            add_meetings(&mut list, &mut guesses, range, cuts, *d)?;
         }
     }
     Ok(list)

@@ -12,6 +12,7 @@ mod breakpoints;
 mod cases;
 mod cover;
 mod fault;
+mod guesses;
 mod region;
 mod roles;
 mod spans;
