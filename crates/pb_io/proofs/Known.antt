@@ -1,9 +1,10 @@
 -- Known bytes that grow or are read in two steps.
-use Rattle.std.proofs.Common.{◌≡◌, ℕ, ◌+◌, ◌≤◌, List, ◌++◌, length, take, drop, Option, None, Some, IfSome, sym, ap, ◌∙◌, append_assoc, length-append}
+use Rattle.std.proofs.Common.{◌≡◌, ℕ, arith, ◌+◌, ◌≤◌, List, ◌++◌, length, take, drop, Option, None, Some, IfSome, sym, ap, ◌∙◌, append_assoc, length-append}
 use Rattle.std.proofs.Math.Seq.{take-add}
 use Rattle.std.proofs.lemmas.List.{take_at, take-append-drop}
 use Rattle.std.specs.Io.KnownBytes.{Appends, Consumes}
 use Rattle.pb_io.specs.Files.{File, content_of}
+use Rattle.pb_io.specs.Passed.{count_after, StopsAt}
 use Rattle.pb_io.specs.Refusals.{Stands}
 use Rattle.pb_io.specs.declared.fault.InFault.TheVariants.{NoMemory}
 
@@ -34,3 +35,11 @@ stands_behind (Some files) name limit old start middle last front piece opened b
 pub read_next : (rest copied others after : List ℕ) (count : ℕ) → copied ≡ take count rest → length copied ≡ count → after ≡ drop count rest → rest ≡ take count (copied ++ others) ++ after
 read_next rest copied others after count front long back =
     rw (take_at copied others count long, front, back) (sym (take-append-drop count rest))
+
+-- bytes that were counted in two steps are counted in one
+pub counted_both : (before middle now first more : ℕ) → middle ≡ count_after before first → now ≡ count_after middle more → now ≡ count_after before (first + more)
+counted_both before middle now first more one two = omega (arith, one, two)
+
+-- where memory ran out behind both, it was at most one byte past the limit
+pub stops_behind : (limit before middle now first more : ℕ) → middle ≡ count_after before first → now ≡ count_after middle more → first + more ≤ limit + 1 → StopsAt NoMemory limit before now
+stops_behind limit before middle now first more one two most = (first + more, most, counted_both before middle now first more one two)

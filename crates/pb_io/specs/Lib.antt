@@ -3,6 +3,7 @@ pub mod Faults
 pub mod Files
 pub mod MemFolder
 pub mod MemSink
+pub mod Passed
 pub mod Refusals
 pub mod Shelf
 pub mod Sinks

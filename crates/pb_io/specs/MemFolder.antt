@@ -25,6 +25,10 @@ folder_faults folder = folder.faults
 abbrev pub folder_reads : MemFolder → ℕ
 folder_reads folder = folder.reads
 
+-- the number of bytes that were read
+abbrev pub folder_passed : MemFolder → ℕ
+folder_passed folder = folder.shelf.passed
+
 -- the next call fails by its number
 abbrev pub folder_fails_now : MemFolder → Bool
 folder_fails_now folder = is_among folder.calls.next folder.calls.fails.items

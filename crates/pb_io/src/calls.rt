@@ -1,5 +1,6 @@
 ghost use Rattle.std.specs.Prelude.{◌≡◌, ◌≤◌};
 ghost use Rattle.pb_io.specs.Faults.{next_count, is_among};
+ghost use Rattle.pb_io.specs.Passed.{count_after};
 
 /// Raises a count by one. It stays at 2^64 - 1.
 pub fn count_up(count: &mut u64)
@@ -7,6 +8,13 @@ pub fn count_up(count: &mut u64)
     ensures later { count.old ≤ count.new }
 {
     *count = count.saturating_add(1);
+}
+
+/// Raises a count of bytes by so many. It stays at 2^64 - 1.
+pub fn count_bytes(count: &mut u64, more: usize)
+    ensures { count.new ≡ count_after count.old more }
+{
+    *count = count.saturating_add(more as u64);
 }
 
 /// Calls that are numbered from 0, some of which are to fail.

@@ -3,6 +3,7 @@ ghost use Rattle.std.specs.Io.{ReadsAtMost};
 ghost use Rattle.std.specs.Io.KnownBytes.{ReadConsumes};
 ghost use Rattle.pb_io.specs.Faults.{HasCause};
 ghost use Rattle.pb_io.specs.Files.{File, Opens, IsSure, IsSureOf};
+ghost use Rattle.pb_io.specs.Passed.{CountsRead};
 
 use crate::Failed;
 
@@ -23,6 +24,9 @@ pub trait Folder {
     // The number of reads, of the folders that count them.
     ghost reads: { Self → ℕ };
 
+    // The number of bytes that were read, which stays at 2 ^ 64 - 1 once it is there.
+    ghost passed: { Self → ℕ };
+
     /// Opens the file with this name at its first byte, in place of the one that was open.
     ///
     /// `Failed` comes only where the count of faults rose, and leaves the open file as it was.
@@ -32,6 +36,7 @@ pub trait Folder {
         ensures holds { holds self.new ≡ holds self.old }
         ensures steady { steady self.new ≡ steady self.old }
         ensures reads { reads self.new ≤ reads self.old }
+        ensures passed { passed self.new ≡ passed self.old }
         ensures cause { HasCause (faults self.old) (faults self.new) result };
 
     /// Reads the next bytes of the open file into the front of the buffer, and gives their number.
@@ -45,5 +50,6 @@ pub trait Folder {
         ensures holds { holds self.new ≡ holds self.old }
         ensures steady { steady self.new ≡ steady self.old }
         ensures reads { reads self.new ≤ (reads self.old + 1) }
+        ensures passed { CountsRead (passed self.old) (passed self.new) result }
         ensures cause { HasCause (faults self.old) (faults self.new) result };
 }

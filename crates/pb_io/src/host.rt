@@ -1,7 +1,7 @@
 ghost use Rattle.std.specs.Prelude.{◌≡◌, None, false, IsSome, OnOk, OnErr, option_and_then};
 ghost use Rattle.pb_io.specs.Faults.{HasCause};
 
-use crate::calls::count_up;
+use crate::calls::{count_bytes, count_up};
 use crate::{Failed, Folder, Sink};
 use std::fs::File;
 use std::io::{Read, Write};
@@ -13,6 +13,7 @@ pub struct HostFolder<'a, R: Files> {
     rt: &'a R,
     file: Option<R::File>,
     faults: u64,
+    passed: u64,
 }
 
 impl<'a, R: Files> HostFolder<'a, R> {
@@ -24,6 +25,7 @@ impl<'a, R: Files> HostFolder<'a, R> {
             rt,
             file: None,
             faults: 0,
+            passed: 0,
         }
     }
 
@@ -32,6 +34,7 @@ impl<'a, R: Files> HostFolder<'a, R> {
         ensures open { OnOk result (IsSome self.new.file) }
         ensures same { OnErr result (self.new.file ≡ self.old.file) }
         ensures cause { HasCause self.old.faults self.new.faults result }
+        ensures passed { self.new.passed ≡ self.old.passed }
     {
         match File::open(self.rt, name) {
             Ok(file) => {
@@ -58,6 +61,8 @@ impl<'a, R: Files> Folder for HostFolder<'a, R> {
 
     ghost reads = { λ _. 0 };
 
+    ghost passed = { λ folder. folder.passed };
+
     fn open_file(&mut self, name: &str) -> Result<(), Failed> {
         self.open(name)
     }
@@ -67,7 +72,10 @@ impl<'a, R: Files> Folder for HostFolder<'a, R> {
             return Ok(0);
         };
         match file.read(buf) {
-            Ok(count) => Ok(count),
+            Ok(count) => {
+                count_bytes(&mut self.passed, count);
+                Ok(count)
+            }
             Err(_) => {
                 count_up(&mut self.faults);
                 Err(Failed)

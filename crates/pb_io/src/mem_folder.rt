@@ -4,6 +4,7 @@ ghost use Rattle.std.specs.Io.KnownBytes.{ReadConsumes};
 ghost use Rattle.pb_io.specs.Entries.{entries};
 ghost use Rattle.pb_io.specs.Faults.{HasCause, next_count};
 ghost use Rattle.pb_io.specs.Files.{Opens, file_of};
+ghost use Rattle.pb_io.specs.Passed.{CountsRead};
 
 use crate::calls::{Calls, count_up};
 use crate::shelf::Shelf;
@@ -43,7 +44,7 @@ impl MemFolder {
 }
 
 impl Folder for MemFolder {
-    ghost use Rattle.pb_io.specs.MemFolder.{folder_files, folder_left, folder_faults, folder_reads, folder_fails_now, folder_steady, CountsCall, KeepsFiles};
+    ghost use Rattle.pb_io.specs.MemFolder.{folder_files, folder_left, folder_faults, folder_reads, folder_passed, folder_fails_now, folder_steady, CountsCall, KeepsFiles};
 
     ghost holds = { λ folder. Some (folder_files folder) };
 
@@ -55,6 +56,8 @@ impl Folder for MemFolder {
 
     ghost reads = { folder_reads };
 
+    ghost passed = { folder_passed };
+
     fn open_file(&mut self, name: &str) -> Result<(), Failed>
         ensures opened { Opens (Some (folder_files self.old)) name.now
             (Some (folder_left self.old)) (Some (folder_left self.new)) result }
@@ -65,6 +68,7 @@ impl Folder for MemFolder {
         ensures counts { CountsCall self.old self.new result }
         ensures cause { HasCause (folder_faults self.old) (folder_faults self.new) result }
         ensures reads { folder_reads self.new ≡ folder_reads self.old }
+        ensures passed { folder_passed self.new ≡ folder_passed self.old }
         ensures settings { KeepsFiles self.old self.new }
     {
         if self.calls.next_fails() {
@@ -92,6 +96,7 @@ impl Folder for MemFolder {
         ensures counts { CountsCall self.old self.new result }
         ensures cause { HasCause (folder_faults self.old) (folder_faults self.new) result }
         ensures reads { folder_reads self.new ≡ next_count (folder_reads self.old) }
+        ensures passed { CountsRead (folder_passed self.old) (folder_passed self.new) result }
         ensures settings { KeepsFiles self.old self.new }
     {
         count_up(&mut self.reads);

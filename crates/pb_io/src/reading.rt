@@ -2,6 +2,7 @@ ghost use Rattle.std.specs.Prelude.{◌≡◌, ◌+◌, ◌<◌, ◌≤◌, IfOk
 ghost use Rattle.std.specs.Io.KnownBytes.{IsAtEnd};
 ghost use Rattle.pb_io.specs.Faults.{Rose};
 ghost use Rattle.pb_io.specs.Files.{IsContent, IsSureOf, content_of};
+ghost use Rattle.pb_io.specs.Passed.{count_after, StopsAt};
 ghost use Rattle.pb_io.specs.Refusals.{Stands};
 
 use crate::{Folder, InFault};
@@ -34,6 +35,8 @@ pub fn read_all<F: Folder>(
     ensures later { F.faults folder.old ≤ F.faults folder.new }
     ensures holds { F.holds folder.new ≡ F.holds folder.old }
     ensures steady { F.steady folder.new ≡ F.steady folder.old }
+    ensures counts { IfOk result (λ bytes. F.passed folder.new ≡ count_after (F.passed folder.old) (vec_len bytes)) }
+    ensures stops { IfErr result (λ fault. StopsAt fault limit (F.passed folder.old) (F.passed folder.new)) }
     ensures reads { F.reads folder.new ≤ F.reads folder.old + (limit + 2) }
 {
     folder.open_file(name)?;

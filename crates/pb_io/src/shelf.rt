@@ -1,9 +1,11 @@
 ghost use Rattle.std.specs.Prelude.{◌≡◌, ◌≤◌, ◌<◌, [], ◌++◌, length, take, min};
 ghost use Rattle.std.specs.Option.{option_map};
 ghost use Rattle.pb_io.specs.Files.{file_of};
+ghost use Rattle.pb_io.specs.Passed.{count_after};
 ghost use Rattle.pb_io.specs.Entries.{entries, bytes_at, place_bytes};
 
 use crate::MemFile;
+use crate::calls::count_bytes;
 
 /// Files in memory, of which one may be open.
 #[derive(Debug, Drop)]
@@ -11,6 +13,7 @@ pub struct Shelf {
     files: Vec<MemFile>,
     current: Option<usize>,
     position: usize,
+    passed: u64,
     ghost in_file: { position ≤ length (bytes_at files.items current) },
 }
 
@@ -26,6 +29,7 @@ impl Shelf {
             files,
             current: None,
             position: 0,
+            passed: 0,
         }
     }
 
@@ -40,6 +44,7 @@ impl Shelf {
     pub fn open_at(&mut self, place: Option<usize>)
         ensures files { shelf_files self.new ≡ shelf_files self.old }
         ensures left { shelf_left self.new ≡ shelf_bytes self.old place }
+        ensures passed { self.new.passed ≡ self.old.passed }
     {
         self.position = 0;
         self.current = place;
@@ -50,11 +55,13 @@ impl Shelf {
         ensures files { shelf_files self.new ≡ shelf_files self.old }
         ensures count { result ≡ min (length buf.old) (length (shelf_left self.old)) }
         ensures bytes { shelf_left self.old ≡ take result buf.new ++ shelf_left self.new }
+        ensures passed { self.new.passed ≡ count_after self.old.passed result }
     {
         let rest = self.rest();
         let count = rest.len().min(buf.len());
         buf[..count].copy_from_slice(&rest[..count]);
         self.position += count;
+        count_bytes(&mut self.passed, count);
         count
     }
 

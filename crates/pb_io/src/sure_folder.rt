@@ -37,6 +37,8 @@ impl Folder for SureFolder {
 
     ghost reads = { λ _. 0 };
 
+    ghost passed = { λ folder. folder.shelf.passed };
+
     fn open_file(&mut self, name: &str) -> Result<(), Failed> {
         let place = self.shelf.place_of(name);
         self.shelf.open_at(place);
