@@ -30,12 +30,6 @@ pub struct Compiled {
     pub tree: CTree,
 }
 
-impl From<NoMemory> for Verdict {
-    fn from(_error: NoMemory) -> Verdict {
-        Verdict::NoMemory
-    }
-}
-
 /// Compiles a protocol file: the verdict where it isn't accepted, and else its core and its C tree. The bytes are at most
 /// 67,108,864.
 pub fn compile(alloc: Global, bytes: &[u8]) -> Result<Compiled, Verdict>

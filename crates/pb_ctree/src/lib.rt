@@ -19,7 +19,7 @@ pub use pb_local::{
 };
 pub use pb_text::{Name, NoMemory};
 pub use rules::{
-    are_below, are_guards, can_choose, computes, goes_with, is_chooser, is_guard, is_label,
-    is_offset, is_peer, is_wordy,
+    are_below, are_guards, can_choose, computes, goes_with, is_chooser, is_label, is_offset,
+    is_peer, is_wordy,
 };
 pub use tree::{CTree, Formula};

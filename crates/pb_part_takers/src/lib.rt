@@ -18,7 +18,7 @@ mod whole;
 
 pub use each::{met_area, takers_each};
 pub use ends::{add_end, end_area};
-pub use held::{Held, add_held, with_loop};
+pub use held::{Held, with_loop};
 pub use pb_text::NoMemory;
 pub use search::takers;
 pub use walk::{takers_at, takers_in};

@@ -1,13 +1,14 @@
 -- A choice, and a choice that nobody takes part in.
 use Rattle.std.proofs.Common.{◌≡◌, ◌<◌, ◌≤◌, ◌+◌, ◌*◌, ◌==◌, ℕ, zero, suc, ℤ, pos, max, Bool, true, false, ◌||◌, nat_lt, List, [], ◌∷◌, length, get_or, refl, sym, ap, ◌∙◌, subst, arith}
 use Rattle.std.specs.List.{All}
-use Rattle.std.proofs.lemmas.Bool.{and_parts, or_parts, false≢true, ltb-true}
+use Rattle.std.proofs.lemmas.Bool.{and_parts, and_from, or_parts, or_left, or_right, false≢true, ltb-true}
+use Rattle.std.proofs.lemmas.List.Elements.{All-nil, All-weaker}
 use Rattle.std.proofs.lemmas.Int.{ints}
 use Rattle.pb_affine.specs.declared.guard.Guard.{Guard}
 use Rattle.pb_affine.specs.declared.lin.Base.{Base}
 use Rattle.pb_affine.specs.declared.lin.Base.TheVariants.{Fixed, Param, Var}
 use Rattle.pb_affine.specs.declared.lin.Lin.{Lin}
-use Rattle.pb_affine.specs.Values.{IsSmall}
+use Rattle.pb_affine.specs.Values.{IsSmall, hold}
 use Rattle.pb_part_areas.specs.declared.area.Area.{Area}
 use Rattle.pb_part_areas.specs.Fits.{Fits}
 use Rattle.pb_core_language.specs.declared.tree.CoreEnd.{CoreEnd}
@@ -35,10 +36,10 @@ use Rattle.pb_project_piece.specs.Standing.{IsOpen}
 use Rattle.pb_project_piece.proofs.Ones.{guard_holds}
 use Rattle.pb_shape.specs.Guards as G
 use Rattle.pb_shape.specs.Shape as S
-use Rattle.pb_shape.specs.Places.{Scope, Here, everyone, everywhere, scope_of, inside, peer_of}
-use Rattle.pb_shape.specs.Guards.{Nobody, alone}
+use Rattle.pb_shape.specs.Places.{Scope, Here, everyone, scope_of, inside, peer_of}
+use Rattle.pb_shape.specs.Guards.{Somebody, Nobody, alone}
 use Rattle.pb_shape.specs.Loops.{Around, takers}
-use Rattle.pb_shape.specs.Choices.{Tests, Relays, is_told, told_by}
+use Rattle.pb_shape.specs.Choices.{Tests, AreHeld, Relays, AreCalled, is_told, told_by}
 use Rattle.pb_shape.specs.Shape.{Shapes}
 use Rattle.pb_shape.specs.Sizes.{braces, braces_all}
 use Rattle.pb_shape.specs.Tabled.{count}
@@ -46,12 +47,15 @@ use Rattle.pb_syntax.specs.declared.core_label.CoreKernel.{CoreKernel}
 use Rattle.pb_syntax.specs.declared.core_label.KernelKind.{KernelKind}
 use Rattle.pb_syntax.specs.declared.core_label.KernelKind.TheVariants.{Compute}
 use Rattle.pb_project_choice.specs.Found.{IsFoundIn}
+use Rattle.pb_project_choice.specs.Tested.{HasHolder}
+use Rattle.pb_project.specs.Learning.{Told}
 use Rattle.pb_project.specs.Blocks.{behind, IsStmtOf, IsChoiceOf}
-use Rattle.pb_project.specs.Places.{Known, IsPlace, IsGoodStmt}
+use Rattle.pb_project.specs.Places.{Known, IsPlace, IsGoodStmt, IsReached}
 use Rattle.pb_project.specs.Takers.{AreTakers}
 use Rattle.pb_project.proofs.GoodParts.{good_choice, good_branches}
-use Rattle.pb_project.proofs.Guarding.{AreGuardsOf, areas_are, names, somebody, nobody, guards_made, nobody_inside, whole_has, in_range, roles_are}
-use Rattle.pb_project.proofs.Looping.{inside_free, no_less, no_deeper}
+use Rattle.pb_project.proofs.Guarding.{AreGuardsOf, areas_are, names, somebody, nobody, guards_made, nobody_inside, whole_has, in_range, of_range, roles_are}
+use Rattle.pb_project.proofs.Looping.{no_less, no_deeper}
+use Rattle.pb_project.proofs.Reaching.{branches_reached}
 use Rattle.pb_project.proofs.Sources.{one_source}
 
 -- ---- the chooser
@@ -118,6 +122,27 @@ more_room i s r t h k = omega (arith, h, k)
 more_braces : (i b d t : ℕ) → i ≤ max 2 (suc b) → b ≤ 2 * d + 1 → max (suc (max i 0)) t ≤ max (2 * suc d + 1) t
 more_braces i b d t h k = omega (arith, h, k)
 
+-- ---- who is told takes part
+
+untold : (held : List Bool) (r : ℕ) (bs : Branches) (j l : ℕ) → takes_part_among held r bs ≡ false → is_among l (labels_of (firsts held r (branch_at j bs))) ≡ false
+untold held r no_branch j l h = refl
+untold held r (branch m b bs) zero l h = ap (λ os. is_among l (labels_of os)) (bystander_finds held r b (or_parts _ (takes_part_among held r bs) h).0)
+untold held r (branch m b bs) (suc j) l h = untold held r bs j l (or_parts _ (takes_part_among held r bs) h).1
+
+told_takes : (held : List Bool) (r : ℕ) (bs : Branches) (j l : ℕ) → is_among l (labels_of (firsts held r (branch_at j bs))) ≡ true → takes_part_among held r bs ≡ true
+told_takes held r bs j l h = at (takes_part_among held r bs) refl
+  where
+    at : (t : Bool) → takes_part_among held r bs ≡ t → takes_part_among held r bs ≡ true
+    at true e = e
+    at false e = absurd (false≢true (sym (untold held r bs j l e) ∙ h))
+
+-- those that take part in a branch
+abbrev part_in : Scope → Around → BranchTrees → ℤ → ℕ → ℤ → Bool
+part_in sc a bs n role x = takes_part_among (a.held n role x) (rank sc.roles n role x) (flat_branches sc.roles n a.opens (pos 0) bs)
+
+part_told : (sc : Scope) (a : Around) (bs : BranchTrees) → Told sc a bs (part_in sc a bs)
+part_told sc a bs j l n role x within is told = told_takes (a.held n role x) (rank sc.roles n role x) (flat_branches sc.roles n a.opens (pos 0) bs) j l told
+
 -- ---- the choice
 
 abbrev kind_in : List CoreKernel → ℕ → KernelKind
@@ -148,6 +173,26 @@ module _ (k : Known) (before after : ℕ) (m : Mark) (kernel : ℕ) (at : CoreEn
     relays_are h free =
         made.relays_are.is (scope_of p) h a bs place.stands free place.range_is end_is.low found_is (one_source p cuts a m kernel at bs fair) (tests_are h free)
 
+    -- a rank of which guards hold comes to the choice
+    holder_comes : (h : Here) → IsReached (scope_of p) h (takers (scope_of p) a m (T.choice kernel at bs)) → (gs : List Guard) → HasHolder k.range p.roles (part_in (scope_of p) a bs) gs →
+        (n : ℤ) × (role : ℕ) × (x : ℤ) × IsIn p.range n × (is_rank p.roles n role x ≡ true) × (h.at n (pos 0) ≡ true) × ((inside h (takers (scope_of p) a m (T.choice kernel at bs))).comes n (pos 0) role x ≡ true) × ((i : ℤ) → hold gs n i role x ≡ true)
+    holder_comes h reached gs s =
+        let within = of_range k p l cuts a place s.n s.within in
+        let takes : takers (scope_of p) a m (T.choice kernel at bs) s.n (pos 0) s.role s.index ≡ true = or_left _ _ (or_right _ _ s.is) in
+        (s.n, s.role, s.index, within, s.rank, reached.free.at s.n (pos 0), and_from _ _ takes (reached.come.come s.n (pos 0) s.role s.index within s.rank takes), s.holds)
+
+    pub tests_held : (h : Here) → IsReached (scope_of p) h (takers (scope_of p) a m (T.choice kernel at bs)) → AreHeld (scope_of p) (inside h (takers (scope_of p) a m (T.choice kernel at bs))) made.tests
+    tests_held h reached =
+        All-weaker (λ t. HasHolder k.range p.roles (part_in (scope_of p) a bs) t.guards) (λ t. Somebody (scope_of p) (inside h (takers (scope_of p) a m (T.choice kernel at bs))) (λ n i role x. hold t.guards n i role x))
+        (λ t s. let c = holder_comes h reached t.guards s in record { n = c.0; i = pos 0; role = c.1; index = c.2; within = c.3; rank = c.4; at = c.5; comes = c.6; is = c.7 (pos 0) }) made.tests
+        (made.tests_are.held (scope_of p) a bs (part_in (scope_of p) a bs) place.stands place.range_is few found_is (part_told (scope_of p) a bs))
+
+    pub relays_called : (h : Here) → IsReached (scope_of p) h (takers (scope_of p) a m (T.choice kernel at bs)) → AreCalled (scope_of p) (inside h (takers (scope_of p) a m (T.choice kernel at bs))) made.relays
+    relays_called h reached =
+        All-weaker (λ r. HasHolder k.range p.roles (part_in (scope_of p) a bs) r.guards) (λ r. Somebody (scope_of p) (inside h (takers (scope_of p) a m (T.choice kernel at bs))) (λ n i role x. hold r.guards n x role x))
+        (λ r s. let c = holder_comes h reached r.guards s in record { n = c.0; i = pos 0; role = c.1; index = c.2; within = c.3; rank = c.4; at = c.5; comes = c.6; is = c.7 c.2 }) made.relays
+        (made.relays_are.called (scope_of p) a bs (part_in (scope_of p) a bs) place.stands place.range_is found_is (one_source p cuts a m kernel at bs fair) (part_told (scope_of p) a bs))
+
     told_if : (ts : List Test) → (ts ≡ [] → made.relays ≡ []) → IsToldIf (end_guard at) made.relays (peer_of at) ts
     told_if [] f = (f refl, refl, refl)
     told_if (t ∷ ts) f = tt
@@ -176,14 +221,15 @@ module _ (k : Known) (before after : ℕ) (m : Mark) (kernel : ℕ) (at : CoreEn
   there_with : (areas : List Area) (gs : List Guard) → IsThere k.range k.whole areas true → AreGuardsOf k.range k.roles areas gs → AreTakers k.whole k.held m (T.choice kernel at bs) areas →
       IsStmtOf k before after m (T.choice kernel at bs) (only_when gs (told_by made.relays text) ∷ [])
   there_with areas gs ranked of taken = record {
-    shape = λ p l cuts a h place fair free rest tail others.
+    shape = λ p l cuts a h place fair reached rest tail others.
         let who = takers (scope_of p) a m (T.choice kernel at bs) in
-        S.choice {parts = made.parts} (end_guard at) made.relays made.tests
-        (G.there (names k p l cuts a place m (T.choice kernel at bs) fair areas taken gs of h) (somebody k p l cuts a place m (T.choice kernel at bs) fair areas taken h free ranked))
+        let some = somebody k p l cuts a place m (T.choice kernel at bs) fair areas taken h reached ranked in
+        S.choice {parts = made.parts} (end_guard at) made.relays made.tests reached.some
+        (G.there (names k p l cuts a place m (T.choice kernel at bs) fair areas taken gs of h) some)
         (λ n i role x within r here. guard_holds at n i role x)
-        (tests_are p l cuts a place fair h free)
-        (relays_are p l cuts a place fair h free)
-        (made.parts_are.shape p l cuts a (inside h who) place (good_branches p cuts a m kernel at bs fair) (inside_free h who free)) others;
+        (tests_are p l cuts a place fair h reached.free) (tests_held p l cuts a place fair h reached)
+        (relays_are p l cuts a place fair h reached.free) (relays_called p l cuts a place fair h reached)
+        (made.parts_are.shape p l cuts a (inside h who) place (good_branches p cuts a m kernel at bs fair) (branches_reached (scope_of p) a h m kernel at bs reached some)) others;
     made = λ p l cuts a place fair tail others. (
       (
         guards_made k p l cuts a place m (T.choice kernel at bs) fair areas taken gs of ranked,
@@ -203,11 +249,6 @@ module _ (k : Known) (before after : ℕ) (m : Mark) (kernel : ℕ) (at : CoreEn
 
 -- ---- where nobody takes part
 
-untold : (held : List Bool) (r : ℕ) (bs : Branches) (j l : ℕ) → takes_part_among held r bs ≡ false → is_among l (labels_of (firsts held r (branch_at j bs))) ≡ false
-untold held r no_branch j l h = refl
-untold held r (branch m b bs) zero l h = ap (λ os. is_among l (labels_of os)) (bystander_finds held r b (or_parts _ (takes_part_among held r bs) h).0)
-untold held r (branch m b bs) (suc j) l h = untold held r bs j l (or_parts _ (takes_part_among held r bs) h).1
-
 nobody_told : (sc : Scope) (a : Around) (m : Mark) (kernel : ℕ) (at : CoreEnd) (bs : BranchTrees) (n i : ℤ) (role : ℕ) (x : ℤ) (j l : ℕ) → takers sc a m (T.choice kernel at bs) n i role x ≡ false → is_told sc a bs j l n i role x ≡ false
 nobody_told sc a m kernel at bs n i role x j l h =
     untold (a.held n role x) (rank sc.roles n role x) (flat_branches sc.roles n a.opens (pos 0) bs) j l
@@ -225,14 +266,16 @@ unreached sc h a none (T.branch m b bs) = S.branch (S.unreached none) (unreached
 pub choice_gone : (k : Known) (before : ℕ) (m : Mark) (kernel : ℕ) (at : CoreEnd) (bs : BranchTrees) (areas : List Area) → IsThere k.range k.whole areas false → AreTakers k.whole k.held m (T.choice kernel at bs) areas →
     IsStmtOf k before before m (T.choice kernel at bs) []
 choice_gone k before m kernel at bs areas none taken = record {
-  shape = λ p l cuts a h place fair free rest tail others.
+  shape = λ p l cuts a h place fair reached rest tail others.
       let s = T.choice kernel at bs in
       let takes : (n i : ℤ) (role : ℕ) (x : ℤ) → IsIn p.range n → is_rank p.roles n role x ≡ true → takers (scope_of p) a m s n i role x ≡ false
       = λ n i role x within r. sym (areas_are k p l cuts a place m s fair areas taken n i role x within r) ∙ none n role x (in_range k p l cuts a place n within) (whole_has k p l cuts a place n role x within ∙ r) in
-      S.choice {parts = blanks bs} (end_guard at) [] [] (G.gone (nobody k p l cuts a place m s fair areas taken none h))
+      S.choice {parts = blanks bs} (end_guard at) [] [] reached.some (G.gone (nobody k p l cuts a place m s fair areas taken none h))
       (λ n i role x within r here. guard_holds at n i role x)
       (λ j lab n i role x within r here. sym (nobody_told (scope_of p) a m kernel at bs n i role x j lab (takes n i role x within r)))
+      (All-nil (λ (t : Test). Somebody (scope_of p) (inside h (takers (scope_of p) a m s)) (λ n i role x. hold t.guards n i role x)))
       (λ n role x j lab within r other told. absurd (false≢true (sym (nobody_told (scope_of p) a m kernel at bs n (pos 0) role x j lab (takes n (pos 0) role x within r)) ∙ told)))
+      (All-nil (λ (q : Relay). Somebody (scope_of p) (inside h (takers (scope_of p) a m s)) (λ n i role x. hold q.guards n x role x)))
       (unreached (scope_of p) (inside h (takers (scope_of p) a m s)) a (nobody_inside k p l cuts a place m s fair areas taken none h) bs) others;
   made = λ p l cuts a place fair tail others. others;
   loops = λ tail. refl;

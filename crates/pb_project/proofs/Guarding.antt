@@ -21,12 +21,11 @@ use Rattle.pb_local.specs.WellMade.{AreGuards, IsGuard, IsRange}
 use Rattle.pb_affine.specs.declared.range.NRange.{NRange}
 use Rattle.pb_part_takers.specs.Loops.{ids_of, held_of}
 use Rattle.pb_project_piece.specs.Ranked.{Ranked, IsThere}
-use Rattle.pb_project_piece.specs.Standing.{IsOpen}
 use Rattle.pb_shape.specs.Places.{Here, scope_of, inside, everyone}
 use Rattle.pb_shape.specs.Guards.{Names, Somebody, Nobody}
 use Rattle.pb_shape.specs.Loops.{Around, takers}
 use Rattle.pb_project_choice.specs.Sayable.{AreSayable}
-use Rattle.pb_project.specs.Places.{Known, IsPlace, IsGoodStmt}
+use Rattle.pb_project.specs.Places.{Known, IsPlace, IsGoodStmt, IsReached}
 use Rattle.pb_project.specs.Takers.{AreTakers}
 
 -- guards that hold of the ranks in these areas
@@ -74,10 +73,11 @@ module _ (k : Known) (p : Protocol) (l : Program) (cuts : List Lin) (a : Around)
     pub names : (gs : List Guard) → AreGuardsOf k.range k.roles areas gs → (h : Here) → Names (scope_of p) h gs (takers (scope_of p) a m s)
     names gs of h = λ n i role x within r at. guards_hold gs of n i role x within r ∙ areas_are n i role x within r
 
-    pub somebody : (h : Here) → IsOpen h → Ranked k.range k.whole areas → Somebody (scope_of p) h (takers (scope_of p) a m s)
-    somebody h free t =
+    pub somebody : (h : Here) → IsReached (scope_of p) h (takers (scope_of p) a m s) → Ranked k.range k.whole areas → Somebody (scope_of p) h (takers (scope_of p) a m s)
+    somebody h reached t =
         let within = of_range t.n t.within in
         let r : is_rank p.roles t.n t.role t.index ≡ true = sym (whole_has t.n t.role t.index within) ∙ t.rank in
+        let is = sym (areas_are t.n (pos 0) t.role t.index within r) ∙ t.there in
         record {
           n = t.n;
           i = pos 0;
@@ -85,8 +85,9 @@ module _ (k : Known) (p : Protocol) (l : Program) (cuts : List Lin) (a : Around)
           index = t.index;
           within = within;
           rank = r;
-          at = free.at t.n (pos 0);
-          is = sym (areas_are t.n (pos 0) t.role t.index within r) ∙ t.there;
+          at = reached.free.at t.n (pos 0);
+          comes = reached.come.come t.n (pos 0) t.role t.index within r is;
+          is = is;
         }
 
     pub nobody : IsThere k.range k.whole areas false → (h : Here) → Nobody (scope_of p) h (takers (scope_of p) a m s)

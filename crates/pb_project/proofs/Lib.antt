@@ -3,6 +3,7 @@ pub mod Takings
 pub mod Telling
 pub mod GoodParts
 pub mod Sources
+pub mod Reaching
 pub mod Guarding
 pub mod Sequences
 pub mod Looping

@@ -1,5 +1,5 @@
 -- A loop, and a loop that nobody takes part in.
-use Rattle.std.proofs.Common.{◌≡◌, ◌≤◌, ◌+◌, ◌*◌, ℕ, suc, ℤ, pos, max, Bool, true, false, List, [], ◌∷◌, refl, sym, ap, ◌∙◌, subst, arith}
+use Rattle.std.proofs.Common.{◌≡◌, ◌≤◌, ◌+◌, ◌*◌, ℕ, suc, pos, max, true, false, List, [], ◌∷◌, refl, sym, ap, ◌∙◌, subst, arith}
 use Rattle.std.proofs.Math.Bool.{or-false}
 use Rattle.pb_affine.specs.declared.guard.Guard.{Guard}
 use Rattle.pb_affine.specs.declared.lin.Lin.{Lin}
@@ -15,10 +15,9 @@ use Rattle.pb_part_takers.specs.declared.held.Held.{Held}
 use Rattle.pb_part_takers.specs.Loops.{IsInside, held_of}
 use Rattle.pb_project_piece.specs.Ones.{only_when}
 use Rattle.pb_project_piece.specs.Ranked.{IsThere}
-use Rattle.pb_project_piece.specs.Standing.{IsOpen}
 use Rattle.pb_shape.specs.Guards as G
 use Rattle.pb_shape.specs.Shape as S
-use Rattle.pb_shape.specs.Places.{Here, scope_of, inside}
+use Rattle.pb_shape.specs.Places.{scope_of, inside}
 use Rattle.pb_shape.specs.Guards.{One, alone}
 use Rattle.pb_shape.specs.Loops.{Around, takers, in_loop}
 use Rattle.pb_shape.specs.Shape.{Shape}
@@ -26,6 +25,7 @@ use Rattle.pb_project.specs.Blocks.{behind, entered, IsStmtOf, IsLoopOf}
 use Rattle.pb_project.specs.Places.{Known, IsPlace, IsGoodStmt}
 use Rattle.pb_project.specs.Takers.{AreTakers}
 use Rattle.pb_project.proofs.GoodParts.{good_body}
+use Rattle.pb_project.proofs.Reaching.{body_reached}
 use Rattle.pb_project.proofs.Guarding.{AreGuardsOf, areas_are, areas_fit, names, somebody, nobody, guards_made, nobody_inside}
 
 -- ---- inside the loop
@@ -50,9 +50,6 @@ entered_place k p l cuts a m mark id number body areas inner place fair taken wi
   held_fits = within_loop.fits k.range cuts (areas_fit k p l cuts a place m (T.loop id mark body) fair areas taken) place.held_fits;
 }
 
-pub inside_free : (h : Here) (who : ℤ → ℤ → ℕ → ℤ → Bool) → IsOpen h → IsOpen (inside h who)
-inside_free h who free = record { at = free.at }
-
 -- ---- numbers
 
 next_is : (n : ℕ) → suc n ≡ n + 1
@@ -76,11 +73,12 @@ pub loop_there : (k : Known) (before after : ℕ) (m mark : Mark) (id : ℕ) (bo
     IsLoopOf k id areas before after body c → AreTakers k.whole k.held m (T.loop id mark body) areas → IsStmtOf k before after m (T.loop id mark body) (only_when gs (alone c) ∷ [])
 loop_there k before after m mark id body areas gs c ranked of made taken =
     subst (λ d. IsStmtOf k before after m (T.loop id mark body) (only_when gs (alone d) ∷ [])) (sym made.is) (record {
-      shape = λ p l cuts a h place fair free rest tail others.
+      shape = λ p l cuts a h place fair reached rest tail others.
           let who = takers (scope_of p) a m (T.loop id mark body) in
-          S.loop {inner = made.codes} (G.there (names k p l cuts a place m (T.loop id mark body) fair areas taken gs of h) (somebody k p l cuts a place m (T.loop id mark body) fair areas taken h free ranked))
+          let some = somebody k p l cuts a place m (T.loop id mark body) fair areas taken h reached ranked in
+          S.loop {inner = made.codes} reached.some (G.there (names k p l cuts a place m (T.loop id mark body) fair areas taken gs of h) some)
           (made.block.shape p l cuts (in_loop (scope_of p) a id before body) (inside h who) (entered_place k p l cuts a m mark id before body areas made.inner place fair taken made.inside)
-          (good_body p cuts a m mark id before body fair) (inside_free h who free)) others;
+          (good_body p cuts a m mark id before body fair) (body_reached (scope_of p) a h m mark id before body reached some)) others;
       made = λ p l cuts a place fair tail others. (
         (
           guards_made k p l cuts a place m (T.loop id mark body) fair areas taken gs of ranked,
@@ -110,8 +108,8 @@ no_deeper d t = omega arith
 -- where nobody takes part nothing is added
 pub loop_gone : (k : Known) (before : ℕ) (m mark : Mark) (id : ℕ) (body : BlockTree) (areas : List Area) → IsThere k.range k.whole areas false → AreTakers k.whole k.held m (T.loop id mark body) areas → IsStmtOf k before before m (T.loop id mark body) []
 loop_gone k before m mark id body areas none taken = record {
-  shape = λ p l cuts a h place fair free rest tail others.
-      S.loop {number = 0} {inner = nothing} (G.gone (nobody k p l cuts a place m (T.loop id mark body) fair areas taken none h)) (S.unreached (nobody_inside k p l cuts a place m (T.loop id mark body) fair areas taken none h)) others;
+  shape = λ p l cuts a h place fair reached rest tail others.
+      S.loop {number = 0} {inner = nothing} reached.some (G.gone (nobody k p l cuts a place m (T.loop id mark body) fair areas taken none h)) (S.unreached (nobody_inside k p l cuts a place m (T.loop id mark body) fair areas taken none h)) others;
   made = λ p l cuts a place fair tail others. others;
   loops = λ tail. refl;
   size = λ tail. no_less _ _;

@@ -22,11 +22,13 @@ use Rattle.pb_rules.proofs.Lists.{Has, contains}
 use Rattle.pb_shape.specs.Shape as S
 use Rattle.pb_shape.specs.Places.{scope_of}
 use Rattle.pb_shape.specs.Guards.{alone}
-use Rattle.pb_shape.specs.Loops.{number_at, Around}
+use Rattle.pb_shape.specs.Loops.{number_at}
 use Rattle.pb_project.specs.Blocks.{behind, IsStmtOf, IsBlockOf, ArePartsOf, parts_now}
 use Rattle.pb_project.specs.Places.{Known}
 use Rattle.pb_project.specs.Takers.{back_to}
-use Rattle.pb_project.proofs.GoodParts.{good_first, good_rest, good_again}
+use Rattle.pb_core_language.specs.Sound.{rows_of}
+use Rattle.pb_project.proofs.GoodParts.{no_continue, good_first, good_rest, good_again}
+use Rattle.pb_project.proofs.Reaching.{first_reached, rest_reached, branch_reached, others_reached}
 
 none_more : (n : ℕ) → n + 0 ≡ n
 none_more n = omega arith
@@ -45,8 +47,10 @@ deeper b d t u h k = omega (arith, h, k)
 pub stmt_before : (k : Known) (before mid after : ℕ) (m : Mark) (s : StmtTree) (rest : BlockTree) (piece : List Code) (tail : Codes) → back_to s ≡ None →
     IsStmtOf k before mid m s piece → IsBlockOf k mid after rest tail → IsBlockOf k before after (T.more m s rest) (onto piece tail)
 stmt_before k before mid after m s rest piece tail goes one others = record {
-  shape = λ p l cuts a h place fair free.
-      one.shape p l cuts a h place (good_first p cuts a m s rest goes fair) free rest tail (others.shape p l cuts a h place (good_rest p cuts a m s rest goes fair) free);
+  shape = λ p l cuts a h place fair reached.
+      let first = good_first p cuts a m s rest goes fair in
+      one.shape p l cuts a h place first (first_reached (scope_of p) a h (rows_of p) a.opens m s rest first.fair.sound reached) rest tail
+      (others.shape p l cuts a h place (good_rest p cuts a m s rest goes fair) (rest_reached (scope_of p) a h (rows_of p) a.opens m s rest first.fair.sound (no_continue s goes) reached));
   made = λ p l cuts a place fair. one.made p l cuts a place (good_first p cuts a m s rest goes fair) tail (others.made p l cuts a place (good_rest p cuts a m s rest goes fair));
   loops = one.loops tail ∙ others.loops;
   size = sizes_end _ _ _ _ (one.size tail) others.size;
@@ -55,7 +59,7 @@ stmt_before k before mid after m s rest piece tail goes one others = record {
 
 pub none_of : (k : Known) (before : ℕ) → IsBlockOf k before before T.nothing nothing
 none_of k before = record {
-  shape = λ p l cuts a h place fair free. S.none;
+  shape = λ p l cuts a h place fair reached. S.none;
   made = λ p l cuts a place fair. tt;
   loops = none_more before;
   size = omega arith;
@@ -75,8 +79,8 @@ number_in id (o ∷ os) (x ∷ xs) h e = at (nat_eq id o) h (λ k. number_in id 
 
 pub continue_of : (k : Known) (before : ℕ) (m : Mark) (id : ℕ) (rest : BlockTree) → IsBlockOf k before before (T.more m (again id) rest) (alone (L.again (number_at k.numbers (between id (ids_of k.held)))))
 continue_of k before m id rest = record {
-  shape = λ p l cuts a h place fair free. subst (λ o. S.Shape (scope_of p) h a (T.more m (again id) rest) (alone (L.again (number_at k.numbers (between id o))))) place.around.opens
-      (subst (λ ns. S.Shape (scope_of p) h a (T.more m (again id) rest) (alone (L.again (number_at ns (between id a.opens))))) place.numbers_are S.again);
+  shape = λ p l cuts a h place fair reached. subst (λ o. S.Shape (scope_of p) h a (T.more m (again id) rest) (alone (L.again (number_at k.numbers (between id o))))) place.around.opens
+      (subst (λ ns. S.Shape (scope_of p) h a (T.more m (again id) rest) (alone (L.again (number_at ns (between id a.opens))))) place.numbers_are (S.again reached.some));
   made = λ p l cuts a place fair. (
     subst (λ o. Contains k.numbers (number_at k.numbers (between id o))) place.around.opens
         (contains k.numbers (number_at k.numbers (between id a.opens)) (number_in id a.opens k.numbers (good_again p cuts a m id rest fair) place.as_many)),
@@ -166,7 +170,8 @@ wider b d t u h k = omega (arith, h, k)
 pub branch_before : (k : Known) (before mid after : ℕ) (m : Mark) (b : BlockTree) (bs : BranchTrees) (codes : Codes) (tail : Parts) → IsBlockOf k before mid b codes → ArePartsOf k mid after bs tail →
     ArePartsOf k before after (T.branch m b bs) (part codes tail)
 branch_before k before mid after m b bs codes tail one others = record {
-  shape = λ p l cuts a h place fair free. S.branch (one.shape p l cuts a h place fair.0 free) (others.shape p l cuts a h place fair.1 free);
+  shape = λ p l cuts a h place fair reached.
+      S.branch (one.shape p l cuts a h place fair.0 (branch_reached (scope_of p) a h m b bs reached)) (others.shape p l cuts a h place fair.1 (others_reached (scope_of p) a h m b bs reached));
   made = λ p l cuts a place fair. (one.made p l cuts a place fair.0, subst (λ n. ArePartsMade l (behind n k.numbers) tail) (sym one.loops) (others.made p l cuts a place fair.1));
   loops = added_loops _ _ _ _ _ one.loops others.loops;
   size = added_sizes _ _ _ _ one.size others.size;
@@ -176,7 +181,7 @@ branch_before k before mid after m b bs codes tail one others = record {
 
 pub no_parts : (k : Known) (before : ℕ) → ArePartsOf k before before T.no_branch no_part
 no_parts k before = record {
-  shape = λ p l cuts a h place fair free. S.no_shape;
+  shape = λ p l cuts a h place fair reached. S.no_shape;
   made = λ p l cuts a place fair. tt;
   loops = none_more before;
   size = omega arith;

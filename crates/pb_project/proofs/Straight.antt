@@ -20,6 +20,7 @@ use Rattle.pb_shape.specs.Places.{scope_of}
 use Rattle.pb_project.specs.Blocks.{behind, IsStmtOf}
 use Rattle.pb_project.specs.Places.{Known}
 use Rattle.pb_project.proofs.Guarding.{roles_are}
+use Rattle.pb_project.proofs.Reaching.{ends_come}
 
 no_loop : (id : ℕ) → Some id ≡ None → ⊥
 no_loop id e = cc
@@ -49,7 +50,9 @@ same_loops n a b e = cc
 
 pub straight_is : (k : Known) (before : ℕ) (m : Mark) (s : StmtTree) (piece : List Code) → is_straight s ≡ true → IsPieceOf k.range k.roles k.whole s piece → IsStmtOf k before before m s piece
 straight_is k before m s piece straight h = record {
-  shape = λ p l cuts a here place fair free rest tail others. S.piece (h.is (scope_of p) here (rows_of p) a.opens place.stands free fair.fair.sound straight tail) others;
+  shape = λ p l cuts a here place fair reached rest tail others.
+      S.piece reached.some
+      (h.is (scope_of p) here (rows_of p) a.opens place.stands reached.free (ends_come (scope_of p) a here (rows_of p) a.opens m s fair.fair.sound reached) fair.fair.sound straight tail) others;
   made = λ p l cuts a place fair tail others. h.made p l (behind before k.numbers) a.opens place.tabled (roles_are k p l cuts a place) fair.fair.sound straight fair.goes tail others;
   loops = λ tail. same_loops _ _ _ (h.loops tail);
   size = h.size;

@@ -1,7 +1,12 @@
 -- A whole program.
-use Rattle.std.proofs.Common.{◌≡◌, ℕ, ℤ, true, false, nat_le, List, [], ◌∷◌, length, inl, None, refl, sym, ap, ◌∙◌, subst}
+use Rattle.std.proofs.Common.{◌≡◌, ◌≤◌, ℕ, ℤ, pos, ◌≤ℤ◌, Bool, true, false, ◌&&◌, ◌||◌, nat_eq, nat_le, int_le, List, [], ◌∷◌, length, map, inl, Option, Some, None, refl, sym, ap, ◌∙◌, subst, arith}
+use Rattle.std.specs.List.{All}
+use Rattle.std.proofs.lemmas.Int.{ints}
+use Rattle.std.proofs.lemmas.Bool.Decides.{nat_tests}
 use Rattle.std.proofs.lemmas.Bool.{and_parts}
 use Rattle.std.proofs.lemmas.List.{length-map}
+use Rattle.pb_affine.specs.declared.range.NRange.{NRange}
+use Rattle.pb_affine.specs.Values.{value}
 use Rattle.pb_choice.specs.declared.rule.ChoiceRule.{ChoiceRule}
 use Rattle.pb_choice.specs.Flaws.{fits_of, number_of, misled}
 use Rattle.pb_choice.proofs.Leasts.{to_range}
@@ -10,19 +15,23 @@ use Rattle.pb_core_language.specs.Cuts.{cuts, role_cuts, block_cuts}
 use Rattle.pb_core_language.specs.Plain.{Protocol}
 use Rattle.pb_core_language.specs.Rules.{misfits, flat_at, ranked}
 use Rattle.pb_core_language.specs.Sound.{is_range, are_roles, is_block, rows_of, is_sound}
+use Rattle.pb_core_language.specs.declared.protocol.CoreRole.{CoreRole}
+use Rattle.pb_core_language.specs.Verdict as V
 use Rattle.pb_core_language.specs.Verdict.{IsIn, KeepsAll}
 use Rattle.pb_core_flat.specs.Seated.{rank, is_rank}
+use Rattle.pb_core_flat.proofs.Seats.{seat_in_role}
 use Rattle.std.specs.Prelude.{IsTrue}
 use Rattle.pb_local.specs.Names.{is_name}
 use Rattle.pb_local.specs.Tree.{Codes, Program}
 use Rattle.pb_local.specs.WellMade as W
-use Rattle.pb_local.specs.WellMade.{IsWellMade, AreMade, AreRoles, IsRange, AreLabels, AreKernels}
+use Rattle.pb_local.specs.WellMade.{IsWellMade, AreMade, AreRoles, IsRole, IsRange, AreLabels, AreKernels}
 use Rattle.pb_part_takers.proofs.Among.{among_left, among_right}
 use Rattle.pb_part_takers.proofs.Finds.{among_itself}
 use Rattle.pb_rules.proofs.CutSets.{nothing_listed}
 use Rattle.pb_rules.proofs.CutsSound.{are_all}
 use Rattle.pb_rules.proofs.Lists.{Has, contains}
-use Rattle.pb_shape.specs.Places.{everywhere, scope_of, role_of}
+use Rattle.pb_shape.specs.Places.{everyone, everywhere, scope_of, role_of}
+use Rattle.pb_shape.specs.Guards.{Somebody}
 use Rattle.pb_shape.specs.Loops.{outermost}
 use Rattle.pb_shape.specs.Shape.{HasShape, Shape}
 use Rattle.pb_shape.specs.Tabled.{IsTabled}
@@ -33,6 +42,37 @@ use Rattle.pb_project.specs.Wholes.{IsBodyOf, IsLocalOf}
 none_in : {X : Type 0} (l : List X) → ((x : X) → Has l x → ⊥) → l ≡ []
 none_in [] h = refl
 none_in (x ∷ l) h = absurd (h x (inl refl))
+
+-- ---- somebody comes to the start
+
+least_in : (low : ℕ) (high : Option ℕ) → W.IsUpperEnd low high → V.IsUpTo (pos low) high
+least_in low None h = tt
+least_in low (Some high) h = let le : low ≤ high = h.0 in omega (arith, ints)
+
+least_up_to : (low : ℕ) (high : Option ℕ) → W.IsUpperEnd low high → W.IsUpTo low high
+least_up_to low None h = tt
+least_up_to low (Some high) h = h.0
+
+first_seat : (low high : ℤ) (b : Bool) → low ≤ℤ high → (nat_eq 0 0 && (int_le low low && int_le low high)) || b ≡ true
+first_seat low high b h = grind (arith, ints, nat_tests)
+
+-- the first rank at the least N
+some_rank : (range : NRange) (roles : List CoreRole) → IsRange range → 1 ≤ length (map role_of roles) → All (IsRole range) (map role_of roles) → Somebody (record { roles = roles; range = range }) everywhere everyone
+some_rank range [] r some each = absurd (omega (arith, some))
+some_rank range (c ∷ cs) r some each =
+    let role : IsRole range (role_of c) = each 0 (role_of c) (omega arith) in
+    record {
+      n = pos range.low;
+      i = pos 0;
+      role = 0;
+      index = value c.low (pos range.low) (pos 0);
+      within = record { low = omega (arith, ints); high = least_in range.low range.high r.high };
+      rank = seat_in_role 0 c cs (pos range.low) 0 (value c.low (pos range.low) (pos 0))
+          ∙ first_seat (value c.low (pos range.low) (pos 0)) (value c.high (pos range.low) (pos 0)) _ (role.some range.low (record { low = omega arith; high = least_up_to range.low range.high r.high }));
+      at = refl;
+      comes = refl;
+      is = refl;
+    }
 
 module _ (p : Protocol) (sound : is_sound p ≡ true) (tabled : IsTabled p) (keeps : KeepsAll p) where
   roles_sound : are_roles p.roles ≡ true
@@ -76,7 +116,11 @@ module _ (p : Protocol) (sound : is_sound p ≡ true) (tabled : IsTabled p) (kee
       labels = local.labels;
       kernels = local.kernels;
       body = subst (λ cs. Shape (scope_of p) everywhere outermost p.body.block cs) (sym local.body)
-          (body.block.shape p l (cuts p) outermost everywhere place body_good (record { at = λ n i. refl }));
+          (body.block.shape p l (cuts p) outermost everywhere place body_good (record {
+            free = record { at = λ n i. refl };
+            some = some_rank p.range p.roles tabled.range tabled.roles.some tabled.roles.each;
+            come = record { come = λ n i role x within is takes. refl };
+          }));
     }
 
     pub is_well_made : IsWellMade l

@@ -17,9 +17,8 @@ use Rattle.pb_part_takers.specs.declared.held.Held.{Held}
 use Rattle.pb_part_takers.specs.Loops.{IsInside}
 use Rattle.pb_project_piece.specs.Adding.{onto}
 use Rattle.pb_project_piece.specs.Ones.{end_guard}
-use Rattle.pb_project_piece.specs.Standing.{IsOpen}
 use Rattle.pb_shape.specs.Places.{Here, scope_of, peer_of}
-use Rattle.pb_shape.specs.Loops.{Around}
+use Rattle.pb_shape.specs.Loops.{Around, takers}
 use Rattle.pb_shape.specs.Choices.{told_by}
 use Rattle.pb_shape.specs.Shape.{Shape, Shapes}
 use Rattle.pb_shape.specs.Sizes.{room, room_all, room_among, depth, depth_all, depth_among, braces_all, braces_among}
@@ -28,7 +27,7 @@ use Rattle.pb_local.specs.declared.stmt.Relay.{Relay}
 use Rattle.pb_local.specs.declared.stmt.Test.{Test}
 use Rattle.pb_project_choice.specs.declared.entries.Branch.{Branch}
 use Rattle.pb_project.specs.Learning.{AreFound, AreTests, AreRelays}
-use Rattle.pb_project.specs.Places.{Known, IsPlace, IsGoodStmt, IsGood, AreGood}
+use Rattle.pb_project.specs.Places.{Known, IsPlace, IsGoodStmt, IsGood, AreGood, block_takers, among_takers, IsReached}
 
 -- inside these loops of the text, of which there are so many before
 abbrev pub behind : ℕ → List ℕ → W.Scope
@@ -36,7 +35,7 @@ behind loops numbers = record { loops = loops; around = numbers }
 
 -- The piece is this statement, before the rest of its block: of the loops `before` stand in front of it, and then there are `after`
 pub record IsStmtOf (k : Known) (before after : ℕ) (m : Mark) (s : StmtTree) (piece : List Code) : Type 0 where
-  pub shape : (p : Protocol) (l : Program) (cuts : List Lin) (a : Around) (h : Here) → IsPlace k p l cuts a → IsGoodStmt p cuts a m s → IsOpen h →
+  pub shape : (p : Protocol) (l : Program) (cuts : List Lin) (a : Around) (h : Here) → IsPlace k p l cuts a → IsGoodStmt p cuts a m s → IsReached (scope_of p) h (takers (scope_of p) a m s) →
       (rest : BlockTree) (tail : Codes) → Shape (scope_of p) h a rest tail → Shape (scope_of p) h a (T.more m s rest) (onto piece tail)
   pub made : (p : Protocol) (l : Program) (cuts : List Lin) (a : Around) → IsPlace k p l cuts a → IsGoodStmt p cuts a m s →
       (tail : Codes) → AreMade l (behind after k.numbers) tail → AreMade l (behind before k.numbers) (onto piece tail)
@@ -45,14 +44,14 @@ pub record IsStmtOf (k : Known) (before after : ℕ) (m : Mark) (s : StmtTree) (
   pub braces : (tail : Codes) → braces_all (onto piece tail) ≤ max (2 * depth s + 1) (braces_all tail)
 
 pub record IsBlockOf (k : Known) (before after : ℕ) (b : BlockTree) (codes : Codes) : Type 0 where
-  pub shape : (p : Protocol) (l : Program) (cuts : List Lin) (a : Around) (h : Here) → IsPlace k p l cuts a → IsGood p cuts a b → IsOpen h → Shape (scope_of p) h a b codes
+  pub shape : (p : Protocol) (l : Program) (cuts : List Lin) (a : Around) (h : Here) → IsPlace k p l cuts a → IsGood p cuts a b → IsReached (scope_of p) h (block_takers (scope_of p) a b) → Shape (scope_of p) h a b codes
   pub made : (p : Protocol) (l : Program) (cuts : List Lin) (a : Around) → IsPlace k p l cuts a → IsGood p cuts a b → AreMade l (behind before k.numbers) codes
   pub loops : before + loops_in codes ≡ after
   pub size : size_all codes ≤ room_all b
   pub braces : braces_all codes ≤ 2 * depth_all b + 1
 
 pub record ArePartsOf (k : Known) (before after : ℕ) (bs : BranchTrees) (parts : Parts) : Type 0 where
-  pub shape : (p : Protocol) (l : Program) (cuts : List Lin) (a : Around) (h : Here) → IsPlace k p l cuts a → AreGood p cuts a bs → IsOpen h → Shapes (scope_of p) h a bs parts
+  pub shape : (p : Protocol) (l : Program) (cuts : List Lin) (a : Around) (h : Here) → IsPlace k p l cuts a → AreGood p cuts a bs → IsReached (scope_of p) h (among_takers (scope_of p) a bs) → Shapes (scope_of p) h a bs parts
   pub made : (p : Protocol) (l : Program) (cuts : List Lin) (a : Around) → IsPlace k p l cuts a → AreGood p cuts a bs → ArePartsMade l (behind before k.numbers) parts
   pub loops : before + loops_among parts ≡ after
   pub size : size_parts parts ≤ room_among bs

@@ -10,8 +10,8 @@ use Rattle.pb_choice.specs.declared.rule.ChoiceRule.{ChoiceRule}
 use Rattle.pb_choice.specs.Flaws.{fits_of}
 use Rattle.pb_choice.specs.Scenes.{IsFairStmt, IsFair}
 use Rattle.pb_core_language.specs.Cuts.{stmt_cuts, block_cuts}
-use Rattle.pb_core_language.specs.Flat.{stop}
-use Rattle.pb_core_language.specs.FlatOf.{flat_stmt, flat_block}
+use Rattle.pb_core_language.specs.Flat.{stop, takes_part, takes_part_among}
+use Rattle.pb_core_language.specs.FlatOf.{flat_stmt, flat_block, flat_branches}
 use Rattle.pb_core_language.specs.Plain.{Protocol}
 use Rattle.pb_core_language.specs.Rules.{misfits}
 use Rattle.pb_core_language.specs.Sound.{rows_of}
@@ -24,8 +24,9 @@ use Rattle.pb_part_takers.specs.declared.held.Held.{Held}
 use Rattle.pb_part_takers.specs.Loops.{HeldFit}
 use Rattle.pb_part_takers.specs.Pieces.{AreAmong}
 use Rattle.pb_project_piece.specs.Pieces.{IsTabledAs}
-use Rattle.pb_project_piece.specs.Standing.{Stands}
-use Rattle.pb_shape.specs.Places.{scope_of}
+use Rattle.pb_project_piece.specs.Standing.{Stands, Come, IsOpen}
+use Rattle.pb_shape.specs.Places.{Scope, Who, everyone, Here, scope_of}
+use Rattle.pb_shape.specs.Guards.{Somebody}
 use Rattle.pb_shape.specs.Loops.{Around}
 use Rattle.pb_shape.specs.Tabled.{Goes, GoAll}
 use Rattle.pb_project_choice.specs.Found.{IsAround}
@@ -71,3 +72,16 @@ module _ (p : Protocol) (cuts : List Lin) (a : Around) where
   abbrev pub AreGood : BranchTrees → Type 0
   AreGood no_branch = Unit {0}
   AreGood (branch m b bs) = IsGood b × AreGood bs
+
+-- those that take part in a block, or in some branch
+abbrev pub block_takers : Scope → Around → BlockTree → Who
+block_takers sc a b n i role x = takes_part (a.held n role x) (rank sc.roles n role x) (flat_block sc.roles n a.opens (pos 0) b stop)
+
+abbrev pub among_takers : Scope → Around → BranchTrees → Who
+among_takers sc a bs n i role x = takes_part_among (a.held n role x) (rank sc.roles n role x) (flat_branches sc.roles n a.opens (pos 0) bs)
+
+-- outside of each For; somebody comes here, and all of these ranks do
+pub record IsReached (sc : Scope) (h : Here) (who : Who) : Type 0 where
+  pub free : IsOpen h
+  pub some : Somebody sc h everyone
+  pub come : Come sc h who

@@ -8,6 +8,7 @@ ghost use Rattle.pb_shape.specs.Places.{role_of};
 ghost use Rattle.pb_shape.specs.Shape.{HasShape};
 ghost use Rattle.pb_shape.specs.Sizes.{room_all, depth_all, braces_all};
 ghost use Rattle.pb_shape.specs.Tabled.{IsTabled};
+ghost use Rattle.pb_shape_filled.specs.Filled.{AreFilled};
 ghost use Rattle.pb_project.specs.Wholes.{IsBodyOf, IsLocalOf};
 
 use crate::around::Around;
@@ -84,12 +85,14 @@ pub(crate) fn local_of(alloc: Global, core: &Core, body: Vec<Stmt>) -> Result<Lo
 }
 
 /// The endpoint program of a protocol that keeps its rules: one list of statements for all ranks and every N of its range, in
-/// which no statement stands for what nobody takes part in. Loops are numbered from 0 in text order.
+/// which no statement stands for what nobody takes part in, no `If` has two empty parts, and no `For` an empty body. Loops are
+/// numbered from 0 in text order.
 pub fn project(alloc: Global, core: &Core) -> Result<Local, NoMemory>
     requires sound { is_sound (plain core.now) ≡ true }
     requires tabled { IsTabled (plain core.now) }
     requires keeps { KeepsAll (plain core.now) }
     ensures shape { IfOk result (λ l. HasShape (plain core.now) (program_of l)) }
+    ensures filled { IfOk result (λ l. AreFilled (program_of l).body) }
     ensures made { IfOk result (λ l. IsWellMade (program_of l)) }
     ensures size { IfOk result (λ l. size_all (program_of l).body ≤ room_all (plain core.now).body.block) }
     ensures braces { IfOk result (λ l. braces_all (program_of l).body ≤ 2 * depth_all (plain core.now).body.block + 1) }

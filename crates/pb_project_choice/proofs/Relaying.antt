@@ -52,7 +52,8 @@ use Rattle.pb_shape.specs.Choices.{Tests, Relays, is_told, teller}
 use Rattle.pb_project_choice.specs.declared.entries.Branch.{Branch}
 use Rattle.pb_project_choice.specs.Found.{entries_at, all_entries, IsFoundIn}
 use Rattle.pb_project_choice.specs.Heard.{IsOther, IsHeard}
-use Rattle.pb_project_choice.specs.Relayed.{relayed, IsRight, AreOfRoles, AreFit, IsRelayed, AreRelayed}
+use Rattle.pb_project_choice.specs.Relayed.{relayed, IsRight, AreOfRoles, AreFit, HaveCallers, HearSuch, IsRelayed, AreRelayed}
+use Rattle.pb_project_choice.specs.Tested.{HasHolder}
 use Rattle.pb_project_choice.specs.Sayable.{AreSayable}
 use Rattle.pb_project_choice.specs.Sources.{OneSource, same_source, is_from, is_listed, hears, source_at}
 use Rattle.pb_project_choice.proofs.Hearing.{source_is, source_self, any_next, any_none}
@@ -109,6 +110,17 @@ relay_there range roles whole areas chooser es s old new gs it there says guards
             guards = record { some = some_guard gs there.n (pos 0) there.role there.index held; each = guards p same };
             from = record { role = subst (λ z. s.role < z) (sym same) (known there.n there.role there.index s there.within is_one heard); off = small_off s.at.off (heard_small s es there.n there.role there.index fit.small heard) };
           }));
+      called = λ such sc st range_is fit hear all.
+          let is_one = rank_there range roles whole sc there.n there.role there.index st there.within there.rank in
+          subst (HaveCallers range sc.roles such) (sym e) (All-push (λ q. HasHolder range sc.roles such q.guards) old r all (record {
+            n = there.n;
+            role = there.role;
+            index = there.index;
+            within = there.within;
+            rank = is_one;
+            is = hear s there.n there.role there.index there.within is_one (it.only there.n there.role there.index there.there);
+            holds = λ i. says sc.roles there.n i there.role there.index (sym st.roles_is) range_is (sayable_of range chooser s es areas it fit) there.within is_one ∙ there.there;
+          }));
     }
 
 pub relay_gone : (range : NRange) (roles : ℕ) (whole areas : List Area) (chooser : CoreEnd) (es : List Entry) (s : Source) (old : List Relay) → IsHeard chooser s es areas →
@@ -118,6 +130,7 @@ relay_gone range roles whole areas chooser es s old it none = record {
   rest = λ sc st range_is fit n role x within is other h. absurd (true≢false (sym (it.rest n role x other fit.small h) ∙ none n role x within (st.whole_is.is n role x within ∙ is)));
   right = λ sc st range_is fit all. all;
   each = λ p sc st range_is fit known same all. all;
+  called = λ such sc st range_is fit hear all. all;
 }
 
 -- ---- all relays
@@ -127,12 +140,14 @@ pub record RelayedSoFar (range : NRange) (roles : ℕ) (whole : List Area) (choo
       IsOther chooser s n role x → hears s es n role x ≡ true → (relayed rs n role x ≡ true) ⊎ (is_listed s (drop i sources) ≡ true)
   pub right : (sc : Scope) → Stands range roles whole sc → IsRange range → AreFit range es → All (IsRight range sc.roles es) rs
   pub each : (p : Program) (sc : Scope) → Stands range roles whole sc → IsRange range → AreFit range es → AreOfRoles range sc.roles es roles → length p.roles ≡ roles → All (IsRelay p) rs
+  pub called : (such : ℤ → ℕ → ℤ → Bool) (sc : Scope) → Stands range roles whole sc → IsRange range → AreFit range es → HearSuch range sc.roles such es → HaveCallers range sc.roles such rs
 
 pub relayed_start : (range : NRange) (roles : ℕ) (whole : List Area) (chooser : CoreEnd) (es : List Entry) (sources : List Source) (rs : List Relay) → rs ≡ [] → RelayedSoFar range roles whole chooser es sources 0 rs
 relayed_start range roles whole chooser es sources rs e = subst (RelayedSoFar range roles whole chooser es sources 0) (sym e) (record {
   rest = λ sc st range_is fit s listed n role x within is other h. inr listed;
   right = λ sc st range_is fit. All-nil (IsRight range sc.roles es);
   each = λ p sc st range_is fit known same. All-nil (IsRelay p);
+  called = λ such sc st range_is fit hear. All-nil (λ q. HasHolder range sc.roles such q.guards);
 })
 
 pub relayed_step : (range : NRange) (roles : ℕ) (whole : List Area) (chooser : CoreEnd) (es : List Entry) (sources : List Source) (i : ℕ) (d : Source) (old new : List Relay) → i < length sources →
@@ -150,6 +165,7 @@ relayed_step range roles whole chooser es sources i d old new lt one h =
       ];
       right = λ sc st range_is fit. one.right sc st range_is fit (h.right sc st range_is fit);
       each = λ p sc st range_is fit known same. one.each p sc st range_is fit known same (h.each p sc st range_is fit known same);
+      called = λ such sc st range_is fit hear. one.called such sc st range_is fit hear (h.called such sc st range_is fit hear);
     }
 
 pub relayed_end : (range : NRange) (roles : ℕ) (whole : List Area) (chooser : CoreEnd) (es : List Entry) (sources : List Source) (i : ℕ) (rs : List Relay) → length sources ≤ i →
@@ -161,6 +177,7 @@ relayed_end range roles whole chooser es sources i rs le h = record {
   ];
   right = h.right;
   each = h.each;
+  called = h.called;
 }
 
 -- ---- the entries of all branches
@@ -382,6 +399,20 @@ module _ (sc : Scope) (a : Around) (at : CoreEnd) (bs : BranchTrees) (found : Li
   relays_made roles whole sources rs st range_is are p same =
       are.each p sc st range_is (are_fit sc.range sc a bs found refl h) (subst (AreOfRoles sc.range sc.roles (all_entries found)) (sym st.roles_is) of_roles) same
 
+  -- whoever hears is told
+  abbrev pub Told : (ℤ → ℕ → ℤ → Bool) → Type 0
+  Told such = (k l : ℕ) (n : ℤ) (role : ℕ) (x : ℤ) → IsIn sc.range n → is_rank sc.roles n role x ≡ true → is_told sc a bs k l n (pos 0) role x ≡ true → such n role x ≡ true
+
+  heard_such : (such : ℤ → ℕ → ℤ → Bool) → Told such → HearSuch sc.range sc.roles such (all_entries found)
+  heard_such such told s n role x within is heard =
+      let f = heard_first n role x within is s heard in
+      let os : List Outcome = firsts (a.held n role x) (rank sc.roles n role x) (branch_at f.0 (flat_branches sc.roles n a.opens (pos 0) bs)) in
+      told f.0 f.1 n role x within is ((label_is os f.1).1 (rank sc.roles n s.role (value s.at n x), f.2))
+
+  pub relays_hold : (roles : ℕ) (whole : List Area) (sources : List Source) (rs : List Relay) → Stands sc.range roles whole sc → IsRange sc.range → AreRelayed sc.range roles whole at (all_entries found) sources rs →
+      (such : ℤ → ℕ → ℤ → Bool) → Told such → HaveCallers sc.range sc.roles such rs
+  relays_hold roles whole sources rs st range_is are such told = are.called such sc st range_is (are_fit sc.range sc a bs found refl h) (heard_such such told)
+
 -- nobody is told where there are no tests
 pub no_tests : (sc : Scope) (h : Here) (a : Around) (at : CoreEnd) (bs : BranchTrees) (tests : List Test) (rs : List Relay) → IsOpen h → Tests sc h a bs tests → tests ≡ [] → Relays sc a at bs rs
 no_tests sc h a at bs tests rs opened ts e n role x k l within is other told =
@@ -402,4 +433,12 @@ pub relays_each : (range : NRange) (roles : ℕ) (whole : List Area) (sc : Scope
 relays_each range roles whole sc a at bs found es sources rs p st range_is h one same are fits =
     subst (λ r. Stands r roles whole sc → IsRange r → AreRelayed r roles whole at (all_entries found) sources rs → All (IsRelay p) rs) st.range_is
     (λ st range_is are. relays_made sc a at bs found h one roles whole sources rs st range_is are p fits)
+    st range_is (subst (λ z. AreRelayed range roles whole at z sources rs) same are)
+
+pub relays_called : (range : NRange) (roles : ℕ) (whole : List Area) (sc : Scope) (a : Around) (at : CoreEnd) (bs : BranchTrees) (found : List Branch) (es : List Entry) (sources : List Source) (rs : List Relay) (such : ℤ → ℕ → ℤ → Bool) →
+    Stands range roles whole sc → IsRange range → IsFoundIn sc a bs found → OneSource sc a at bs → es ≡ all_entries found → AreRelayed range roles whole at es sources rs →
+    ((k l : ℕ) (n : ℤ) (role : ℕ) (x : ℤ) → IsIn sc.range n → is_rank sc.roles n role x ≡ true → is_told sc a bs k l n (pos 0) role x ≡ true → such n role x ≡ true) → HaveCallers range sc.roles such rs
+relays_called range roles whole sc a at bs found es sources rs such st range_is h one same are told =
+    subst (λ r. Stands r roles whole sc → IsRange r → AreRelayed r roles whole at (all_entries found) sources rs → HaveCallers r sc.roles such rs) st.range_is
+    (λ st range_is are. relays_hold sc a at bs found h one roles whole sources rs st range_is are such told)
     st range_is (subst (λ z. AreRelayed range roles whole at z sources rs) same are)

@@ -43,7 +43,7 @@ use Rattle.pb_shape.specs.Choices.{guards_of, is_told}
 use Rattle.pb_project_choice.specs.declared.entries.Branch.{Branch}
 use Rattle.pb_project_choice.specs.Found.{entries_at, IsFoundIn, has_label, tells, AreKnown}
 use Rattle.pb_project_choice.specs.Sayable.{AreSayable}
-use Rattle.pb_project_choice.specs.Tested.{IsTested, IsBefore, AscendTo}
+use Rattle.pb_project_choice.specs.Tested.{HasHolder, HaveHolders, TellSuch, IsTested, IsBefore, AscendTo}
 use Rattle.pb_project_choice.proofs.Labels.{label_known}
 use Rattle.pb_project_choice.proofs.Saying.{hold_append}
 
@@ -220,6 +220,17 @@ test_there range roles whole areas k m es old new gs is fits there says guards e
         label = known there.n there.role there.index m (in_scope range roles whole sc there.n st there.within) is_one (sym (is there.n there.role there.index) ∙ there.there);
         guards = record { some = some_guard gs there.n (pos 0) there.role there.index held; each = guards p same };
       }));
+  held = λ such sc cuts st r h f tell all.
+      let is_one = rank_there range roles whole sc there.n there.role there.index st there.within there.rank in
+      subst (HaveHolders range sc.roles such) (sym e) (All-push (λ t. HasHolder range sc.roles such t.guards) old (record { branch = k; label = m; guards = gs }) all (record {
+        n = there.n;
+        role = there.role;
+        index = there.index;
+        within = there.within;
+        rank = is_one;
+        is = tell m there.n there.role there.index there.within is_one (sym (is there.n there.role there.index) ∙ there.there);
+        holds = λ i. says sc.roles there.n i there.role there.index (sym st.roles_is) r (sayable range cuts areas h (fits cuts f)) there.within is_one ∙ there.there;
+      }));
 }
 
 pub test_gone : (range : NRange) (roles : ℕ) (whole areas : List Area) (k m : ℕ) (es : List Entry) (old : List Test) →
@@ -229,6 +240,7 @@ test_gone range roles whole areas k m es old is none = record {
   holds = λ sc cuts st r h f j l n i role x within is_one.
       nothing_bools _ (nat_eq j k) l m (λ q. tells q es n role x) (sym (is n role x) ∙ none n role x within (st.whole_is.is n role x within ∙ is_one));
   each = λ p b sc cuts st r h f known same lt all. all;
+  held = λ such sc cuts st r h f tell all. all;
 }
 
 -- ---- the tests of a branch, label after label
@@ -245,6 +257,7 @@ tested_next range roles whole k from label next es old now new e le none one two
       next_bools _ _ _ (nat_eq j k) (tells l es n role x) l from label le (one.holds sc cuts st r h f j l n i role x within is) (two.holds sc cuts st r h f j l n i role x within is)
       (λ at_least under. no_label l es n role x (none l at_least (lt-ltb l label under)));
   each = λ p b sc cuts st r h f known same lt all. two.each p b sc cuts st r h f known same lt (one.each p b sc cuts st r h f known same lt all);
+  held = λ such sc cuts st r h f tell all. two.held such sc cuts st r h f tell (one.held such sc cuts st r h f tell all);
 })
 
 start_bools : (o jk t : Bool) (l : ℕ) → o ≡ o || (jk && (nat_lt l 0 && t))
@@ -254,6 +267,7 @@ pub tested_start : (range : NRange) (roles : ℕ) (whole : List Area) (k : ℕ) 
 tested_start range roles whole k es old = record {
   holds = λ sc cuts st r h f j l n i role x within is. start_bools _ (nat_eq j k) (tells l es n role x) l;
   each = λ p b sc cuts st r h f known same lt all. all;
+  held = λ such sc cuts st r h f tell all. all;
 }
 
 end_bools : (o n jk t : Bool) (l from : ℕ) → n ≡ o || (jk && (nat_lt l from && t)) → (from ≤ l → t ≡ false) → n ≡ o || (jk && (true && t))
@@ -265,6 +279,7 @@ pub tested_end : (range : NRange) (roles : ℕ) (whole : List Area) (k from : �
 tested_end range roles whole k from es old new none it = record {
   holds = λ sc cuts st r h f j l n i role x within is. end_bools _ _ (nat_eq j k) (tells l es n role x) l from (it.holds sc cuts st r h f j l n i role x within is) (λ le. no_label l es n role x (none l le));
   each = it.each;
+  held = it.held;
 }
 
 -- ---- in order
@@ -363,3 +378,10 @@ holds_none found ts j m n i role x e = ap (λ z. hold (guards_of j m z) n i role
 
 pub fit_in : (range : NRange) (sc : Scope) (a : Around) (bs : BranchTrees) (found : List Branch) → sc.range ≡ range → (h : IsFoundIn sc a bs found) → (k : ℕ) → EntriesFit range h.cuts (entries_at k found)
 fit_in range sc a bs found e h k = subst (λ r. EntriesFit r h.cuts (entries_at k found)) e (h.fit k)
+
+-- nobody else is told
+pub tell_such : (sc : Scope) (a : Around) (bs : BranchTrees) (found : List Branch) (range : NRange) (such : ℤ → ℕ → ℤ → Bool) → sc.range ≡ range → IsFoundIn sc a bs found →
+    ((k l : ℕ) (n : ℤ) (role : ℕ) (x : ℤ) → IsIn sc.range n → is_rank sc.roles n role x ≡ true → is_told sc a bs k l n (pos 0) role x ≡ true → such n role x ≡ true) → (k : ℕ) → TellSuch range sc.roles such (entries_at k found)
+tell_such sc a bs found range such same h told k = λ l n role x within is t.
+    let w : IsIn sc.range n = subst (λ r. IsIn r n) (sym same) within in
+    told k l n role x w is (sym (told_is sc a bs found h k l n (pos 0) role x w is) ∙ t)

@@ -21,6 +21,7 @@ use Rattle.pb_project_piece.specs.Standing.{Stands}
 use Rattle.pb_shape.specs.Places.{Scope}
 use Rattle.pb_project_choice.specs.Heard.{IsOther}
 use Rattle.pb_project_choice.specs.Sources.{is_listed, hears}
+use Rattle.pb_project_choice.specs.Tested.{HasHolder}
 
 -- the guards of some relay hold of the rank, with its own index for the variable
 abbrev pub relayed : List Relay → ℤ → ℕ → ℤ → Bool
@@ -41,6 +42,14 @@ pub record AreFit (range : NRange) (es : List Entry) : Type 0 where
   pub are_cuts : All IsCut cuts
   pub fit : EntriesFit range cuts es
 
+-- each relay holds of such a rank
+abbrev pub HaveCallers : NRange → List CoreRole → (ℤ → ℕ → ℤ → Bool) → List Relay → Type 0
+HaveCallers range roles such relays = All (λ r. HasHolder range roles such r.guards) relays
+
+-- whoever of these entries hears is such a rank
+abbrev pub HearSuch : NRange → List CoreRole → (ℤ → ℕ → ℤ → Bool) → List Entry → Type 0
+HearSuch range roles such es = (s : Source) (n : ℤ) (role : ℕ) (x : ℤ) → IsIn range n → is_rank roles n role x ≡ true → hears s es n role x ≡ true → such n role x ≡ true
+
 -- of one source
 pub record IsRelayed (range : NRange) (roles : ℕ) (whole : List Area) (chooser : CoreEnd) (es : List Entry) (s : Source) (old new : List Relay) : Type 0 where
   pub kept : (n : ℤ) (role : ℕ) (x : ℤ) → relayed old n role x ≡ true → relayed new n role x ≡ true
@@ -48,6 +57,7 @@ pub record IsRelayed (range : NRange) (roles : ℕ) (whole : List Area) (chooser
       hears s es n role x ≡ true → relayed new n role x ≡ true
   pub right : (sc : Scope) → Stands range roles whole sc → IsRange range → AreFit range es → All (IsRight range sc.roles es) old → All (IsRight range sc.roles es) new
   pub each : (p : Program) (sc : Scope) → Stands range roles whole sc → IsRange range → AreFit range es → AreOfRoles range sc.roles es roles → length p.roles ≡ roles → All (IsRelay p) old → All (IsRelay p) new
+  pub called : (such : ℤ → ℕ → ℤ → Bool) (sc : Scope) → Stands range roles whole sc → IsRange range → AreFit range es → HearSuch range sc.roles such es → HaveCallers range sc.roles such old → HaveCallers range sc.roles such new
 
 -- of all sources
 pub record AreRelayed (range : NRange) (roles : ℕ) (whole : List Area) (chooser : CoreEnd) (es : List Entry) (sources : List Source) (new : List Relay) : Type 0 where
@@ -55,3 +65,4 @@ pub record AreRelayed (range : NRange) (roles : ℕ) (whole : List Area) (choose
       IsOther chooser s n role x → hears s es n role x ≡ true → relayed new n role x ≡ true
   pub right : (sc : Scope) → Stands range roles whole sc → IsRange range → AreFit range es → All (IsRight range sc.roles es) new
   pub each : (p : Program) (sc : Scope) → Stands range roles whole sc → IsRange range → AreFit range es → AreOfRoles range sc.roles es roles → length p.roles ≡ roles → All (IsRelay p) new
+  pub called : (such : ℤ → ℕ → ℤ → Bool) (sc : Scope) → Stands range roles whole sc → IsRange range → AreFit range es → HearSuch range sc.roles such es → HaveCallers range sc.roles such new

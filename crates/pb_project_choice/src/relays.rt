@@ -1,19 +1,21 @@
-ghost use Rattle.std.specs.Prelude.{◌≡◌, ◌≤◌, ◌++◌, length, List, [], true, IfOk, OnOk, IfSome};
+ghost use Rattle.std.specs.Prelude.{◌≡◌, ◌≤◌, ◌++◌, ℕ, ℤ, pos, Bool, length, List, [], true, IfOk, OnOk, IfSome};
 ghost use Rattle.std.specs.List.{All, list_any};
 ghost use Rattle.pb_choice.specs.Clashes.{same_base};
 ghost use Rattle.pb_core_language.specs.Sound.{is_small};
 ghost use Rattle.pb_core_language.specs.Tree.{BranchTrees};
+ghost use Rattle.pb_core_language.specs.Verdict.{IsIn};
+ghost use Rattle.pb_core_flat.specs.Seated.{is_rank};
 ghost use Rattle.pb_local.specs.Tree.{Program};
 ghost use Rattle.pb_local.specs.WellMade.{IsRange, IsRelay};
 ghost use Rattle.pb_project_piece.specs.Standing.{Stands, IsOpen};
 ghost use Rattle.pb_shape.specs.Places.{Scope, Here};
 ghost use Rattle.pb_shape.specs.Loops.{Around};
-ghost use Rattle.pb_shape.specs.Choices.{Tests, Relays};
+ghost use Rattle.pb_shape.specs.Choices.{Tests, Relays, is_told};
 ghost use Rattle.pb_project_choice.specs.Found.{IsFoundIn, all_entries};
 ghost use Rattle.pb_project_choice.specs.Sayable.{IsPlainLin, IsSayable};
 ghost use Rattle.pb_project_choice.specs.Sources.{OneSource, same_source, is_from, is_listed};
 ghost use Rattle.pb_project_choice.specs.Heard.{IsCutOut, AreOthers, AddsHeard, IsHeard};
-ghost use Rattle.pb_project_choice.specs.Relayed.{IsRelayed, AreRelayed};
+ghost use Rattle.pb_project_choice.specs.Relayed.{HaveCallers, IsRelayed, AreRelayed};
 
 use crate::entries::Branch;
 use crate::guards::guards_in;
@@ -263,7 +265,7 @@ fn put_relays(
 }
 
 /// The relays of a choice with these tests, by what the ranks find first in each branch: who hears of it first from another
-/// rank than the chooser. Where there are no tests, nobody is told, and there are none.
+/// rank than the chooser. Each holds of somebody who is told. Where there are no tests, nobody is told, and there are none.
 pub fn relays_of(
     alloc: Global,
     setting: &Setting,
@@ -276,6 +278,9 @@ pub fn relays_of(
     ensures each { IfOk result (λ v. (p : Program) (sc : Scope) (a : Around) (bs : BranchTrees) → Stands setting.now.range setting.now.roles setting.now.whole.now sc → IsRange setting.now.range →
         is_small chooser.at.off ≡ true → IsFoundIn sc a bs branches.now → OneSource sc a chooser bs → length p.roles ≡ setting.now.roles → All (IsRelay p) v.items) }
     ensures told { IfOk result (λ v. tests.now ≡ [] → v.items ≡ []) }
+    ensures called { IfOk result (λ v. (sc : Scope) (a : Around) (bs : BranchTrees) (such : ℤ → ℕ → ℤ → Bool) → Stands setting.now.range setting.now.roles setting.now.whole.now sc → IsRange setting.now.range →
+        IsFoundIn sc a bs branches.now → OneSource sc a chooser bs →
+        ((k l : ℕ) (n : ℤ) (role : ℕ) (x : ℤ) → IsIn sc.range n → is_rank sc.roles n role x ≡ true → is_told sc a bs k l n (pos 0) role x ≡ true → such n role x ≡ true) → HaveCallers setting.now.range sc.roles such v.items) }
 {
     if tests.is_empty() {
         return Ok(Vec::new(alloc));

@@ -1,4 +1,4 @@
-ghost use Rattle.std.specs.Prelude.{◌≡◌, ◌≤◌, ◌<◌, ◌+◌, ◌^◌, ℕ, ℤ, length, List, nat_eq, ◌&&◌, ◌||◌, true, false, IfOk, OnOk, IfSome};
+ghost use Rattle.std.specs.Prelude.{◌≡◌, ◌≤◌, ◌<◌, ◌+◌, ◌^◌, ℕ, ℤ, pos, Bool, length, List, nat_eq, ◌&&◌, ◌||◌, true, false, IfOk, OnOk, IfSome};
 ghost use Rattle.std.specs.List.{All};
 ghost use Rattle.pb_affine.specs.declared.lin.Lin.{Lin};
 ghost use Rattle.pb_affine.specs.declared.range.NRange.{NRange};
@@ -7,15 +7,17 @@ ghost use Rattle.pb_part_areas.specs.Fits.{Fits};
 ghost use Rattle.pb_choice.specs.Clashes.{is_label};
 ghost use Rattle.pb_core_language.specs.Sound.{Rows, are_branches};
 ghost use Rattle.pb_core_language.specs.Tree.{BranchTrees};
+ghost use Rattle.pb_core_language.specs.Verdict.{IsIn};
+ghost use Rattle.pb_core_flat.specs.Seated.{is_rank};
 ghost use Rattle.pb_part_firsts.specs.Fitting.{EntriesFit};
 ghost use Rattle.pb_local.specs.Tree.{Program};
 ghost use Rattle.pb_local.specs.WellMade.{IsRange, IsTest, Ascend};
 ghost use Rattle.pb_project_piece.specs.Standing.{Stands, IsOpen};
 ghost use Rattle.pb_shape.specs.Places.{Scope, Here};
 ghost use Rattle.pb_shape.specs.Loops.{Around};
-ghost use Rattle.pb_shape.specs.Choices.{Tests};
+ghost use Rattle.pb_shape.specs.Choices.{Tests, is_told};
 ghost use Rattle.pb_project_choice.specs.Found.{IsFoundIn, has_label, tells};
-ghost use Rattle.pb_project_choice.specs.Tested.{is_under, IsTested, AscendTo};
+ghost use Rattle.pb_project_choice.specs.Tested.{is_under, HaveHolders, IsTested, AscendTo};
 
 use crate::entries::Branch;
 use crate::guards::guards_in;
@@ -165,7 +167,7 @@ fn next(number: u32) -> u32
     }
 }
 
-/// The tests of a choice, by what the ranks find first in each branch.
+/// The tests of a choice, by what the ranks find first in each branch. Each holds of somebody who is told.
 pub fn tests_of(
     alloc: Global,
     setting: &Setting,
@@ -176,6 +178,9 @@ pub fn tests_of(
     ensures each { IfOk result (λ v. (p : Program) (sc : Scope) (a : Around) (bs : BranchTrees) (rows : Rows) → Stands setting.now.range setting.now.roles setting.now.whole.now sc → IsRange setting.now.range →
         length branches.now ≤ 64 → IsFoundIn sc a bs branches.now → are_branches rows a.opens bs ≡ true → rows.labels ≡ length p.labels → length p.roles ≡ setting.now.roles → All (IsTest p (length branches.now)) v.items) }
     ensures ascend { IfOk result (λ v. length branches.now ≤ 64 → Ascend v.items) }
+    ensures held { IfOk result (λ v. (sc : Scope) (a : Around) (bs : BranchTrees) (such : ℤ → ℕ → ℤ → Bool) → Stands setting.now.range setting.now.roles setting.now.whole.now sc → IsRange setting.now.range →
+        length branches.now ≤ 64 → IsFoundIn sc a bs branches.now →
+        ((k l : ℕ) (n : ℤ) (role : ℕ) (x : ℤ) → IsIn sc.range n → is_rank sc.roles n role x ≡ true → is_told sc a bs k l n (pos 0) role x ≡ true → such n role x ≡ true) → HaveHolders setting.now.range sc.roles such v.items) }
 {
     let mut tests = Vec::new(alloc);
     let mut number: u32 = 0;

@@ -2,7 +2,7 @@
 use Rattle.std.proofs.Common.{◌≡◌, ℕ, ℤ, ap, sym, ◌∙◌}
 use Rattle.pb_syntax.specs.declared.tree.Op.{Op}
 use Rattle.pb_local.specs.declared.stmt.Peer.{Peer}
-use Rattle.pb_local.specs.declared.stmt.Stmt.{Stmt, fold-roll-Stmt}
+use Rattle.pb_local.specs.declared.stmt.Stmt.{fold-roll-Stmt}
 use Rattle.pb_local.specs.declared.stmt.Stmt.TheVariants.{Barrier, Own, Again, Send, Recv, Run, Broadcast, Reduce, Allreduce, rolls-Barrier, rolls-Own, rolls-Again, rolls-Send, rolls-Recv, rolls-Run, rolls-Broadcast, rolls-Reduce, rolls-Allreduce}
 use Rattle.pb_local.specs.declared.stmt.Stmt.TheOpen as Layer
 use Rattle.pb_local.specs.Tree.{Code, barrier, own, again, send, recv, run, broadcast, reduce, allreduce, layer, plain}

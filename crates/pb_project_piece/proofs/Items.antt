@@ -1,6 +1,6 @@
 -- Messages and computes, and the items of a foreach.
-use Rattle.std.proofs.Common.{◌≡◌, ◌<◌, ◌≤◌, ◌+◌, ℕ, Bool, true, false, ◌&&◌, Option, Some, None, List, [], ◌∷◌, ◌++◌, map, drop, get_or, length, sym, ap, ◌∙◌, subst, arith, drop_of_length-le}
-use Rattle.std.proofs.lemmas.Bool.{and_parts, false≢true}
+use Rattle.std.proofs.Common.{◌≡◌, ◌<◌, ◌≤◌, ◌+◌, ℕ, ℤ, Bool, true, false, ◌&&◌, Option, Some, None, List, [], ◌∷◌, ◌++◌, map, drop, get_or, length, sym, ap, ◌∙◌, subst, arith, drop_of_length-le}
+use Rattle.std.proofs.lemmas.Bool.{and_parts, false≢true, or_left, or_right}
 use Rattle.std.proofs.lemmas.List.{at_drop_more}
 use Rattle.std.specs.Prelude.{nat_lt}
 use Rattle.pb_affine.specs.declared.range.NRange.{NRange}
@@ -29,7 +29,7 @@ use Rattle.pb_shape.specs.Items.{Item, Items}
 use Rattle.pb_project_piece.specs.Adding.{onto, Added}
 use Rattle.pb_project_piece.specs.Ranked.{IsThere}
 use Rattle.pb_project_piece.specs.Comers.{AreComers}
-use Rattle.pb_project_piece.specs.Standing.{Stands, IsEach, is_end_if, varies}
+use Rattle.pb_project_piece.specs.Standing.{Stands, Come, at_ends, IsEach, ComeIf, is_end_if, varies}
 use Rattle.pb_project_piece.specs.Ones.{end_guard, only_when, IsOne, IsAt, IsItemOf, AreItemsOf}
 use Rattle.pb_project_piece.proofs.Added.{onto_append, onto_nothing, added_one, added_none, added_as, added_two}
 use Rattle.pb_project_piece.proofs.Ones.{one_there, one_gone}
@@ -42,7 +42,7 @@ module _ (range : NRange) (roles : ℕ) (whole : List Area) (over : Option Bound
   put_there e c areas t old new s comers there is made pushed =
       added_one (IsAt range roles whole over fixed e c) old new s (only_when (end_guard e ∷ []) (alone c)) pushed made
       (record {
-        is = λ sc h stands here fair. one_there range roles whole sc stands over fixed areas h e c here fair comers (subst (IsThere range whole areas) is there);
+        is = λ sc h stands here come fair. one_there range roles whole sc stands over fixed areas h e c here come fair comers (subst (IsThere range whole areas) is there);
         weighed = λ simple. one_weighed (end_guard e ∷ []) c simple;
         made = λ p l tabled sound made_c. one_flat l (end_guard e ∷ []) c (one_guard l (end_guard e) (guard_made l e (peer_made p l e tabled sound))) made_c;
       })
@@ -51,7 +51,7 @@ module _ (range : NRange) (roles : ℕ) (whole : List Area) (over : Option Bound
   put_gone e c areas t old comers there is =
       added_none (IsAt range roles whole over fixed e c) old
       (record {
-        is = λ sc h stands here fair. one_gone range roles whole sc stands over fixed areas h e c here fair comers (subst (IsThere range whole areas) is there);
+        is = λ sc h stands here come fair. one_gone range roles whole sc stands over fixed areas h e c here fair comers (subst (IsThere range whole areas) is there);
         weighed = λ simple. weighed_none 2 1;
         made = λ p l tabled sound made_c. tt;
       })
@@ -86,16 +86,24 @@ pub fair_if : (over : Option Bounds) (rows : Rows) (e : CoreEnd) → is_end rows
 fair_if None rows e h = (and_parts (nat_lt e.role rows.roles) (is_over_n e.at.base && is_small e.at.off) h).1
 fair_if (Some over) rows e h = (and_parts (nat_lt e.role rows.roles) (is_small e.at.off) h).1
 
+-- some of those that come here
+pub come_some : (sc : Scope) (h : Here) (all some : S.Who) → ((n i : ℤ) (role : ℕ) (x : ℤ) → some n i role x ≡ true → all n i role x ≡ true) → Come sc h all → Come sc h some
+come_some sc h all some among c = record { come = λ n i role x within rank is. c.come n i role x within rank (among n i role x is) }
+
+come_if : (over : Option Bounds) (sc : Scope) (h : Here) (all some : S.Who) → ((n i : ℤ) (role : ℕ) (x : ℤ) → some n i role x ≡ true → all n i role x ≡ true) → ComeIf over sc h all → ComeIf over sc h some
+come_if None sc h all some among c = come_some sc h all some among c
+come_if (Some over) sc h all some among c = tt
+
 module _ (range : NRange) (roles : ℕ) (whole : List Area) (over : Option Bounds) (fixed : List Area) where
   pub message_put : (l : ℕ) (f t : CoreEnd) (sent received : Code) (old mid new : List Stmt) → sent ≡ L.send l (peer_of t) → received ≡ L.recv l (peer_of f) →
       Added old mid (IsAt range roles whole over fixed f sent) → Added mid new (IsAt range roles whole over fixed t received) → Added old new (IsItemOf range roles whole over fixed (T.message l f t))
   message_put l f t sent received old mid new send_is recv_is first second =
       added_two (IsAt range roles whole over fixed f sent) (IsAt range roles whole over fixed t received) (IsItemOf range roles whole over fixed (T.message l f t)) old mid new
       (λ a b p q. record {
-        is = λ sc h rows ids stands here sound item.
+        is = λ sc h rows ids stands here come sound item.
             let two = and_parts (is_end rows (varies over) f) (is_end rows (varies over) t) (and_parts (nat_lt l rows.labels) _ sound).1 in
-            let one : IsOne sc h (S.is_end f) (alone (L.send l (peer_of t))) a = subst (λ c. IsOne sc h (S.is_end f) (alone c) a) send_is (p.is sc h stands here (fair_if over rows f two.0)) in
-            let other : IsOne sc h (S.is_end t) (alone (L.recv l (peer_of f))) b = subst (λ c. IsOne sc h (S.is_end t) (alone c) b) recv_is (q.is sc h stands here (fair_if over rows t two.1)) in
+            let one : IsOne sc h (S.is_end f) (alone (L.send l (peer_of t))) a = subst (λ c. IsOne sc h (S.is_end f) (alone c) a) send_is (p.is sc h stands here (come_if over sc h (at_ends (T.message l f t)) (S.is_end f) (λ n i role x k. or_left _ _ k) come) (fair_if over rows f two.0)) in
+            let other : IsOne sc h (S.is_end t) (alone (L.recv l (peer_of f))) b = subst (λ c. IsOne sc h (S.is_end t) (alone c) b) recv_is (q.is sc h stands here (come_if over sc h (at_ends (T.message l f t)) (S.is_end t) (λ n i role x k. or_right _ _ k) come) (fair_if over rows t two.1)) in
             record { item = λ tail. subst (Item sc h tail (T.message l f t)) (sym (onto_append a b tail)) (Item.message (one.one (onto b tail)) (other.one tail)) };
         weighed = weighed_two 2 2 1 a b (p.weighed (subst IsSimple (sym send_is) (send_simple l (peer_of t)))) (q.weighed (subst IsSimple (sym recv_is) (recv_simple l (peer_of f))));
         made = λ pr lo ids tabled sound item goes.
@@ -114,8 +122,8 @@ module _ (range : NRange) (roles : ℕ) (whole : List Area) (over : Option Bound
   run_put k e running old new run_is put =
       added_as (IsAt range roles whole over fixed e running) (IsItemOf range roles whole over fixed (T.run k e)) old new
       (λ a p. record {
-        is = λ sc h rows ids stands here sound item.
-            let one : IsOne sc h (S.is_end e) (alone (L.run k)) a = subst (λ c. IsOne sc h (S.is_end e) (alone c) a) run_is (p.is sc h stands here (fair_if over rows e (and_parts (nat_lt k rows.kernels) (is_end rows (varies over) e) sound).1)) in
+        is = λ sc h rows ids stands here come sound item.
+            let one : IsOne sc h (S.is_end e) (alone (L.run k)) a = subst (λ c. IsOne sc h (S.is_end e) (alone c) a) run_is (p.is sc h stands here come (fair_if over rows e (and_parts (nat_lt k rows.kernels) (is_end rows (varies over) e) sound).1)) in
             record { item = λ tail. Item.run (one.one tail) };
         weighed = p.weighed (subst IsSimple (sym run_is) (run_simple k));
         made = λ pr lo ids tabled sound item goes.
@@ -126,7 +134,7 @@ module _ (range : NRange) (roles : ℕ) (whole : List Area) (over : Option Bound
   -- a statement that is none of these adds nothing
   pub nothing_put : (s : StmtTree) (old : List Stmt) → is_item s ≡ false → Added old old (IsItemOf range roles whole over fixed s)
   nothing_put s old other = added_none (IsItemOf range roles whole over fixed s) old (record {
-    is = λ sc h rows ids stands here sound item. absurd (false≢true (sym other ∙ item));
+    is = λ sc h rows ids stands here come sound item. absurd (false≢true (sym other ∙ item));
     weighed = weighed_none (item_room s) 1;
     made = λ pr lo ids tabled sound item goes. tt;
   })
@@ -164,7 +172,7 @@ module _ (range : NRange) (roles : ℕ) (whole : List Area) (over : Bounds) (fix
         subst (λ b. ItemsNow sc h rows ids (block_of (map plain_stmt items)) b old) (ap (λ l. block_of (map plain_stmt l)) (drop_is items i x lt is)) (so_far.is sc h rows ids stands here sound) in
         let item = and_parts (is_item (plain_stmt x).stmt) (is_stmt rows true ids (plain_stmt x).stmt && is_block rows true ids (block_of (map plain_stmt (drop (i + 1) items)))) now.sound in
         let parts = and_parts (is_stmt rows true ids (plain_stmt x).stmt) (is_block rows true ids (block_of (map plain_stmt (drop (i + 1) items)))) item.1 in
-        let one = added.has.is sc h rows ids stands here parts.0 item.0 in
+        let one = added.has.is sc h rows ids stands here tt parts.0 item.0 in
         record {
           sound = parts.1;
           rest = λ codes z.

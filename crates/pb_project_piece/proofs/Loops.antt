@@ -1,10 +1,13 @@
 -- A foreach: the loop, and the `If` around it and the segments.
-use Rattle.std.proofs.Common.{◌≡◌, ℕ, suc, ◌+◌, ◌≤◌, max, length, ℤ, pos, int_le, Bool, true, false, ◌&&◌, ◌||◌, not, List, [], ◌∷◌, ◌++◌, map, refl, sym, ap, ◌∙◌, subst, arith}
+use Rattle.std.proofs.Common.{◌≡◌, ℕ, suc, ◌+◌, ◌≤◌, max, length, ℤ, pos, ◌+ℤ◌, int_le, nat_eq, if◌then◌else◌, Bool, true, false, ◌&&◌, ◌||◌, not, List, [], ◌∷◌, ◌++◌, map, refl, sym, ap, ◌∙◌, subst, arith}
 use Rattle.std.proofs.lemmas.Int.{ints}
 use Rattle.std.proofs.lemmas.Bool.{and_parts, false≢true, not-true, or_right, or_left, and_from}
 use Rattle.pb_affine.specs.declared.guard.Guard.{Guard}
 use Rattle.pb_affine.specs.declared.range.NRange.{NRange}
-use Rattle.pb_affine.specs.Values.{value, hold}
+use Rattle.pb_affine.specs.declared.lin.Base.{Base}
+use Rattle.pb_affine.specs.declared.lin.Base.TheVariants.{Fixed, Param, Var}
+use Rattle.pb_affine.specs.Values.{value, base_value, hold}
+use Rattle.std.specs.Ordering.{int_eq}
 use Rattle.pb_part_areas.specs.declared.area.Area.{Area}
 use Rattle.pb_part_areas.specs.Areas.{have}
 use Rattle.pb_core_language.specs.declared.tree.CoreEnd.{CoreEnd}
@@ -13,7 +16,7 @@ use Rattle.pb_core_language.specs.Sound.{Rows, rows_of, is_block}
 use Rattle.pb_core_language.specs.Tree as T
 use Rattle.pb_core_language.specs.Tree.{StmtTree, BlockTree}
 use Rattle.pb_core_language.specs.declared.tree.Bounds.{Bounds}
-use Rattle.pb_core_flat.specs.Meets.{is_met, meets, meet}
+use Rattle.pb_core_flat.specs.Meets.{is_var, is_met, meets, meet}
 use Rattle.pb_part_takers.specs.declared.held.Held.{Held}
 use Rattle.pb_part_takers.specs.Pieces.{IsAdded, items_piece}
 use Rattle.pb_local.specs.declared.stmt.Stmt.{Stmt}
@@ -26,20 +29,20 @@ use Rattle.pb_local.specs.WellMade as W
 use Rattle.pb_local.specs.WellMade.{AreMade, IsGuard, AreGuards, behind, loops_in}
 use Rattle.pb_shape.specs.Sizes.{braces_all, room_each}
 use Rattle.pb_project_piece.specs.Weights.{sizes, depths, loop_count, AreFlat, IsWeighed, IsTabledAs, each_room}
-use Rattle.pb_project_piece.proofs.Weights.{weighed_less, weighed_none, sizes_onto, loops_onto, braces_onto, made_onto, small_is, peer_made, guard_made}
+use Rattle.pb_project_piece.proofs.Weights.{weighed_less, sizes_onto, loops_onto, braces_onto, made_onto, small_is, peer_made, guard_made}
 use Rattle.pb_shape.specs.Places.{Scope, Here, everyone}
 use Rattle.pb_shape.specs.Guards.{Nobody, Somebody}
 use Rattle.pb_shape.specs.Segments.{Segments}
-use Rattle.pb_shape.specs.Pieces.{is_fixed, is_fixed_at, fixed_in, fixed_here, in_for, but_fixed, Rounds, ForEach}
-use Rattle.pb_project_piece.specs.Adding.{onto, Added}
-use Rattle.pb_project_piece.specs.Ranked.{Ranked, IsThere}
+use Rattle.pb_shape.specs.Pieces.{is_fixed, is_fixed_at, fixed_in, in_for, but_fixed, ForEach}
+use Rattle.pb_project_piece.specs.Adding.{Added}
+use Rattle.pb_project_piece.specs.Ranked.{IsThere}
 use Rattle.pb_project_piece.specs.Comers.{AreBounds}
-use Rattle.pb_project_piece.specs.Standing.{Stands, IsOpen, IsEach}
+use Rattle.pb_project_piece.specs.Standing.{Stands, Come, meeting, IsOpen, IsEach}
 use Rattle.pb_project_piece.specs.Ones.{end_guard, AreItemsOf}
 use Rattle.pb_project_piece.specs.Fixed.{at_some, AreFairEnds, AreFixed, AreAreas}
 use Rattle.pb_project_piece.specs.Segments.{IsApart, AreSegments}
-use Rattle.pb_project_piece.specs.Looping.{AreStill, Runs, IsRounds, IsBoth, IsForEach}
-use Rattle.pb_project_piece.proofs.Added.{onto_nothing, added_one, added_none, added_as}
+use Rattle.pb_project_piece.specs.Looping.{AreStill, Runner, Runs, IsRounds, IsBoth, IsForEach}
+use Rattle.pb_project_piece.proofs.Added.{onto_nothing, added_one, added_as}
 use Rattle.pb_project_piece.proofs.Ones.{from_zero, inside_range, outside_range, rank_is, met_at}
 use Rattle.pb_project_piece.proofs.StillEnds.{fixed_at, guards_hold, fair_items}
 
@@ -89,10 +92,52 @@ module _ (low high n : ℤ) (role : ℕ) (x : ℤ) (some : int_le low high ≡ t
 
 -- ---- who runs the loop
 
+right_of : (a b : Bool) → a ≡ false → a || b ≡ true → b ≡ true
+right_of true b e h = absurd (false≢true (sym e))
+right_of false b e h = h
+
+-- whoever is at an end for some value of the variable, for the variable has a value
+between_ends : (a : Bool) (low high c x : ℤ) → a && (int_le (low +ℤ c) x && int_le x (high +ℤ c)) ≡ true → int_le low high ≡ true
+between_ends a low high c x h = grind (arith, ints, h)
+
+end_valued : (low high n : ℤ) (role : ℕ) (x : ℤ) (r : ℕ) (base : Base) (c : ℤ) → nat_eq r role && (if is_var base then int_le (low +ℤ c) x && int_le x (high +ℤ c) else int_le low high && int_eq (c +ℤ base_value base n (pos 0)) x) ≡ true →
+    int_le low high ≡ true
+end_valued low high n role x r Fixed c h = (and_parts (int_le low high) _ (and_parts (nat_eq r role) _ h).1).0
+end_valued low high n role x r Param c h = (and_parts (int_le low high) _ (and_parts (nat_eq r role) _ h).1).0
+end_valued low high n role x r Var c h = between_ends (nat_eq r role) low high c x h
+
+module _ (low high n : ℤ) (role : ℕ) (x : ℤ) where
+  one_valued : (e : CoreEnd) → is_met e low high n role x ≡ true → int_le low high ≡ true
+  one_valued e h = end_valued low high n role x e.role e.at.base e.at.off h
+
+  item_valued : (s : StmtTree) → meets s low high n role x ≡ true → int_le low high ≡ true
+  item_valued (T.message l f t) h = or_one (is_met f low high n role x) (is_met t low high n role x) (int_le low high) (one_valued f) (one_valued t) h
+  item_valued (T.foreach b m items) h = absurd (false≢true h)
+  item_valued (T.loop id m body) h = absurd (false≢true h)
+  item_valued (T.again id) h = absurd (false≢true h)
+  item_valued (T.choice k at bs) h = absurd (false≢true h)
+  item_valued (T.run k e) h = one_valued e h
+  item_valued T.barrier h = absurd (false≢true h)
+  item_valued (T.broadcast l root) h = absurd (false≢true h)
+  item_valued (T.reduce l op root) h = absurd (false≢true h)
+  item_valued (T.allreduce l op) h = absurd (false≢true h)
+
+  met_valued : (b : BlockTree) → meet b low high n role x ≡ true → int_le low high ≡ true
+  met_valued T.nothing h = absurd (false≢true h)
+  met_valued (T.more m s rest) h = or_one (meets s low high n role x) (meet rest low high n role x) (int_le low high) (item_valued s) (met_valued rest) h
+
 pub runs_is : (range : NRange) (whole : List Area) (over : Bounds) (fixed none met runners : List Area) (b : BlockTree) (t : Bool) → none ≡ [] →
     ((rest : List Area) (held : List Held) (ids : List ℕ) → IsAdded rest held (items_piece over ids b) none met) →
     ((n : ℤ) (role : ℕ) (x : ℤ) → have runners n role x ≡ have fixed n role x && have met n role x) → IsThere range whole runners t → Runs range whole over fixed b t
-runs_is range whole over fixed none met runners b true empty added common there = tt
+runs_is range whole over fixed none met runners b true empty added common there =
+    let both = and_parts (have fixed there.n there.role there.index) (have met there.n there.role there.index) (sym (common there.n there.role there.index) ∙ there.there) in
+    record {
+      rank = record { n = there.n; role = there.role; index = there.index; within = there.within; rank = there.rank; there = both.0 };
+      valued = λ rows ids roles bounds sound rank.
+          let is = (added whole [] ids).is rows roles there.n there.role there.index (and_from _ _ bounds.0 (and_from _ _ bounds.1 sound)) rank there.rank in
+          met_valued (value over.low there.n (pos 0)) (value over.high there.n (pos 0)) there.n there.role there.index b
+          (right_of (have none there.n there.role there.index) _ (ap (λ l. have l there.n there.role there.index) empty) (sym is ∙ both.1));
+    }
 runs_is range whole over fixed none met runners b false empty added common there = λ rows ids roles n role x bounds sound still within rank is_whole at_end some.
     let zero = from_zero range n within in
     let here : have fixed n role x ≡ true = still.is rows n role x (fair_items rows ids b sound) zero ∙ at_end in
@@ -100,6 +145,12 @@ runs_is range whole over fixed none met runners b false empty added common there
     (added whole [] ids).is rows roles n role x (and_from _ _ bounds.0 (and_from _ _ bounds.1 sound)) rank is_whole
     ∙ or_right _ _ (fixed_meets (value over.low n (pos 0)) (value over.high n (pos 0)) n role x some b at_end) in
     false≢true (sym (there n role x within is_whole) ∙ common n role x ∙ and_from _ _ here meets_it)
+
+-- where no rank is at such an end, none runs the loop
+pub none_runs : (range : NRange) (whole : List Area) (over : Bounds) (fixed : List Area) (b : BlockTree) (t : Bool) → t ≡ false → IsThere range whole fixed t → Runs range whole over fixed b false
+none_runs range whole over fixed b true e there = absurd (false≢true (sym e))
+none_runs range whole over fixed b false e there = λ rows ids roles n role x bounds sound still within rank is_whole at_end some.
+    false≢true (sym (there n role x within is_whole) ∙ still.is rows n role x (fair_items rows ids b sound) (from_zero range n within) ∙ at_end)
 
 -- ---- how large it is, and that it is made
 
@@ -184,17 +235,20 @@ some_guards l p ends gs is tabled fair some = subst (AreGuards l) (sym is) (reco
 module _ (range : NRange) (roles : ℕ) (whole : List Area) (over : Bounds) (fixed : List Area) (b : BlockTree) where
   pub loop_rounds : (body list : List Stmt) (s : Stmt) → AreItemsOf range roles whole over fixed b (plain_all body) → plain s ≡ L.for_each over.low over.high (plain_all body) → list ≡ s ∷ [] → IsRounds range roles whole over fixed b list
   loop_rounds body list s items made is = record {
-    is = λ sc h rows ids stands bounds sound still.
+    body = plain_all body;
+    is = ap plain_all is ∙ ap (λ c. L.more c L.nothing) made;
+    items = λ sc h rows ids stands come bounds sound still.
         let here : IsEach over fixed sc (in_for h over b) = record {
           bounds = bounds;
           at = λ n i. refl;
           comes = λ n i role x within rank comes.
               still.is rows n role x (fair_items rows ids b sound) (from_zero range n (inside_range range roles whole sc stands n within))
               ∙ (and_parts (fixed_in b n role x) (h.comes n i role x) comes).0;
+          come = λ n i role x within rank at is.
+              let at_end : fixed_in b n role x ≡ true = sym (still.is rows n role x (fair_items rows ids b sound) (from_zero range n (inside_range range roles whole sc stands n within))) ∙ is in
+              and_from _ _ at_end (come.come n i role x within rank (fixed_meets (value over.low n (pos 0)) (value over.high n (pos 0)) n role x (le_over (value over.low n (pos 0)) i (value over.high n (pos 0)) at) b at_end));
         } in
-        subst (λ l. Rounds sc h over b (plain_all l)) (sym is)
-        (subst (λ c. Rounds sc h over b (L.more c L.nothing)) (sym made) (Rounds.rounds (items.are sc (in_for h over b) rows ids stands here sound)));
-    none = λ sc h rows ids stands bounds sound still empty. absurd (not_empty s (sym is ∙ empty));
+        items.are sc (in_for h over b) rows ids stands here sound;
     weighed = subst (λ l. IsWeighed (1 + each_room 4 b) 2 (map plain l)) (sym is)
         (subst (λ c. IsWeighed (1 + each_room 4 b) 2 (c ∷ [])) (sym made) (record {
           few = loop_few (size_all (plain_all body)) (each_room 4 b) items.weighed.few;
@@ -207,98 +261,91 @@ module _ (range : NRange) (roles : ℕ) (whole : List Area) (over : Bounds) (fix
         (λ at. (small_is over.low.off (bound_parts over.low bounds.0).1, small_is over.high.off (bound_parts over.high bounds.1).1, items.made p l ids tabled sound goes at), tt));
   }
 
-  pub no_rounds : (list : List Stmt) (t : Bool) → Runs range whole over fixed b t → t ≡ false → list ≡ [] → IsRounds range roles whole over fixed b list
-  no_rounds list t runs is empty =
-      let none : Runs range whole over fixed b false = subst (Runs range whole over fixed b) is runs in
-      let nobody : (sc : Scope) (h : Here) (rows : Rows) (ids : List ℕ) → Stands range roles whole sc → AreBounds over → is_block rows true ids b ≡ true → AreStill b fixed → Nobody sc (in_for h over b) everyone =
-      λ sc h rows ids stands bounds sound still n i role x within rank at comes.
+  nobody_runs : Runs range whole over fixed b false → (sc : Scope) (h : Here) (rows : Rows) (ids : List ℕ) → Stands range roles whole sc → AreBounds over → is_block rows true ids b ≡ true → AreStill b fixed →
+      Nobody sc (in_for h over b) everyone
+  nobody_runs none sc h rows ids stands bounds sound still = λ n i role x within rank at comes.
       let w = inside_range range roles whole sc stands n within in
       absurd (none rows ids sc.roles n role x bounds sound still w rank (rank_is range roles whole sc stands n role x w ∙ rank)
-      (and_parts (fixed_in b n role x) (h.comes n i role x) comes).0 (le_over (value over.low n (pos 0)) i (value over.high n (pos 0)) at)) in
-      record {
-        is = λ sc h rows ids stands bounds sound still.
-            subst (λ l. Rounds sc h over b (plain_all l)) (sym empty) (Rounds.nowhere (nobody sc h rows ids stands bounds sound still));
-        none = λ sc h rows ids stands bounds sound still e. nobody sc h rows ids stands bounds sound still;
-        weighed = subst (λ l. IsWeighed (1 + each_room 4 b) 2 (map plain l)) (sym empty) (weighed_none (1 + each_room 4 b) 2);
-        made = λ p l ids tabled bounds sound goes. subst (λ z. AreFlat l (map plain z)) (sym empty) tt;
-      }
+      (and_parts (fixed_in b n role x) (h.comes n i role x) comes).0 (le_over (value over.low n (pos 0)) i (value over.high n (pos 0)) at))
 
   -- ---- both parts
 
-  apart : (sc : Scope) (h : Here) (rows : Rows) (ids : List ℕ) → Stands range roles whole sc → IsOpen h → is_block rows true ids b ≡ true → AreStill b fixed → IsApart fixed sc (but_fixed h b)
-  apart sc h rows ids stands open_here sound still = record {
+  apart : (sc : Scope) (h : Here) (rows : Rows) (ids : List ℕ) → Stands range roles whole sc → IsOpen h → Come sc h (meeting over b) → is_block rows true ids b ≡ true → AreStill b fixed → IsApart over b fixed sc (but_fixed h b)
+  apart sc h rows ids stands open_here come sound still = record {
     at = λ n i. open_here.at n i;
+    come = λ n i role x within rank met free.
+        and_from _ _ (ap not (sym (still.is rows n role x (fair_items rows ids b sound) (from_zero range n (inside_range range roles whole sc stands n within))) ∙ free)) (come.come n i role x within rank met);
     comes = λ n i role x within rank comes.
         still.is rows n role x (fair_items rows ids b sound) (from_zero range n (inside_range range roles whole sc stands n within))
         ∙ not-true (fixed_in b n role x) (and_parts (not (fixed_in b n role x)) (h.comes n i role x) comes).0;
   }
 
-  some_fixed : (sc : Scope) (h : Here) (rows : Rows) (ids : List ℕ) → Stands range roles whole sc → IsOpen h → is_block rows true ids b ≡ true → AreStill b fixed → Ranked range whole fixed → Somebody sc h (fixed_here b)
-  some_fixed sc h rows ids stands open_here sound still r = record {
-    n = r.n;
-    i = pos 0;
-    role = r.role;
-    index = r.index;
-    within = outside_range range roles whole sc stands r.n r.within;
-    rank = sym (rank_is range roles whole sc stands r.n r.role r.index r.within) ∙ r.rank;
-    at = open_here.at r.n (pos 0);
-    is = sym (still.is rows r.n r.role r.index (fair_items rows ids b sound) (from_zero range r.n r.within)) ∙ r.there;
-  }
+  somebody_runs : (sc : Scope) (h : Here) (rows : Rows) (ids : List ℕ) → Stands range roles whole sc → Come sc h (meeting over b) → AreBounds over → is_block rows true ids b ≡ true → AreStill b fixed → Runner range whole over fixed b →
+      Somebody sc (in_for h over b) everyone
+  somebody_runs sc h rows ids stands come bounds sound still runner =
+      let r = runner.rank in
+      let low = value over.low r.n (pos 0) in
+      let high = value over.high r.n (pos 0) in
+      let within = outside_range range roles whole sc stands r.n r.within in
+      let rank = sym (rank_is range roles whole sc stands r.n r.role r.index r.within) ∙ r.rank in
+      let some = runner.valued rows ids sc.roles bounds sound rank in
+      let at_end : fixed_in b r.n r.role r.index ≡ true = sym (still.is rows r.n r.role r.index (fair_items rows ids b sound) (from_zero range r.n r.within)) ∙ r.there in
+      record {
+        n = r.n;
+        i = low;
+        role = r.role;
+        index = r.index;
+        within = within;
+        rank = rank;
+        at = le_itself low high some;
+        comes = and_from _ _ at_end (come.come r.n low r.role r.index within rank (fixed_meets low high r.n r.role r.index some b at_end));
+        is = refl;
+      }
 
   pub both_there : (ends : List CoreEnd) (gs : List Guard) (first other none old new : List Stmt) (s : Stmt) → gs ≡ map end_guard ends → IsRounds range roles whole over fixed b first →
       none ≡ [] → Added none other (AreSegments range roles whole over fixed b) → plain s ≡ L.when gs (plain_all first) (plain_all other) → new ≡ old ++ s ∷ [] → Added old new (IsBoth range roles whole over ends fixed b)
   both_there ends gs first other none old new s gs_is rounds empty segments made pushed =
       let piece_is : map plain other ≡ segments.piece = segments.is ∙ ap (λ l. map plain l ++ segments.piece) empty in
       added_one (IsBoth range roles whole over ends fixed b) old new s (L.when gs (plain_all first) (plain_all other)) pushed made (record {
-        is = λ sc h rows ids stands open_here bounds sound fixed_ends still r tail.
-            ForEach.both (λ n i role x within rank at. ap (λ g. hold g n i role x) gs_is ∙ guards_hold ends n i role x ∙ fixed_ends.is n i role x)
-            (some_fixed sc h rows ids stands open_here sound still r) (rounds.is sc h rows ids stands bounds sound still)
+        is = λ sc h rows ids stands open_here come bounds sound fixed_ends still r tail.
+            subst (λ c. ForEach sc h over b tail (L.more (L.when gs c (plain_all other)) tail)) (sym rounds.is)
+            (ForEach.both (λ n i role x within rank at. ap (λ g. hold g n i role x) gs_is ∙ guards_hold ends n i role x ∙ fixed_ends.is n i role x)
+            (somebody_runs sc h rows ids stands come bounds sound still r) (rounds.items sc h rows ids stands come bounds sound still)
             (subst (Segments sc (but_fixed h b) over b L.nothing 0 sc.roles) (onto_nothing segments.piece ∙ ap codes_of (sym (segments.is ∙ ap (λ l. map plain l ++ segments.piece) empty)))
-            (segments.has.are sc (but_fixed h b) rows ids stands (apart sc h rows ids stands open_here sound still) bounds sound L.nothing));
+            (segments.has.are sc (but_fixed h b) rows ids stands (apart sc h rows ids stands open_here come sound still) bounds sound L.nothing)));
         weighed = both_weighed gs first other (each_room 4 b) (each_room 6 b) rounds.weighed (subst (IsWeighed (each_room 6 b) 1) (sym piece_is) segments.has.weighed);
-        made = λ p l ids tabled same bounds sound goes fixed_ends still r.
+        made = λ p l ids tabled same bounds sound goes fixed_ends still runner.
+            let r = runner.rank in
             both_flat l gs first other (some_guards l p ends gs gs_is tabled (fixed_ends.sound (rows_of p) (fair_items (rows_of p) ids b sound))
             (some_end ends r.n r.role r.index (fixed_ends.is r.n (pos 0) r.role r.index ∙ sym (still.is (rows_of p) r.n r.role r.index (fair_items (rows_of p) ids b sound) (from_zero range r.n r.within)) ∙ r.there)))
             (rounds.weighed).none (rounds.made p l ids tabled bounds sound goes) (subst (IsWeighed (each_room 6 b) 1) (sym piece_is) segments.has.weighed).none
             (subst (AreFlat l) (sym piece_is) (segments.has.made p l ids tabled same bounds sound goes));
       })
 
-  pub both_gone : (ends : List CoreEnd) (first other none old : List Stmt) → IsRounds range roles whole over fixed b first → none ≡ [] → Added none other (AreSegments range roles whole over fixed b) →
-      first ≡ [] → other ≡ [] → Added old old (IsBoth range roles whole over ends fixed b)
-  both_gone ends first other none old rounds empty segments no_first no_other =
-      let no_piece : segments.piece ≡ [] = sym (ap (λ l. map plain l ++ segments.piece) empty) ∙ sym segments.is ∙ ap (map plain) no_other in
-      added_none (IsBoth range roles whole over ends fixed b) old (record {
-        is = λ sc h rows ids stands open_here bounds sound fixed_ends still r tail.
-            ForEach.neither (rounds.none sc h rows ids stands bounds sound still no_first)
-            (subst (λ p. Segments sc (but_fixed h b) over b tail 0 sc.roles (onto p tail)) no_piece
-            (segments.has.are sc (but_fixed h b) rows ids stands (apart sc h rows ids stands open_here sound still) bounds sound tail));
-        weighed = weighed_none (2 + (each_room 4 b + each_room 6 b)) 3;
-        made = λ p l ids tabled same bounds sound goes fixed_ends still r. tt;
-      })
-
   -- ---- a foreach
 
-  pub foreach_both : (ends : List CoreEnd) (t : Bool) (old new : List Stmt) → AreFixed b ends → AreStill b fixed → IsThere range whole fixed t → t ≡ true → Added old new (IsBoth range roles whole over ends fixed b) →
+  pub foreach_both : (ends : List CoreEnd) (t : Bool) (old new : List Stmt) → AreFixed b ends → AreStill b fixed → Runs range whole over fixed b t → t ≡ true → Added old new (IsBoth range roles whole over ends fixed b) →
       Added old new (IsForEach range roles whole over b)
-  foreach_both ends t old new fixed_ends still there so a =
+  foreach_both ends t old new fixed_ends still runs so a =
       added_as (IsBoth range roles whole over ends fixed b) (IsForEach range roles whole over b) old new
       (λ p z. record {
-        is = λ sc h rows ids stands open_here bounds sound tail. z.is sc h rows ids stands open_here bounds sound fixed_ends still (subst (IsThere range whole fixed) so there) tail;
+        is = λ sc h rows ids stands open_here come bounds sound tail. z.is sc h rows ids stands open_here come bounds sound fixed_ends still (subst (Runs range whole over fixed b) so runs) tail;
         weighed = weighed_less (2 + (each_room 4 b + each_room 6 b)) (2 + room_each b) 3 3 p (both_room (each_room 4 b) (each_room 6 b) (room_each b) (room_is b)) three_three z.weighed;
-        made = λ pr l ids tabled same bounds sound goes. z.made pr l ids tabled same bounds sound goes fixed_ends still (subst (IsThere range whole fixed) so there);
+        made = λ pr l ids tabled same bounds sound goes. z.made pr l ids tabled same bounds sound goes fixed_ends still (subst (Runs range whole over fixed b) so runs);
       }) a
 
-  pub foreach_segments : (t : Bool) (less : List Area) (old new : List Stmt) → less ≡ [] → AreStill b fixed → IsThere range whole fixed t → t ≡ false → Added old new (AreSegments range roles whole over less b) →
+  pub foreach_segments : (t : Bool) (less : List Area) (old new : List Stmt) → less ≡ [] → AreStill b fixed → Runs range whole over fixed b t → t ≡ false → Added old new (AreSegments range roles whole over less b) →
       Added old new (IsForEach range roles whole over b)
-  foreach_segments t less old new empty still there so a =
-      let none : IsThere range whole fixed false = subst (IsThere range whole fixed) so there in
+  foreach_segments t less old new empty still runs so a =
       added_as (AreSegments range roles whole over less b) (IsForEach range roles whole over b) old new
       (λ p z. record {
-        is = λ sc h rows ids stands open_here bounds sound tail.
-            ForEach.segments (λ n i role x within rank at comes.
-            let w = inside_range range roles whole sc stands n within in
-            sym (still.is rows n role x (fair_items rows ids b sound) (from_zero range n w)) ∙ none n role x w (rank_is range roles whole sc stands n role x w ∙ rank))
-            (z.are sc h rows ids stands (record { at = open_here.at; comes = λ n i role x within rank comes. ap (λ l. have l n role x) empty }) bounds sound tail);
+        is = λ sc h rows ids stands open_here come bounds sound tail.
+            ForEach.segments (nobody_runs (subst (Runs range whole over fixed b) so runs) sc h rows ids stands bounds sound still)
+            (z.are sc h rows ids stands (record {
+              at = open_here.at;
+              come = λ n i role x within rank met free. come.come n i role x within rank met;
+              comes = λ n i role x within rank comes. ap (λ l. have l n role x) empty;
+            }) bounds sound tail);
         weighed = weighed_less (each_room 6 b) (2 + room_each b) 1 3 p (six_room (each_room 4 b) (each_room 6 b) (room_each b) (room_is b)) one_three z.weighed;
         made = z.made;
       }) a

@@ -23,7 +23,7 @@ use Rattle.pb_shape.specs.Places.{Scope, Here, is_end}
 use Rattle.pb_shape.specs.Guards.{Somebody, Nobody, One, alone}
 use Rattle.pb_project_piece.specs.Ranked.{Ranked, IsThere}
 use Rattle.pb_project_piece.specs.Comers.{AreComers}
-use Rattle.pb_project_piece.specs.Standing.{Stands, IsHere, is_end_if}
+use Rattle.pb_project_piece.specs.Standing.{Stands, IsHere, ComeIf, is_end_if}
 use Rattle.pb_project_piece.specs.Ones.{end_guard, only_when, IsOne}
 
 -- ---- numbers
@@ -84,31 +84,39 @@ module _ (range : NRange) (roles : ℕ) (whole : List Area) (sc : Scope) (stands
   pub rank_is : (n : ℤ) (role : ℕ) (x : ℤ) → IsIn range n → have whole n role x ≡ is_rank sc.roles n role x
   rank_is n role x h = stands.whole_is.is n role x h
 
-  pub somewhere : (over : Option Bounds) (fixed areas : List Area) (h : Here) (e : CoreEnd) → IsHere over fixed sc h → is_end_if over e ≡ true → AreComers over fixed e areas → Ranked range whole areas → Somebody sc h (is_end e)
-  somewhere None fixed areas h e here fair comers r =
+  pub somewhere : (over : Option Bounds) (fixed areas : List Area) (h : Here) (e : CoreEnd) → IsHere over fixed sc h → ComeIf over sc h (is_end e) → is_end_if over e ≡ true → AreComers over fixed e areas → Ranked range whole areas → Somebody sc h (is_end e)
+  somewhere None fixed areas h e here come fair comers r =
       let k = and_parts (is_over_n e.at.base) (is_small e.at.off) fair in
+      let within = outside_range r.n r.within in
+      let rank = sym (rank_is r.n r.role r.index r.within) ∙ r.rank in
+      let is = sym (comers.is r.n r.role r.index (from_zero range r.n r.within) k.1 tt) ∙ r.there in
       record {
         n = r.n;
         i = pos 0;
         role = r.role;
         index = r.index;
-        within = outside_range r.n r.within;
-        rank = sym (rank_is r.n r.role r.index r.within) ∙ r.rank;
+        within = within;
+        rank = rank;
         at = here.at r.n (pos 0);
-        is = sym (comers.is r.n r.role r.index (from_zero range r.n r.within) k.1 tt) ∙ r.there;
+        comes = come.come r.n (pos 0) r.role r.index within rank is;
+        is = is;
       }
-  somewhere (Some over) fixed areas h e here fair comers r =
+  somewhere (Some over) fixed areas h e here come fair comers r =
       let there = sym (comers.is r.n r.role r.index (from_zero range r.n r.within) fair here.bounds) ∙ r.there in
-      let met = (and_parts (have fixed r.n r.role r.index) (is_met e (value over.low r.n (pos 0)) (value over.high r.n (pos 0)) r.n r.role r.index) there).1 in
-      let by : IsMetBy e (value over.low r.n (pos 0)) (value over.high r.n (pos 0)) r.n r.role r.index = met_by e.role e.at.base e.at.off e.place (value over.low r.n (pos 0)) (value over.high r.n (pos 0)) r.n r.role r.index met in
+      let both = and_parts (have fixed r.n r.role r.index) (is_met e (value over.low r.n (pos 0)) (value over.high r.n (pos 0)) r.n r.role r.index) there in
+      let within = outside_range r.n r.within in
+      let rank = sym (rank_is r.n r.role r.index r.within) ∙ r.rank in
+      let by : IsMetBy e (value over.low r.n (pos 0)) (value over.high r.n (pos 0)) r.n r.role r.index = met_by e.role e.at.base e.at.off e.place (value over.low r.n (pos 0)) (value over.high r.n (pos 0)) r.n r.role r.index both.1 in
+      let at = here.at r.n by.i ∙ by.within in
       record {
         n = r.n;
         i = by.i;
         role = r.role;
         index = r.index;
-        within = outside_range r.n r.within;
-        rank = sym (rank_is r.n r.role r.index r.within) ∙ r.rank;
-        at = here.at r.n by.i ∙ by.within;
+        within = within;
+        rank = rank;
+        at = at;
+        comes = here.come r.n by.i r.role r.index within rank at both.0;
         is = by.is;
       }
 
@@ -127,10 +135,10 @@ module _ (range : NRange) (roles : ℕ) (whole : List Area) (sc : Scope) (stands
 
   -- ---- the `If`
 
-  pub one_there : (over : Option Bounds) (fixed areas : List Area) (h : Here) (e : CoreEnd) (c : Code) → IsHere over fixed sc h → is_end_if over e ≡ true → AreComers over fixed e areas → Ranked range whole areas →
+  pub one_there : (over : Option Bounds) (fixed areas : List Area) (h : Here) (e : CoreEnd) (c : Code) → IsHere over fixed sc h → ComeIf over sc h (is_end e) → is_end_if over e ≡ true → AreComers over fixed e areas → Ranked range whole areas →
       IsOne sc h (is_end e) (alone c) (only_when (end_guard e ∷ []) (alone c) ∷ [])
-  one_there over fixed areas h e c here fair comers r = record {
-    one = λ tail. One.there (λ n i role x within rank at. guard_holds e n i role x) (somewhere over fixed areas h e here fair comers r);
+  one_there over fixed areas h e c here come fair comers r = record {
+    one = λ tail. One.there (λ n i role x within rank at. guard_holds e n i role x) (somewhere over fixed areas h e here come fair comers r);
   }
 
   pub one_gone : (over : Option Bounds) (fixed areas : List Area) (h : Here) (e : CoreEnd) (c : Code) → IsHere over fixed sc h → is_end_if over e ≡ true → AreComers over fixed e areas → IsThere range whole areas false →

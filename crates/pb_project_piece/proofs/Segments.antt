@@ -3,7 +3,7 @@ use Rattle.std.proofs.Common.{◌≡◌, ◌<◌, ◌≤◌, ◌+◌, ◌*◌, m
 use Rattle.std.specs.Ordering.{int_eq}
 use Rattle.std.proofs.lemmas.Int.{ints}
 use Rattle.std.proofs.lemmas.List.{at_drop_more}
-use Rattle.std.proofs.lemmas.Bool.{and_parts, false≢true, and_from, false_from_ne_true}
+use Rattle.std.proofs.lemmas.Bool.{and_parts, false≢true, and_from, false_from_ne_true, not-true, or_left, or_right}
 use Rattle.std.proofs.lemmas.Bool.Decides.{nat_tests}
 use Rattle.std.proofs.Math.Bool.{or-false}
 use Rattle.pb_affine.specs.declared.lin.Base.TheVariants.{Var}
@@ -23,7 +23,7 @@ use Rattle.pb_core_language.specs.Sound.{Rows, rows_of, is_end, is_small, is_bou
 use Rattle.pb_core_language.specs.Tree as T
 use Rattle.pb_core_language.specs.Tree.{StmtTree, BlockTree}
 use Rattle.pb_core_language.specs.declared.tree.Bounds.{Bounds}
-use Rattle.pb_core_flat.specs.Meets.{is_var, is_passed, is_met}
+use Rattle.pb_core_flat.specs.Meets.{is_var, is_moving, is_passed, is_met, meets, meet}
 use Rattle.pb_core_flat.proofs.Sources.{over_n_is}
 use Rattle.pb_part_takers.specs.Sums.{IsSum}
 use Rattle.pb_part_takers.proofs.Among.{bound_parts, near}
@@ -48,7 +48,7 @@ use Rattle.pb_project_piece.specs.Comers.{AreBounds}
 use Rattle.pb_project_piece.specs.Standing.{Stands}
 use Rattle.pb_project_piece.specs.Offsets.{off_of}
 use Rattle.pb_project_piece.specs.Ones.{only_when}
-use Rattle.pb_project_piece.specs.Segments.{IsCodes, IsApart, AreOthers, codes_in, IsCodesOf, IsSegmentOf, IsSegment, IsRoleSegments, AreSegments}
+use Rattle.pb_project_piece.specs.Segments.{IsCodes, IsApart, AreOthers, Offers, AllOffer, codes_in, IsCodesOf, IsSegmentOf, IsSegment, IsRoleSegments, AreSegments}
 use Rattle.pb_project_piece.proofs.Added.{onto_append, onto_nothing, added_one, added_none, added_as, added_two}
 use Rattle.pb_project_piece.proofs.Items.{drop_is}
 use Rattle.pb_project_piece.proofs.Ones.{from_zero, inside_range, outside_range, rank_is}
@@ -246,9 +246,11 @@ module _ (range : NRange) (roles : ℕ) (whole : List Area) (over : Bounds) (les
   segment_there areas t old new s others there so made pushed =
       let r : Ranked range whole areas = subst (IsThere range whole areas) so there in
       added_one (IsSegment range roles whole over less b k c) old new s (plain s) pushed refl (record {
-        is = λ sc h stands apart bounds small.
+        is = λ sc h stands apart bounds small offers.
             let is = sym (others.is r.n r.role r.index (from_zero range r.n r.within) bounds small) ∙ r.there in
-            let who = (and_parts (in_segment over k c r.n (pos 0) r.role r.index) (not (have less r.n r.role r.index)) is).0 in
+            let both = and_parts (in_segment over k c r.n (pos 0) r.role r.index) (not (have less r.n r.role r.index)) is in
+            let within = outside_range range roles whole sc stands r.n r.within in
+            let rank = sym (rank_is range roles whole sc stands r.n r.role r.index r.within) ∙ r.rank in
             record {
               one = λ tail. subst (λ z. One sc h (in_segment over k c) (codes_in k c b) tail (L.more z tail)) (sym (made.is ∙ ap (only_when made.guards) (made.of.is ∙ ap (λ z. L.more z (segment_codes k c b)) (made.of.exact small))))
                   (One.there (λ n i role x within rank at. made.hold_of n i role x bounds small) (record {
@@ -256,10 +258,11 @@ module _ (range : NRange) (roles : ℕ) (whole : List Area) (over : Bounds) (les
                     i = pos 0;
                     role = r.role;
                     index = r.index;
-                    within = outside_range range roles whole sc stands r.n r.within;
-                    rank = sym (rank_is range roles whole sc stands r.n r.role r.index r.within) ∙ r.rank;
+                    within = within;
+                    rank = rank;
                     at = apart.at r.n (pos 0);
-                    is = who;
+                    comes = apart.come r.n (pos 0) r.role r.index within rank (offers r.n (pos 0) r.role r.index both.0) (not-true (have less r.n r.role r.index) both.1);
+                    is = both.0;
                   }));
             };
         weighed = segment_weighed over b k c (plain s) made;
@@ -270,7 +273,7 @@ module _ (range : NRange) (roles : ℕ) (whole : List Area) (over : Bounds) (les
   segment_gone areas t old others there so =
       let none : IsThere range whole areas false = subst (IsThere range whole areas) so there in
       added_none (IsSegment range roles whole over less b k c) old (record {
-        is = λ sc h stands apart bounds small. record {
+        is = λ sc h stands apart bounds small offers. record {
           one = λ tail. One.gone (λ n i role x within rank at comes.
               let w = inside_range range roles whole sc stands n within in
               false_from_ne_true (in_segment over k c n i role x) (λ met.
@@ -324,6 +327,51 @@ small_offsets k rows ids (T.more m s rest) h =
     let z = and_parts (is_stmt rows true ids s) (is_block rows true ids rest) a.1 in
     small_at k rows ids s (offsets k rest) a.0 z.0 (small_offsets k rows ids rest z.1)
 
+-- the ranks of each segment are at an end of the items for some value of the variable
+
+at_offset : (r k role : ℕ) (m p q : Bool) → nat_eq k r && m ≡ true → nat_eq k role && p ≡ true → nat_eq r role && (if m then p else q) ≡ true
+at_offset r k role true p q a b = grind (arith, nat_tests, a, b)
+at_offset r k role false p q a b = grind (arith, nat_tests, a, b)
+
+module _ (over : Bounds) (k : ℕ) (all : BlockTree) where
+  offer_if : (t : Bool) (a b : List ℤ) → AllOffer over all k a → AllOffer over all k b → AllOffer over all k (if t then a else b)
+  offer_if true a b h g = h
+  offer_if false a b h g = g
+
+  offer_in : (c : ℤ) (ds : List ℤ) → Offers over all k c → AllOffer over all k ds → AllOffer over all k (put_in c ds)
+  offer_in c [] h g = (h, tt)
+  offer_in c (d ∷ ds) h g =
+      offer_if (int_lt d c) (c ∷ d ∷ ds) (if int_lt c d then d ∷ put_in c ds else d ∷ ds) (h, g)
+      (offer_if (int_lt c d) (d ∷ put_in c ds) (d ∷ ds) (g.0, offer_in c ds h g.1) g)
+
+  offer_end : (e : CoreEnd) (ds : List ℤ) → ((low high n : ℤ) (role : ℕ) (x : ℤ) → is_met e low high n role x ≡ true → meet all low high n role x ≡ true) → AllOffer over all k ds → AllOffer over all k (put_end k e ds)
+  offer_end e ds h g = at (nat_eq k e.role && is_moving e) refl
+    where
+      at : (t : Bool) → nat_eq k e.role && is_moving e ≡ t → AllOffer over all k (if t then put_in e.at.off ds else ds)
+      at true y =
+          offer_in e.at.off ds
+          (λ n i role x seg.
+          h (value over.low n (pos 0)) (value over.high n (pos 0)) n role x
+          (at_offset e.role k role (is_moving e) (is_passed e.at.off (value over.low n (pos 0)) (value over.high n (pos 0)) x) (int_le (value over.low n (pos 0)) (value over.high n (pos 0)) && int_eq (value e.at n (pos 0)) x) y seg)) g
+      at false y = g
+
+  offer_at : (s : StmtTree) (ds : List ℤ) → ((low high n : ℤ) (role : ℕ) (x : ℤ) → meets s low high n role x ≡ true → meet all low high n role x ≡ true) → AllOffer over all k ds → AllOffer over all k (offsets_at k s ds)
+  offer_at (T.message l f t) ds h g =
+      offer_end f (put_end k t ds) (λ low high n role x m. h low high n role x (or_left _ _ m)) (offer_end t ds (λ low high n role x m. h low high n role x (or_right _ _ m)) g)
+  offer_at (T.foreach b m items) ds h g = g
+  offer_at (T.loop id m body) ds h g = g
+  offer_at (T.again id) ds h g = g
+  offer_at (T.choice kernel at bs) ds h g = g
+  offer_at (T.run kernel at) ds h g = offer_end at ds h g
+  offer_at T.barrier ds h g = g
+  offer_at (T.broadcast l root) ds h g = g
+  offer_at (T.reduce l op root) ds h g = g
+  offer_at (T.allreduce l op) ds h g = g
+
+  all_offer : (b : BlockTree) → ((low high n : ℤ) (role : ℕ) (x : ℤ) → meet b low high n role x ≡ true → meet all low high n role x ≡ true) → AllOffer over all k (offsets k b)
+  all_offer T.nothing h = tt
+  all_offer (T.more m s rest) h = offer_at s (offsets k rest) (λ low high n role x t. h low high n role x (or_left _ _ t)) (all_offer rest (λ low high n role x t. h low high n role x (or_right _ _ t)))
+
 -- a list with one more in front
 record IsMore (all rest : List CoreRole) : Type 0 where
   first : CoreRole
@@ -357,8 +405,8 @@ no_role a h = omega arith
 module _ (range : NRange) (roles : ℕ) (whole : List Area) (over : Bounds) (less : List Area) (b : BlockTree) where
   -- the piece has the segments of the first i offsets
   pub record OffsSoFar (k : ℕ) (offs : List Off) (i : ℕ) (piece : List Code) : Type 0 where
-    pub is : (sc : Scope) (h : Here) → Stands range roles whole sc → IsApart less sc h → AreBounds over → are_small (map off_of offs) ≡ true →
-        (are_small (map off_of (drop i offs)) ≡ true) × ((tail codes : Codes) → OfRole sc h over b k tail (map off_of (drop i offs)) codes → OfRole sc h over b k tail (map off_of offs) (onto piece codes))
+    pub is : (sc : Scope) (h : Here) → Stands range roles whole sc → IsApart over b less sc h → AreBounds over → are_small (map off_of offs) ≡ true → AllOffer over b k (map off_of offs) →
+        (are_small (map off_of (drop i offs)) ≡ true) × AllOffer over b k (map off_of (drop i offs)) × ((tail codes : Codes) → OfRole sc h over b k tail (map off_of (drop i offs)) codes → OfRole sc h over b k tail (map off_of offs) (onto piece codes))
     pub used : ℕ
     pub weighed : IsWeighed used 1 piece
     pub left : used + segment_sum k b (map off_of (drop i offs)) ≤ segment_sum k b (map off_of offs)
@@ -367,7 +415,7 @@ module _ (range : NRange) (roles : ℕ) (whole : List Area) (over : Bounds) (les
 
   pub offs_start : (k : ℕ) (offs : List Off) (old : List Stmt) → Added old old (OffsSoFar k offs 0)
   offs_start k offs old = added_none (OffsSoFar k offs 0) old (record {
-    is = λ sc h stands apart bounds small. (small, λ tail codes z. z);
+    is = λ sc h stands apart bounds small offer. (small, offer, λ tail codes z. z);
     used = 0;
     weighed = weighed_none 0 1;
     left = nothing_left (segment_sum k b (map off_of offs));
@@ -382,13 +430,15 @@ module _ (range : NRange) (roles : ℕ) (whole : List Area) (over : Bounds) (les
       subst (λ z. Added mid new (IsSegment range roles whole over less b k z)) off_is (subst (λ z. Added mid new (IsSegment range roles whole over less b z c)) role_is a) in
       added_two (OffsSoFar k offs i) (IsSegment range roles whole over less b k (get_or offs i d).off) (OffsSoFar k offs (i + 1)) old mid new
       (λ p q x y. record {
-        is = λ sc h stands apart bounds small.
-            let z = x.is sc h stands apart bounds small in
+        is = λ sc h stands apart bounds small offer.
+            let z = x.is sc h stands apart bounds small offer in
             let parts = and_parts (is_small (get_or offs i d).off) (are_small (map off_of (drop (i + 1) offs))) (ap (λ l. are_small (map off_of l)) (sym next) ∙ z.0) in
-            let segment = y.is sc h stands apart bounds parts.0 in (
+            let offers : Offers over b k (get_or offs i d).off × AllOffer over b k (map off_of (drop (i + 1) offs)) = subst (λ l. AllOffer over b k (map off_of l)) next z.1 in
+            let segment = y.is sc h stands apart bounds parts.0 offers.0 in (
               parts.1,
+              offers.1,
               λ tail codes w. subst (OfRole sc h over b k tail (map off_of offs)) (sym (onto_append p q codes))
-                  (z.1 tail (onto q codes) (subst (λ l. OfRole sc h over b k tail (map off_of l) (onto q codes)) (sym next) (OfRole.segment (segment.one codes) w))),
+                  (z.2 tail (onto q codes) (subst (λ l. OfRole sc h over b k tail (map off_of l) (onto q codes)) (sym next) (OfRole.segment (segment.one codes) w))),
             );
         used = x.used + (2 + count_in k (get_or offs i d).off b);
         weighed = weighed_two x.used (2 + count_in k (get_or offs i d).off b) 1 p q x.weighed y.weighed;
@@ -404,8 +454,8 @@ module _ (range : NRange) (roles : ℕ) (whole : List Area) (over : Bounds) (les
   offs_done k offs i old new le all a = added_as (OffsSoFar k offs i) (IsRoleSegments range roles whole over less b k) old new
       (λ p x. record {
         is = λ sc h rows ids stands apart bounds sound tail.
-            let z = x.is sc h stands apart bounds (ap are_small all ∙ small_offsets k rows ids b sound) in
-            subst (λ l. OfRole sc h over b k tail l (onto p tail)) all (z.1 tail tail (subst (λ l. OfRole sc h over b k tail (map off_of l) tail) (sym (drop_of_length-le offs le)) OfRole.none));
+            let z = x.is sc h stands apart bounds (ap are_small all ∙ small_offsets k rows ids b sound) (subst (AllOffer over b k) (sym all) (all_offer over k b b (λ low high n role x h. h))) in
+            subst (λ l. OfRole sc h over b k tail l (onto p tail)) all (z.2 tail tail (subst (λ l. OfRole sc h over b k tail (map off_of l) tail) (sym (drop_of_length-le offs le)) OfRole.none));
         weighed = subst (λ l. IsWeighed (segment_sum k b l) 1 p) all
             (weighed_less x.used (segment_sum k b (map off_of offs)) 1 1 p (left_over_is x.used (segment_sum k b (map off_of (drop i offs))) (segment_sum k b (map off_of offs)) x.left) one_one x.weighed);
         made = λ pr l ids tabled within bounds sound goes. (x.made pr l ids tabled within bounds sound goes (ap are_small all ∙ small_offsets k (rows_of pr) ids b sound)).0;
@@ -413,7 +463,7 @@ module _ (range : NRange) (roles : ℕ) (whole : List Area) (over : Bounds) (les
 
   -- the piece has the segments of the first k roles
   pub record RolesSoFar (k : ℕ) (piece : List Code) : Type 0 where
-    pub is : (sc : Scope) (h : Here) (rows : Rows) (ids : List ℕ) → Stands range roles whole sc → IsApart less sc h → AreBounds over → is_block rows true ids b ≡ true →
+    pub is : (sc : Scope) (h : Here) (rows : Rows) (ids : List ℕ) → Stands range roles whole sc → IsApart over b less sc h → AreBounds over → is_block rows true ids b ≡ true →
         (tail codes : Codes) → Segments sc h over b tail k (drop k sc.roles) codes → Segments sc h over b tail 0 sc.roles (onto piece codes)
     pub weighed : IsWeighed (3 * low_in k b) 1 piece
     pub made : (p : Protocol) (l : Program) (ids : List ℕ) → IsTabledAs p l → roles ≡ length l.roles → AreBounds over → is_block (rows_of p) true ids b ≡ true → GoAll p b → AreFlat l piece

@@ -113,7 +113,7 @@ module _ (range : NRange) (roles : ℕ) (whole : List Area) where
   nothing_piece s old other =
       let w : IsWeighed (room s) (2 * depth s + 1) [] = weighed_none (room s) (2 * depth s + 1) in
       added_none (IsPieceOf range roles whole s) old (record {
-        is = λ sc h rows ids stands open_here sound straight tail. absurd (false≢true (sym other ∙ straight));
+        is = λ sc h rows ids stands open_here come sound straight tail. absurd (false≢true (sym other ∙ straight));
         made = λ p l at ids tabled same sound straight goes tail made. made;
         loops = weighed_loops (room s) (2 * depth s + 1) [] w;
         size = weighed_size (room s) (2 * depth s + 1) [] w;
@@ -123,7 +123,7 @@ module _ (range : NRange) (roles : ℕ) (whole : List Area) where
   pub item_piece : (s : StmtTree) (old new : List Stmt) → is_item s ≡ true → Added old new (IsItemOf range roles whole None [] s) → Added old new (IsPieceOf range roles whole s)
   item_piece s old new item a = added_as (IsItemOf range roles whole None [] s) (IsPieceOf range roles whole s) old new
       (λ p z. record {
-        is = λ sc h rows ids stands open_here sound straight tail. Piece.item ((z.is sc h rows ids stands open_here sound item).item tail);
+        is = λ sc h rows ids stands open_here come sound straight tail. Piece.item ((z.is sc h rows ids stands open_here come sound item).item tail);
         made = λ pr l at ids tabled same sound straight goes tail made. made_onto l p at tail z.weighed.none (z.made pr l ids tabled sound item goes) made;
         loops = weighed_loops (room s) (2 * depth s + 1) p (weighed_less (item_room s) (room s) 1 (2 * depth s + 1) p (item_room_is s item).0 (item_room_is s item).1 z.weighed);
         size = weighed_size (room s) (2 * depth s + 1) p (weighed_less (item_room s) (room s) 1 (2 * depth s + 1) p (item_room_is s item).0 (item_room_is s item).1 z.weighed);
@@ -133,10 +133,10 @@ module _ (range : NRange) (roles : ℕ) (whole : List Area) where
   pub each_piece : (over : Bounds) (m : Mark) (b : BlockTree) (old new : List Stmt) → Added old new (IsForEach range roles whole over b) → Added old new (IsPieceOf range roles whole (T.foreach over m b))
   each_piece over m b old new a = added_as (IsForEach range roles whole over b) (IsPieceOf range roles whole (T.foreach over m b)) old new
       (λ p z. record {
-        is = λ sc h rows ids stands open_here sound straight tail.
+        is = λ sc h rows ids stands open_here come sound straight tail.
             let x = and_parts (is_bound over.low) (is_bound over.high && is_block rows true ids b) sound in
             let y = and_parts (is_bound over.high) (is_block rows true ids b) x.1 in
-            Piece.foreach (z.is sc h rows ids stands open_here (x.0, y.0) y.1 tail);
+            Piece.foreach (z.is sc h rows ids stands open_here come (x.0, y.0) y.1 tail);
         made = λ pr l at ids tabled same sound straight goes tail made.
             let x = and_parts (is_bound over.low) (is_bound over.high && is_block (rows_of pr) true ids b) sound in
             let y = and_parts (is_bound over.high) (is_block (rows_of pr) true ids b) x.1 in
@@ -163,7 +163,7 @@ module _ (range : NRange) (roles : ℕ) (whole : List Area) where
       (λ p z.
       let w : IsWeighed (room s) (2 * depth s + 1) p = subst (IsWeighed (room s) (2 * depth s + 1)) (sym (z.is k)) (collective_weighed s k) in
       record {
-        is = λ sc h rows ids stands open_here sound straight tail. subst (λ l. Piece sc h tail s (onto l tail)) (sym (z.is k)) (joint s sc h tail k);
+        is = λ sc h rows ids stands open_here come sound straight tail. subst (λ l. Piece sc h tail s (onto l tail)) (sym (z.is k)) (joint s sc h tail k);
         made = λ pr l at ids tabled same sound straight goes tail made. made_onto l p at tail w.none (subst (AreFlat l) (sym (z.is k)) (collective_flat s pr l ids k tabled sound goes)) made;
         loops = weighed_loops (room s) (2 * depth s + 1) p w;
         size = weighed_size (room s) (2 * depth s + 1) p w;

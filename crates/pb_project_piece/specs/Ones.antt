@@ -19,7 +19,7 @@ use Rattle.pb_shape.specs.Guards.{One, alone}
 use Rattle.pb_shape.specs.Items.{Item, Items}
 use Rattle.pb_project_piece.specs.Adding.{onto}
 use Rattle.pb_project_piece.specs.Weights.{IsSimple, IsTabledAs, IsWeighed, AreWeighed, AreFlat, item_room, each_room}
-use Rattle.pb_project_piece.specs.Standing.{Stands, IsHere, IsEach, is_end_if, varies}
+use Rattle.pb_project_piece.specs.Standing.{Stands, at_ends, IsHere, IsEach, ComeIf, is_end_if, varies}
 
 abbrev pub end_guard : CoreEnd → Guard
 end_guard e = record { role = e.role; low = Some e.at; high = Some e.at; from = None; to = None }
@@ -37,13 +37,13 @@ pub record IsItem (sc : Scope) (h : Here) (s : StmtTree) (piece : List Code) : T
 
 -- what a statement at an end adds, in a place of this kind
 pub record IsAt (range : NRange) (roles : ℕ) (whole : List Area) (over : Option Bounds) (fixed : List Area) (e : CoreEnd) (c : Code) (piece : List Code) : Type 0 where
-  pub is : (sc : Scope) (h : Here) → Stands range roles whole sc → IsHere over fixed sc h → is_end_if over e ≡ true → IsOne sc h (is_end e) (alone c) piece
+  pub is : (sc : Scope) (h : Here) → Stands range roles whole sc → IsHere over fixed sc h → ComeIf over sc h (is_end e) → is_end_if over e ≡ true → IsOne sc h (is_end e) (alone c) piece
   pub weighed : IsSimple c → IsWeighed 2 1 piece
   pub made : (p : Protocol) (l : Program) → IsTabledAs p l → Q.is_end (rows_of p) true e ≡ true → ((at : W.Scope) → IsMade l at c) → AreFlat l piece
 
 -- what an item adds
 pub record IsItemOf (range : NRange) (roles : ℕ) (whole : List Area) (over : Option Bounds) (fixed : List Area) (s : StmtTree) (piece : List Code) : Type 0 where
-  pub is : (sc : Scope) (h : Here) (rows : Rows) (ids : List ℕ) → Stands range roles whole sc → IsHere over fixed sc h → is_stmt rows (varies over) ids s ≡ true → is_item s ≡ true → IsItem sc h s piece
+  pub is : (sc : Scope) (h : Here) (rows : Rows) (ids : List ℕ) → Stands range roles whole sc → IsHere over fixed sc h → ComeIf over sc h (at_ends s) → is_stmt rows (varies over) ids s ≡ true → is_item s ≡ true → IsItem sc h s piece
   pub weighed : IsWeighed (item_room s) 1 piece
   pub made : (p : Protocol) (l : Program) (ids : List ℕ) → IsTabledAs p l → is_stmt (rows_of p) (varies over) ids s ≡ true → is_item s ≡ true → Goes p s → AreFlat l piece
 

@@ -15,7 +15,7 @@ pub use Rattle.pb_project_piece.specs.Weights.{IsTabledAs}
 use Rattle.pb_shape.specs.Places.{Scope, Here, peer_of}
 use Rattle.pb_shape.specs.Pieces.{Piece}
 use Rattle.pb_project_piece.specs.Adding.{onto}
-use Rattle.pb_project_piece.specs.Standing.{Stands, IsOpen}
+use Rattle.pb_project_piece.specs.Standing.{Stands, Come, at_ends, IsOpen}
 
 abbrev pub is_straight : StmtTree → Bool
 is_straight (message l f t) = true
@@ -30,7 +30,7 @@ is_straight (reduce l op root) = true
 is_straight (allreduce l op) = true
 
 pub record IsPieceOf (range : NRange) (roles : ℕ) (whole : List Area) (s : StmtTree) (piece : List Code) : Type 0 where
-  pub is : (sc : Scope) (h : Here) (rows : Rows) (ids : List ℕ) → Stands range roles whole sc → IsOpen h → is_stmt rows false ids s ≡ true → is_straight s ≡ true →
+  pub is : (sc : Scope) (h : Here) (rows : Rows) (ids : List ℕ) → Stands range roles whole sc → IsOpen h → Come sc h (at_ends s) → is_stmt rows false ids s ≡ true → is_straight s ≡ true →
       (tail : Codes) → Piece sc h tail s (onto piece tail)
   pub made : (p : Protocol) (l : Program) (at : W.Scope) (ids : List ℕ) → IsTabledAs p l → roles ≡ length l.roles → is_stmt (rows_of p) false ids s ≡ true → is_straight s ≡ true → Goes p s →
       (tail : Codes) → AreMade l at tail → AreMade l at (onto piece tail)

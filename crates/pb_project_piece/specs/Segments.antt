@@ -1,5 +1,5 @@
 -- The segments of a foreach, as they are added.
-use Rattle.std.specs.Prelude.{◌≡◌, ℕ, ◌+◌, ◌<◌, length, ℤ, pos, ◌≤ℤ◌, ◌-ℤ◌, true, false, ◌&&◌, not, List}
+use Rattle.std.specs.Prelude.{◌≡◌, ℕ, ◌+◌, ◌<◌, length, ℤ, pos, ◌≤ℤ◌, ◌-ℤ◌, true, false, ◌&&◌, not, List, [], ◌∷◌}
 use Rattle.pb_affine.specs.declared.range.NRange.{NRange}
 use Rattle.pb_affine.specs.declared.guard.Guard.{Guard}
 use Rattle.pb_affine.specs.Values.{hold}
@@ -20,21 +20,30 @@ use Rattle.pb_shape.specs.Segments.{in_segment, segment_codes, offsets, OfRole, 
 use Rattle.pb_project_piece.specs.Adding.{onto}
 use Rattle.pb_project_piece.specs.Weights.{IsWeighed, IsSimple, IsTabledAs, AreFlat, each_room, count_in, segment_sum}
 use Rattle.pb_project_piece.specs.Comers.{AreBounds}
-use Rattle.pb_project_piece.specs.Standing.{Stands}
+use Rattle.pb_project_piece.specs.Standing.{Stands, meeting}
 use Rattle.pb_project_piece.specs.Ones.{IsOne}
 
 -- the piece before a rest is what these codes are before it
 pub record IsCodes (codes : Codes → Codes) (piece : List Code) : Type 0 where
   pub is : (rest : Codes) → onto piece rest ≡ codes rest
 
--- the variable may have any value, and none of these ranks comes
-pub record IsApart (less : List Area) (sc : Scope) (h : Here) : Type 0 where
+-- the variable may have any value; of those at ends of the items all come but these, and of these none
+pub record IsApart (over : Bounds) (b : BlockTree) (less : List Area) (sc : Scope) (h : Here) : Type 0 where
   pub at : (n i : ℤ) → h.at n i ≡ true
+  pub come : (n i : ℤ) (role : ℕ) (x : ℤ) → IsIn sc.range n → is_rank sc.roles n role x ≡ true → meeting over b n i role x ≡ true → have less n role x ≡ false → h.comes n i role x ≡ true
   pub comes : (n i : ℤ) (role : ℕ) (x : ℤ) → IsIn sc.range n → is_rank sc.roles n role x ≡ true → h.comes n i role x ≡ true → have less n role x ≡ false
 
 -- the areas are of the ranks of a segment that aren't among others
 pub record AreOthers (over : Bounds) (k : ℕ) (c : ℤ) (less areas : List Area) : Type 0 where
   pub is : (n : ℤ) (role : ℕ) (x : ℤ) → pos 0 ≤ℤ n → AreBounds over → is_small c ≡ true → have areas n role x ≡ in_segment over k c n (pos 0) role x && not (have less n role x)
+
+-- the ranks of the segment are at an end of the items for some value of the variable
+abbrev pub Offers : Bounds → BlockTree → ℕ → ℤ → Type 0
+Offers over b k c = (n i : ℤ) (role : ℕ) (x : ℤ) → in_segment over k c n i role x ≡ true → meeting over b n i role x ≡ true
+
+abbrev pub AllOffer : Bounds → BlockTree → ℕ → List ℤ → Type 0
+AllOffer over b k [] = Unit {0}
+AllOffer over b k (c ∷ cs) = Offers over b k c × AllOffer over b k cs
 
 abbrev pub codes_in : ℕ → ℤ → BlockTree → Codes
 codes_in k c b = L.more (L.own (pos 0 -ℤ c)) (segment_codes k c b)
@@ -57,20 +66,20 @@ pub record IsSegmentOf (over : Bounds) (b : BlockTree) (k : ℕ) (c : ℤ) (code
 
 -- the piece is a segment
 pub record IsSegment (range : NRange) (roles : ℕ) (whole : List Area) (over : Bounds) (less : List Area) (b : BlockTree) (k : ℕ) (c : ℤ) (piece : List Code) : Type 0 where
-  pub is : (sc : Scope) (h : Here) → Stands range roles whole sc → IsApart less sc h → AreBounds over → is_small c ≡ true → IsOne sc h (in_segment over k c) (codes_in k c b) piece
+  pub is : (sc : Scope) (h : Here) → Stands range roles whole sc → IsApart over b less sc h → AreBounds over → is_small c ≡ true → Offers over b k c → IsOne sc h (in_segment over k c) (codes_in k c b) piece
   pub weighed : IsWeighed (2 + count_in k c b) 1 piece
   pub made : (p : Protocol) (l : Program) (ids : List ℕ) → IsTabledAs p l → k < length l.roles → AreBounds over → is_small c ≡ true → is_block (rows_of p) true ids b ≡ true → GoAll p b → AreFlat l piece
 
 -- the piece is a role's segments
 pub record IsRoleSegments (range : NRange) (roles : ℕ) (whole : List Area) (over : Bounds) (less : List Area) (b : BlockTree) (k : ℕ) (piece : List Code) : Type 0 where
-  pub is : (sc : Scope) (h : Here) (rows : Rows) (ids : List ℕ) → Stands range roles whole sc → IsApart less sc h → AreBounds over → is_block rows true ids b ≡ true →
+  pub is : (sc : Scope) (h : Here) (rows : Rows) (ids : List ℕ) → Stands range roles whole sc → IsApart over b less sc h → AreBounds over → is_block rows true ids b ≡ true →
       (tail : Codes) → OfRole sc h over b k tail (offsets k b) (onto piece tail)
   pub weighed : IsWeighed (segment_sum k b (offsets k b)) 1 piece
   pub made : (p : Protocol) (l : Program) (ids : List ℕ) → IsTabledAs p l → k < length l.roles → AreBounds over → is_block (rows_of p) true ids b ≡ true → GoAll p b → AreFlat l piece
 
 -- the piece is all segments
 pub record AreSegments (range : NRange) (roles : ℕ) (whole : List Area) (over : Bounds) (less : List Area) (b : BlockTree) (piece : List Code) : Type 0 where
-  pub are : (sc : Scope) (h : Here) (rows : Rows) (ids : List ℕ) → Stands range roles whole sc → IsApart less sc h → AreBounds over → is_block rows true ids b ≡ true →
+  pub are : (sc : Scope) (h : Here) (rows : Rows) (ids : List ℕ) → Stands range roles whole sc → IsApart over b less sc h → AreBounds over → is_block rows true ids b ≡ true →
       (tail : Codes) → Segments sc h over b tail 0 sc.roles (onto piece tail)
   pub weighed : IsWeighed (each_room 6 b) 1 piece
   pub made : (p : Protocol) (l : Program) (ids : List ℕ) → IsTabledAs p l → roles ≡ length l.roles → AreBounds over → is_block (rows_of p) true ids b ≡ true → GoAll p b → AreFlat l piece

@@ -1,4 +1,4 @@
-ghost use Rattle.std.specs.Prelude.{◌≡◌, true, [], IfOk, OnOk};
+ghost use Rattle.std.specs.Prelude.{◌≡◌, IfOk, OnOk};
 ghost use Rattle.pb_core_language.specs.Plain.{plain_block};
 ghost use Rattle.pb_local.specs.Tree as L;
 ghost use Rattle.pb_local.specs.Tree.{plain, plain_all};
@@ -36,6 +36,24 @@ fn is_run(
     Ok(there)
 }
 
+/// The same. Where no rank is at an end without the variable, the other ends aren't looked at.
+fn has_runner(
+    items: &CoreBlock,
+    alloc: Global,
+    setting: &Setting,
+    over: Bounds,
+    fixed: &[Area],
+) -> Result<bool, NoMemory>
+    ensures { IfOk result (λ t. Runs setting.now.range setting.now.whole.now over fixed.now (plain_block items.now).block t) }
+{
+    let there = is_somebody(alloc, setting, fixed)?;
+    if there {
+        is_run(items, alloc, setting, over, fixed)
+    } else {
+        Ok(false)
+    }
+}
+
 /// The loop, as a statement.
 fn loop_of(
     items: &CoreBlock,
@@ -56,32 +74,7 @@ fn loop_of(
     Ok(one)
 }
 
-/// The loop that the ranks at ends without the variable run, or nothing where none of them ever runs it.
-fn rounds(
-    items: &CoreBlock,
-    alloc: Global,
-    setting: &Setting,
-    over: Bounds,
-    fixed: &[Area],
-) -> Result<Vec<Stmt>, NoMemory>
-    ensures { IfOk result (λ v. IsRounds setting.now.range setting.now.roles setting.now.whole.now over fixed.now (plain_block items.now).block v.items) }
-{
-    let run = is_run(items, alloc, setting, over, fixed)?;
-    if run {
-        loop_of(items, alloc, setting, over, fixed)
-    } else {
-        Ok(Vec::new(alloc))
-    }
-}
-
-#[tactic(auto, using(std::proofs::lemmas::List::nil_from_length))]
-fn is_nothing(list: &[Stmt]) -> bool
-    ensures { result ≡ true → list.now ≡ [] }
-{
-    list.is_empty()
-}
-
-/// Adds the `If` of the ranks at ends without the variable, unless both its parts are empty.
+/// Adds the `If` of the ranks at ends without the variable, with the loop and the segments.
 fn put_both(
     items: &CoreBlock,
     alloc: Global,
@@ -93,12 +86,9 @@ fn put_both(
 ) -> Result<(), NoMemory>
     ensures { OnOk result (Added out.old.items out.new.items (IsBoth setting.now.range setting.now.roles setting.now.whole.now over ends.now fixed.now (plain_block items.now).block)) }
 {
-    let first = rounds(items, alloc, setting, over, fixed)?;
+    let first = loop_of(items, alloc, setting, over, fixed)?;
     let mut other = Vec::new(alloc);
     put_segments(items, alloc, setting, over, fixed, &mut other)?;
-    if is_nothing(&first) && is_nothing(&other) {
-        return Ok(());
-    }
     let guards = guards_at(alloc, ends)?;
     out.push(either(guards, first, other))?;
     Ok(())
@@ -114,7 +104,7 @@ fn either(guards: Guards, first: Vec<Stmt>, other: Vec<Stmt>) -> Stmt
     }
 }
 
-/// Adds a foreach.
+/// Adds a foreach. Where none of the ranks at ends without the variable ever runs its loop, the segments stand alone.
 pub fn put_foreach(
     items: &CoreBlock,
     alloc: Global,
@@ -126,8 +116,8 @@ pub fn put_foreach(
 {
     let ends = fixed_ends(items, alloc)?;
     let fixed = areas_at(alloc, &ends)?;
-    let there = is_somebody(alloc, setting, &fixed)?;
-    if there {
+    let runs = has_runner(items, alloc, setting, over, &fixed)?;
+    if runs {
         put_both(items, alloc, setting, over, &ends, &fixed, out)?;
         Ok(())
     } else {

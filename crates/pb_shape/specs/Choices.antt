@@ -1,7 +1,8 @@
 -- How ranks are told the branch of a choice: the tests and relays of its text.
 use Rattle.std.specs.Prelude.{◌≡◌, ℕ, ℤ, pos, true, false, ◌&&◌, nat_eq, if◌then◌else◌, List, [], ◌∷◌, ◌++◌}
 use Rattle.pb_affine.specs.declared.guard.Guard.{Guard}
-use Rattle.pb_affine.specs.Values.{value}
+use Rattle.std.specs.List.{All}
+use Rattle.pb_affine.specs.Values.{value, hold}
 use Rattle.pb_core_language.specs.declared.tree.CoreEnd.{CoreEnd}
 use Rattle.pb_core_language.specs.Tree.{BranchTrees}
 use Rattle.pb_core_language.specs.Flat.{branch_at}
@@ -16,7 +17,7 @@ use Rattle.pb_local.specs.Computed as C
 use Rattle.pb_local.specs.Tree.{Code, Codes, more}
 use Rattle.pb_local.specs.Tree as L
 use Rattle.pb_shape.specs.Places.{Scope, Who, Here, is_end, peer_of}
-use Rattle.pb_shape.specs.Guards.{alone, Names}
+use Rattle.pb_shape.specs.Guards.{alone, Names, Somebody}
 use Rattle.pb_shape.specs.Loops.{Around}
 
 -- a first outcome of the rank in branch k is a receive of this label
@@ -43,6 +44,14 @@ Relays sc a at bs relays =
     (n : ℤ) (role : ℕ) (x : ℤ) (k l : ℕ) → IsIn sc.range n → is_rank sc.roles n role x ≡ true → is_end at n (pos 0) role x ≡ false → is_told sc a bs k l n (pos 0) role x ≡ true →
     rank sc.roles n (C.source_of n (record { role = role; index = x }) x relays (peer_of at)).role
     (value (C.source_of n (record { role = role; index = x }) x relays (peer_of at)).at n x) ≡ teller sc a bs n role x
+
+-- Each test holds of somebody who comes to the choice
+abbrev pub AreHeld : Scope → Here → List Test → Type 0
+AreHeld sc h tests = All (λ t. Somebody sc h (λ n i role x. hold t.guards n i role x)) tests
+
+-- and so does each relay, with the own index for the variable
+abbrev pub AreCalled : Scope → Here → List Relay → Type 0
+AreCalled sc h relays = All (λ r. Somebody sc h (λ n i role x. hold r.guards n x role x)) relays
 
 -- where there are relays, `Own` of 0 stands before
 abbrev pub told_by : List Relay → Code → Codes

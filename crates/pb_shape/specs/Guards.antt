@@ -17,7 +17,7 @@ module _ (sc : Scope) (h : Here) where
   abbrev pub Names : List Guard → Who → Type 0
   Names gs who = (n i : ℤ) (role : ℕ) (x : ℤ) → IsIn sc.range n → is_rank sc.roles n role x ≡ true → h.at n i ≡ true → hold gs n i role x ≡ who n i role x
 
-  -- some N of the range has such a rank
+  -- some N of the range has such a rank, which comes here
   pub record Somebody (who : Who) : Type 0 where
     pub n : ℤ
     pub i : ℤ
@@ -26,13 +26,14 @@ module _ (sc : Scope) (h : Here) where
     pub within : IsIn sc.range n
     pub rank : is_rank sc.roles n role index ≡ true
     pub at : h.at n i ≡ true
+    pub comes : h.comes n i role index ≡ true
     pub is : who n i role index ≡ true
 
   -- none of these ranks comes here
   abbrev pub Nobody : Who → Type 0
   Nobody who = (n i : ℤ) (role : ℕ) (x : ℤ) → IsIn sc.range n → is_rank sc.roles n role x ≡ true → h.at n i ≡ true → h.comes n i role x ≡ true → who n i role x ≡ false
 
-  -- An `If` of these ranks, before what follows. Where there is no such rank it isn't there, and it may be left out where none of them comes here
+  -- An `If` of these ranks, before what follows. It is there exactly where one of them comes here, for some N of the range
   pub data One (who : Who) (first tail : Codes) : Codes → Type 0 where
     there : {gs : List Guard} → Names gs who → Somebody who → One who first tail (more (L.when gs first nothing) tail)
     gone : Nobody who → One who first tail tail

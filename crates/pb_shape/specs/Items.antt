@@ -5,8 +5,8 @@ use Rattle.pb_core_language.specs.Tree as T
 use Rattle.pb_core_language.specs.Tree.{Mark, StmtTree, BlockTree}
 use Rattle.pb_local.specs.Tree.{Codes, nothing}
 use Rattle.pb_local.specs.Tree as L
-use Rattle.pb_shape.specs.Places.{Scope, everyone, Here, is_end, peer_of}
-use Rattle.pb_shape.specs.Guards.{alone, Nobody, One}
+use Rattle.pb_shape.specs.Places.{Scope, Here, is_end, peer_of}
+use Rattle.pb_shape.specs.Guards.{alone, One}
 
 module _ (sc : Scope) (h : Here) where
   pub data Item (tail : Codes) : StmtTree → Codes → Type 0 where
@@ -17,4 +17,3 @@ module _ (sc : Scope) (h : Here) where
   pub data Items : BlockTree → Codes → Type 0 where
     none : Items T.nothing nothing
     item : {m : Mark} {s : StmtTree} {rest : BlockTree} {tail codes : Codes} → Item tail s codes → Items rest tail → Items (T.more m s rest) codes
-    unreached : {b : BlockTree} → Nobody sc h everyone → Items b nothing

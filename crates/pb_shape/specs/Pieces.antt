@@ -53,19 +53,12 @@ abbrev pub but_fixed : Here → BlockTree → Here
 but_fixed h items = inside h (λ n i role x. not (fixed_in items n role x))
 
 module _ (sc : Scope) (h : Here) (b : Bounds) (items : BlockTree) where
-  -- the For; it may be left out where nobody comes into it
-  pub data Rounds : Codes → Type 0 where
-    rounds : {body : Codes} → Items sc (in_for h b items) items body → Rounds (alone (L.for_each b.low b.high body))
-    nowhere : Nobody sc (in_for h b items) everyone → Rounds nothing
-
   pub data ForEach (tail : Codes) : Codes → Type 0 where
     -- the ranks at ends without the variable run the loop, and all others the segments
-    both : {gs : List Guard} {first other : Codes} → Names sc h gs (fixed_here items) → Somebody sc h (fixed_here items) → Rounds first →
-        Segments sc (but_fixed h items) b items nothing 0 sc.roles other → ForEach tail (more (L.when gs first other) tail)
-    -- where there are no such ranks here, the segments stand alone
-    segments : {codes : Codes} → Nobody sc h (fixed_here items) → Segments sc h b items tail 0 sc.roles codes → ForEach tail codes
-    -- where nobody comes into the loop, nor into a segment
-    neither : Nobody sc (in_for h b items) everyone → Segments sc (but_fixed h items) b items tail 0 sc.roles tail → ForEach tail tail
+    both : {gs : List Guard} {body other : Codes} → Names sc h gs (fixed_here items) → Somebody sc (in_for h b items) everyone → Items sc (in_for h b items) items body →
+        Segments sc (but_fixed h items) b items nothing 0 sc.roles other → ForEach tail (more (L.when gs (alone (L.for_each b.low b.high body)) other) tail)
+    -- where nobody comes into the loop, the segments stand alone
+    segments : {codes : Codes} → Nobody sc (in_for h b items) everyone → Segments sc h b items tail 0 sc.roles codes → ForEach tail codes
 
 -- ---- a statement, before what follows
 

@@ -47,10 +47,10 @@ use Rattle.pb_local.specs.declared.stmt.Relay.{Relay}
 use Rattle.pb_local.specs.Tree.{Codes, nothing, Parts, no_part, part, Program}
 use Rattle.pb_local.specs.Tree as L
 use Rattle.pb_shape.specs.Places.{Scope, scope_of, everyone, Here, everywhere, inside, is_end, peer_of, role_of}
-use Rattle.pb_shape.specs.Guards.{alone, Names, Nobody, One}
+use Rattle.pb_shape.specs.Guards.{alone, Names, Somebody, Nobody, One}
 use Rattle.pb_shape.specs.Pieces.{Piece}
 use Rattle.pb_shape.specs.Loops.{Around, outermost, number_at, in_loop, takers}
-use Rattle.pb_shape.specs.Choices.{Tests, Relays, told_by}
+use Rattle.pb_shape.specs.Choices.{Tests, AreHeld, Relays, AreCalled, told_by}
 
 -- ---- blocks
 
@@ -58,17 +58,18 @@ mutual
   pub data Shape (sc : Scope) : Here → Around → BlockTree → Codes → Type 0 where
     none : {h : Here} {a : Around} → Shape sc h a T.nothing nothing
     piece : {h : Here} {a : Around} {m : Mark} {s : StmtTree} {rest : BlockTree} {tail codes : Codes} →
-        Piece sc h tail s codes → Shape sc h a rest tail → Shape sc h a (T.more m s rest) codes
+        Somebody sc h everyone → Piece sc h tail s codes → Shape sc h a rest tail → Shape sc h a (T.more m s rest) codes
     loop : {h : Here} {a : Around} {m mark : Mark} {id number : ℕ} {body rest : BlockTree} {inner tail codes : Codes} →
-        One sc h (takers sc a m (T.loop id mark body)) (alone (L.loop number inner)) tail codes →
+        Somebody sc h everyone → One sc h (takers sc a m (T.loop id mark body)) (alone (L.loop number inner)) tail codes →
         Shape sc (inside h (takers sc a m (T.loop id mark body))) (in_loop sc a id number body) body inner →
         Shape sc h a rest tail → Shape sc h a (T.more m (T.loop id mark body) rest) codes
-    again : {h : Here} {a : Around} {m : Mark} {id : ℕ} {rest : BlockTree} → Shape sc h a (T.more m (T.again id) rest) (alone (L.again (number_at a.numbers (between id a.opens))))
+    again : {h : Here} {a : Around} {m : Mark} {id : ℕ} {rest : BlockTree} → Somebody sc h everyone → Shape sc h a (T.more m (T.again id) rest) (alone (L.again (number_at a.numbers (between id a.opens))))
     choice : {h : Here} {a : Around} {m : Mark} {k : ℕ} {at : CoreEnd} {bs : BranchTrees} {rest : BlockTree} {parts : Parts} {tail codes : Codes} (who : Guard) (relays : List Relay) (tests : List Test) →
-        One sc h (takers sc a m (T.choice k at bs)) (told_by relays (L.choice who k relays (peer_of at) tests parts)) tail codes →
-        Names sc h (who ∷ []) (is_end at) → Tests sc h a bs tests → Relays sc a at bs relays →
+        Somebody sc h everyone → One sc h (takers sc a m (T.choice k at bs)) (told_by relays (L.choice who k relays (peer_of at) tests parts)) tail codes →
+        Names sc h (who ∷ []) (is_end at) → Tests sc h a bs tests → AreHeld sc (inside h (takers sc a m (T.choice k at bs))) tests →
+        Relays sc a at bs relays → AreCalled sc (inside h (takers sc a m (T.choice k at bs))) relays →
         Shapes sc (inside h (takers sc a m (T.choice k at bs))) a bs parts → Shape sc h a rest tail → Shape sc h a (T.more m (T.choice k at bs) rest) codes
-    -- what nobody comes to may be left out
+    -- what nobody comes to isn't there
     unreached : {h : Here} {a : Around} {b : BlockTree} → Nobody sc h everyone → Shape sc h a b nothing
 
   pub data Shapes (sc : Scope) : Here → Around → BranchTrees → Parts → Type 0 where

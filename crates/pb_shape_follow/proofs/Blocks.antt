@@ -24,8 +24,8 @@ use Rattle.pb_local.proofs.Moves.{move_is}
 use Rattle.pb_shape.specs.Items as I
 use Rattle.pb_shape.specs.Pieces as P
 use Rattle.pb_shape.specs.Shape as S
-use Rattle.pb_shape.specs.Places.{Here, inside, scope_of}
-use Rattle.pb_shape.specs.Guards.{alone, One}
+use Rattle.pb_shape.specs.Places.{Here, everyone, inside, scope_of}
+use Rattle.pb_shape.specs.Guards.{alone, Somebody, One}
 use Rattle.pb_shape.specs.Pieces.{Piece}
 use Rattle.pb_shape.specs.Loops.{Around, in_loop, number_at, takers}
 use Rattle.pb_shape.specs.Shape.{Shape}
@@ -188,18 +188,18 @@ module _ (p : Protocol) (l : Program) (n : ℤ) (me : Seat) (g : Given p l n me)
 
   -- ---- a continue
 
-  pub again_front : {h : Here} {a : Around} {m : Mark} {id : ℕ} {rest : BlockTree} {o : Option Code} {K : List Part} {t : Todo} (c : Bool) (k number : ℕ) (i : ℤ) →
+  pub again_front : {h : Here} {a : Around} {m : Mark} {id : ℕ} {rest : BlockTree} {o : Option Code} {K : List Part} {t : Todo} (c : Bool) (k number : ℕ) (i : ℤ) → Somebody (scope_of p) h everyone →
       Sits p l n me h a (T.more m (T.again id) rest) (alone (L.again (number_at a.numbers (between id a.opens)))) → Over p l n me a o K t → IsVariable i →
       Budget p l n me c k (pushed number (alone (L.again (number_at a.numbers (between id a.opens)))) t) →
       Ahead p l n me g k c (at_todo me i (pushed number (alone (L.again (number_at a.numbers (between id a.opens)))) t)) (record { body = o; code = again (between id a.opens) } ∷ K)
-  again_front c zero number i z over near room = absurd (let a = room.enough in omega arith)
-  again_front {h = h} {a = a} {m = m} {id = id} {rest = rest} {o = o} {K = K} {t = t} c (suc k) number i z over near room =
+  again_front c zero number i some z over near room = absurd (let a = room.enough in omega arith)
+  again_front {h = h} {a = a} {m = m} {id = id} {rest = rest} {o = o} {K = K} {t = t} c (suc k) number i some z over near room =
       let e = between id a.opens in
       let x = number_at a.numbers e in
       let first = at_todo me i (X.do_next number (L.again x) t) in
       let last = at_todo me i (back_to x t) in
       let deep : e < length a.opens = subst (λ d. e < d) z.around.deep z.keeps in
-      let sim = over.on_top {h = h} {core = T.more m (T.again id) rest} number (record { shape = S.again; sits = z }) in
+      let sim = over.on_top {h = h} {core = T.more m (T.again id) rest} number (record { shape = S.again some; sits = z }) in
       let b : Back p l n me (return_to (record { body = o; code = coded p l n me a (T.more m (T.again id) rest) } ∷ K) e) (back_to x (pushed number (alone (L.again x)) t)) = go_back p l n me sim e deep in
       let m' = move_is l n first in
       quiets refl (λ h'. record {

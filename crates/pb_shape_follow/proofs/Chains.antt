@@ -5,7 +5,6 @@ use Rattle.pb_world.specs.Actions.{Kind, Sends, Receives, Runs, Enters, Leaves, 
 use Rattle.pb_core_language.specs.declared.protocol.CoreRole.{CoreRole}
 use Rattle.pb_core_language.specs.Tree as T
 use Rattle.pb_core_language.specs.Tree.{Mark, StmtTree, BlockTree}
-use Rattle.pb_core_language.specs.declared.tree.Bounds.{Bounds}
 use Rattle.pb_core_language.specs.Flat.{Block, stop, message, compute, together, choice, looped, again}
 use Rattle.pb_core_language.specs.FlatOf.{rank_of, for_each, flat_stmt, flat_block}
 use Rattle.pb_core_language.specs.Run.{Env}

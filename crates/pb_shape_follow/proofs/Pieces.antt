@@ -46,9 +46,8 @@ module _ (l : Program) where
     segments_leave s (E.of_role a w) made = let x = of_role_leaves s a made in leaves_two x (segments_leave x.at w x.made)
 
     foreach_leaves : {b : Bounds} {items : BlockTree} {tail codes : Codes} (s : W.Scope) → ForEach sc h b items tail codes → AreMade l s codes → Left s codes tail
-    foreach_leaves s (P.both names some first other) made = record { at = _; made = made.1; later = omega arith; fewer = omega arith }
+    foreach_leaves s (P.both names some its other) made = record { at = _; made = made.1; later = omega arith; fewer = omega arith }
     foreach_leaves s (P.segments nobody w) made = segments_leave s w made
-    foreach_leaves {codes = codes} s (P.neither nobody w) made = leaves_all s codes made
 
     pub piece_leaves : {st : StmtTree} {tail codes : Codes} (s : W.Scope) → Piece sc h tail st codes → AreMade l s codes → Left s codes tail
     piece_leaves s (P.item w) made = item_leaves s w made

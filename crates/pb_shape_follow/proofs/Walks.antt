@@ -27,8 +27,7 @@ use Rattle.pb_local.proofs.Moves.{move_is}
 use Rattle.pb_shape.specs.Shape as S
 use Rattle.pb_shape.specs.Places.{Here, peer_of, is_end, scope_of, inside}
 use Rattle.pb_shape.specs.Guards.{alone, Names, One}
-use Rattle.pb_shape.specs.Pieces.{Piece}
-use Rattle.pb_shape.specs.Loops.{Around, outermost, takers, number_at}
+use Rattle.pb_shape.specs.Loops.{Around, takers}
 use Rattle.pb_shape.specs.Choices.{told_by, Tests, Relays}
 use Rattle.pb_shape.specs.Shape.{Shape, Shapes}
 use Rattle.pb_shape.specs.Straight.{IsVariable, at_todo}
@@ -147,7 +146,7 @@ module _ (p : Protocol) (l : Program) (n : ℤ) (me : Seat) (g : Given p l n me)
       Budget p l n me c k (pushed number codes t) → Ahead p l n me g k c (at_todo me i (pushed number codes t)) (record { body = o; code = coded p l n me a core } ∷ K)
   block_front c k number i S.none z over near room = end_front p l n me g c k i over near room
   block_front c k number i (S.unreached nobody) z over near room = absurd (true≢false (nobody n i me.role me.index g.seated.within g.seated.is (z.here.at i) (z.here.comes i)))
-  block_front {a = a} {codes = codes} {o = o} {K = K} {t = t} c k number i (S.piece {m = m} {s = s} {rest = rest} {tail = tail} piece shape) z over near room =
+  block_front {a = a} {codes = codes} {o = o} {K = K} {t = t} c k number i (S.piece {m = m} {s = s} {rest = rest} {tail = tail} some piece shape) z over near room =
       let r = me_rank p l n me in
       let both = and_parts (has_simple_items s) (have_simple_items rest) z.simple in
       let left = piece_leaves l z.made.at piece z.made.made in
@@ -158,14 +157,14 @@ module _ (p : Protocol) (l : Program) (n : ℤ) (me : Seat) (g : Given p l n me)
       with_code (coded p l n me a (T.more m s rest)) (laid kinds (coded p l n me a rest)) (piece_code p.roles n r (held p l n me a) a.opens m s piece both.0 (flat p l n me a rest))
       (piece_front p l n me g number pass.behind t codes tail kinds pass.way (straight_all r (flat_stmt p.roles n a.opens (pos 0) m s stop)) pass.enough left.fewer room pass.near (over.on_top pass.behind (record { shape = shape; sits = sits }))
       (λ room'. block_front c pass.left pass.behind pass.variable shape sits over pass.near room'))
-  block_front {a = a} {codes = codes} {o = o} {K = K} {t = t} c k number i (S.loop {m = m} {mark = mark} {id = id} {body = whole} {rest = rest} {tail = tail} one shape shape') z over near room =
+  block_front {a = a} {codes = codes} {o = o} {K = K} {t = t} c k number i (S.loop {m = m} {mark = mark} {id = id} {body = whole} {rest = rest} {tail = tail} some one shape shape') z over near room =
       let left = one_leaves l z.made.at one z.made.made in
       let sits = sits_behind_loop p l n me g z left in
       loop_front p l n me g _ c k number i refl one shape shape' z sits over near room (λ number' k' room'. block_front c k' number' i shape' sits over near room')
-  block_front {a = a} {o = o} {K = K} {t = t} c k number i (S.again {m = m} {id = id} {rest = rest}) z over near room =
+  block_front {a = a} {o = o} {K = K} {t = t} c k number i (S.again {m = m} {id = id} {rest = rest} some) z over near room =
       let deep : between id a.opens < length a.opens = subst (λ d. between id a.opens < d) z.around.deep z.keeps in
-      with_code (coded p l n me a (T.more m (T.again id) rest)) (again (between id a.opens)) (ap (λ b. cond b (again (between id a.opens)) done) (z.around.is_held (between id a.opens) deep)) (again_front p l n me g c k number i z over near room)
-  block_front {a = a} {codes = codes} {o = o} {K = K} {t = t} c k number i (S.choice {m = m} {k = kern} {at = from} {bs = bs} {rest = rest} {parts = parts} {tail = tail} who relays tests one names tested relayed shapes shape') z over near room =
+      with_code (coded p l n me a (T.more m (T.again id) rest)) (again (between id a.opens)) (ap (λ b. cond b (again (between id a.opens)) done) (z.around.is_held (between id a.opens) deep)) (again_front p l n me g c k number i some z over near room)
+  block_front {a = a} {codes = codes} {o = o} {K = K} {t = t} c k number i (S.choice {m = m} {k = kern} {at = from} {bs = bs} {rest = rest} {parts = parts} {tail = tail} who relays tests some one names tested held relayed called shapes shape') z over near room =
       let left = one_leaves l z.made.at one z.made.made in
       let sits = sits_behind_choice z left in
       choice_front who relays tests _ _ c k number i refl refl one names tested relayed shapes shape' z sits over near room (λ number' k' room'. block_front c k' number' i shape' sits over near room')

@@ -8,6 +8,9 @@ use Rattle.pb_core_language.specs.Tree as T
 use Rattle.pb_core_language.specs.Verdict.{IsIn}
 use Rattle.pb_core_flat.specs.Seated.{rank, is_rank}
 use Rattle.pb_core_flat.proofs.Seats.{seat_in_role}
+use Rattle.std.proofs.lemmas.List.Elements.{All-cons, All-nil}
+use Rattle.pb_local.specs.declared.stmt.Relay.{Relay}
+use Rattle.pb_local.specs.declared.stmt.Test.{Test}
 use Rattle.pb_local.specs.Computed.{source_of}
 use Rattle.pb_local.specs.Tree as L
 use Rattle.pb_local.specs.Tree.{nothing, more}
@@ -15,10 +18,10 @@ use Rattle.pb_shape.specs.Guards as G
 use Rattle.pb_shape.specs.Items as I
 use Rattle.pb_shape.specs.Pieces as Q
 use Rattle.pb_shape.specs.Shape as S
-use Rattle.pb_shape.specs.Places.{Here, Who, inside, is_end, peer_of, scope_of, everywhere}
+use Rattle.pb_shape.specs.Places.{Here, Who, everyone, inside, is_end, peer_of, scope_of, everywhere}
 use Rattle.pb_shape.specs.Guards.{Names, Somebody, One}
 use Rattle.pb_shape.specs.Loops.{Around, outermost, in_loop, takers}
-use Rattle.pb_shape.specs.Choices.{is_told, teller, guards_of, Tests, Relays}
+use Rattle.pb_shape.specs.Choices.{AreHeld, AreCalled, is_told, teller, guards_of, Tests, Relays}
 use Rattle.pb_shape.specs.Shape.{Shape, Shapes, HasShape}
 use Rattle.pb_shape_ranks.specs.Worked.{mark_of, w, workers}
 use Rattle.pb_shape_ranks.specs.Rounds.{three, end_at, told_on, both_ways, round, rounds, everybody, just, at_second, on_from_second, at_third, told_text, relays, test_of, tests, round_text, rounds_text}
@@ -59,24 +62,34 @@ each_names : (h : Here) (gs : List Guard) (who : Who) → ((i : ℤ) → hold gs
     ((i : ℤ) → hold gs (pos 3) i 0 (pos 2) ≡ who (pos 3) i 0 (pos 2)) → Names (scope_of rounds) h gs who
 each_names h gs who a b c n i role x within is at = by_rank (λ n role x. hold gs n i role x ≡ who n i role x) n role x within is (a i) (b i) (c i)
 
-somebody : (h : Here) (who : Who) (k : ℕ) → is_rank workers (pos 3) 0 (pos k) ≡ true → h.at (pos 3) (pos 0) ≡ true → who (pos 3) (pos 0) 0 (pos k) ≡ true → Somebody (scope_of rounds) h who
-somebody h who k is at so = record { n = pos 3; i = pos 0; role = 0; index = pos k; within = record { low = omega (arith, ints); high = omega (arith, ints) }; rank = is; at = at; is = so }
+somebody : (h : Here) (who : Who) (k : ℕ) → is_rank workers (pos 3) 0 (pos k) ≡ true → h.at (pos 3) (pos 0) ≡ true → h.comes (pos 3) (pos 0) 0 (pos k) ≡ true → who (pos 3) (pos 0) 0 (pos k) ≡ true → Somebody (scope_of rounds) h who
+somebody h who k is at comes so = record { n = pos 3; i = pos 0; role = 0; index = pos k; within = record { low = omega (arith, ints); high = omega (arith, ints) }; rank = is; at = at; comes = comes; is = so }
+
+-- each of the three comes here, where the variable may be 0
+record IsForAll (h : Here) : Type 0 where
+  at : h.at (pos 3) (pos 0) ≡ true
+  first : h.comes (pos 3) (pos 0) 0 (pos 0) ≡ true
+  second : h.comes (pos 3) (pos 0) 0 (pos 1) ≡ true
+  third : h.comes (pos 3) (pos 0) 0 (pos 2) ≡ true
+
+anyone : {h : Here} → IsForAll h → Somebody (scope_of rounds) h everyone
+anyone {h = h} at = somebody h everyone 0 refl at.at at.first refl
 
 -- ---- the messages
 
-one_first : {h : Here} {first tail : _} → h.at (pos 3) (pos 0) ≡ true → One (scope_of rounds) h (is_end (end_at 0)) first tail (more (L.when (just 0 ∷ []) first nothing) tail)
-one_first {h = h} at = G.there (each_names h (just 0 ∷ []) (is_end (end_at 0)) (λ i. refl) (λ i. refl) (λ i. refl)) (somebody h _ 0 refl at refl)
+one_first : {h : Here} {first tail : _} → IsForAll h → One (scope_of rounds) h (is_end (end_at 0)) first tail (more (L.when (just 0 ∷ []) first nothing) tail)
+one_first {h = h} at = G.there (each_names h (just 0 ∷ []) (is_end (end_at 0)) (λ i. refl) (λ i. refl) (λ i. refl)) (somebody h _ 0 refl at.at at.first refl)
 
-one_second : {h : Here} {first tail : _} → h.at (pos 3) (pos 0) ≡ true → One (scope_of rounds) h (is_end (end_at 1)) first tail (more (L.when (just 1 ∷ []) first nothing) tail)
-one_second {h = h} at = G.there (each_names h (just 1 ∷ []) (is_end (end_at 1)) (λ i. refl) (λ i. refl) (λ i. refl)) (somebody h _ 1 refl at refl)
+one_second : {h : Here} {first tail : _} → IsForAll h → One (scope_of rounds) h (is_end (end_at 1)) first tail (more (L.when (just 1 ∷ []) first nothing) tail)
+one_second {h = h} at = G.there (each_names h (just 1 ∷ []) (is_end (end_at 1)) (λ i. refl) (λ i. refl) (λ i. refl)) (somebody h _ 1 refl at.at at.second refl)
 
-one_third : {h : Here} {first tail : _} → h.at (pos 3) (pos 0) ≡ true → One (scope_of rounds) h (is_end (end_at 2)) first tail (more (L.when (just 2 ∷ []) first nothing) tail)
-one_third {h = h} at = G.there (each_names h (just 2 ∷ []) (is_end (end_at 2)) (λ i. refl) (λ i. refl) (λ i. refl)) (somebody h _ 2 refl at refl)
+one_third : {h : Here} {first tail : _} → IsForAll h → One (scope_of rounds) h (is_end (end_at 2)) first tail (more (L.when (just 2 ∷ []) first nothing) tail)
+one_third {h = h} at = G.there (each_names h (just 2 ∷ []) (is_end (end_at 2)) (λ i. refl) (λ i. refl) (λ i. refl)) (somebody h _ 2 refl at.at at.third refl)
 
-told_shape : {h : Here} {a : Around} {rest : T.BlockTree} {tail : L.Codes} (j k : ℕ) → h.at (pos 3) (pos 0) ≡ true → Shape (scope_of rounds) h a rest tail → Shape (scope_of rounds) h a (told_on j k rest) (told_text j k tail)
+told_shape : {h : Here} {a : Around} {rest : T.BlockTree} {tail : L.Codes} (j k : ℕ) → IsForAll h → Shape (scope_of rounds) h a rest tail → Shape (scope_of rounds) h a (told_on j k rest) (told_text j k tail)
 told_shape {tail = tail} j k at shape =
-    S.piece {tail = on_from_second k (at_third k tail)} (Q.item (I.message {middle = at_second j (on_from_second k (at_third k tail))} (one_first at) (one_second at)))
-    (S.piece {tail = tail} (Q.item (I.message {middle = at_third k tail} (one_second at) (one_third at))) shape)
+    S.piece {tail = on_from_second k (at_third k tail)} (anyone at) (Q.item (I.message {middle = at_second j (on_from_second k (at_third k tail))} (one_first at) (one_second at)))
+    (S.piece {tail = tail} (anyone at) (Q.item (I.message {middle = at_third k tail} (one_second at) (one_third at))) shape)
 
 -- ---- the tests
 
@@ -133,10 +146,31 @@ relayed n role x k m within is = by_rank (λ n role x. is_end (end_at 0) n (pos 
 abbrev in_loop_here : Here
 in_loop_here = inside everywhere (takers (scope_of rounds) outermost (mark_of 6) (T.loop 0 (mark_of 3) round))
 
+abbrev in_choice_here : Here
+in_choice_here = inside in_loop_here (takers (scope_of rounds) in_round (mark_of 5) (T.choice 0 (end_at 0) both_ways))
+
+for_all : IsForAll in_choice_here
+for_all = record { at = refl; first = refl; second = refl; third = refl }
+
+-- the ranks 1 and 2 are told
+held_by : (k : ℕ) (t : Test) → is_rank workers (pos 3) 0 (pos k) ≡ true → in_choice_here.comes (pos 3) (pos 0) 0 (pos k) ≡ true → hold t.guards (pos 3) (pos 0) 0 (pos k) ≡ true →
+    Somebody (scope_of rounds) in_choice_here (λ n i role x. hold t.guards n i role x)
+held_by k t is comes so = somebody in_choice_here _ k is refl comes so
+
+held : AreHeld (scope_of rounds) in_choice_here tests
+held =
+    All-cons (λ (t : Test). Somebody (scope_of rounds) in_choice_here (λ n i role x. hold t.guards n i role x)) (test_of 0 0 1) (test_of 0 1 2 ∷ test_of 1 2 1 ∷ test_of 1 3 2 ∷ []) (held_by 1 (test_of 0 0 1) refl refl refl)
+    (All-cons (λ (t : Test). Somebody (scope_of rounds) in_choice_here (λ n i role x. hold t.guards n i role x)) (test_of 0 1 2) (test_of 1 2 1 ∷ test_of 1 3 2 ∷ []) (held_by 2 (test_of 0 1 2) refl refl refl)
+    (All-cons (λ (t : Test). Somebody (scope_of rounds) in_choice_here (λ n i role x. hold t.guards n i role x)) (test_of 1 2 1) (test_of 1 3 2 ∷ []) (held_by 1 (test_of 1 2 1) refl refl refl)
+    (All-cons (λ (t : Test). Somebody (scope_of rounds) in_choice_here (λ n i role x. hold t.guards n i role x)) (test_of 1 3 2) [] (held_by 2 (test_of 1 3 2) refl refl refl) (All-nil (λ (t : Test). Somebody (scope_of rounds) in_choice_here (λ n i role x. hold t.guards n i role x))))))
+
+called : AreCalled (scope_of rounds) in_choice_here relays
+called = All-cons (λ (r : Relay). Somebody (scope_of rounds) in_choice_here (λ n i role x. hold r.guards n x role x)) (record { guards = just 2 ∷ []; from = peer_of (end_at 1) }) [] (somebody in_choice_here _ 2 refl refl refl refl) (All-nil (λ (r : Relay). Somebody (scope_of rounds) in_choice_here (λ n i role x. hold r.guards n x role x)))
+
 round_shape : Shape (scope_of rounds) in_loop_here in_round round round_text
 round_shape =
-    S.choice (just 0) relays tests (G.there (each_names in_loop_here (everybody ∷ []) (takers (scope_of rounds) in_round (mark_of 5) (T.choice 0 (end_at 0) both_ways)) (λ i. refl) (λ i. refl) (λ i. refl)) (somebody in_loop_here _ 0 refl refl refl)) (each_names in_loop_here (just 0 ∷ []) (is_end (end_at 0)) (λ i. refl) (λ i. refl) (λ i. refl)) (tested in_loop_here) relayed
-    (S.branch (told_shape 0 1 refl S.again) (S.branch (told_shape 2 3 refl S.none) S.no_shape)) S.none
+    S.choice (just 0) relays tests (somebody in_loop_here everyone 0 refl refl refl refl) (G.there (each_names in_loop_here (everybody ∷ []) (takers (scope_of rounds) in_round (mark_of 5) (T.choice 0 (end_at 0) both_ways)) (λ i. refl) (λ i. refl) (λ i. refl)) (somebody in_loop_here _ 0 refl refl refl refl)) (each_names in_loop_here (just 0 ∷ []) (is_end (end_at 0)) (λ i. refl) (λ i. refl) (λ i. refl)) (tested in_loop_here) held relayed called
+    (S.branch (told_shape 0 1 for_all (S.again (anyone for_all))) (S.branch (told_shape 2 3 for_all S.none) S.no_shape)) S.none
 
 pub rounds_shape : HasShape rounds rounds_text
 rounds_shape = record {
@@ -145,5 +179,5 @@ rounds_shape = record {
   roles = refl;
   labels = refl;
   kernels = refl;
-  body = S.loop (G.there (each_names everywhere (everybody ∷ []) (takers (scope_of rounds) outermost (mark_of 6) (T.loop 0 (mark_of 3) round)) (λ i. refl) (λ i. refl) (λ i. refl)) (somebody everywhere _ 0 refl refl refl)) round_shape S.none;
+  body = S.loop (somebody everywhere everyone 0 refl refl refl refl) (G.there (each_names everywhere (everybody ∷ []) (takers (scope_of rounds) outermost (mark_of 6) (T.loop 0 (mark_of 3) round)) (λ i. refl) (λ i. refl) (λ i. refl)) (somebody everywhere _ 0 refl refl refl refl)) round_shape S.none;
 }

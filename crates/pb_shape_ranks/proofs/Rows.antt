@@ -16,7 +16,7 @@ use Rattle.pb_shape.specs.Guards as G
 use Rattle.pb_shape.specs.Items as I
 use Rattle.pb_shape.specs.Pieces as P
 use Rattle.pb_shape.specs.Shape as S
-use Rattle.pb_shape.specs.Places.{is_end, peer_of, scope_of, everywhere}
+use Rattle.pb_shape.specs.Places.{everyone, is_end, peer_of, scope_of, everywhere}
 use Rattle.pb_shape.specs.Guards.{Names, Somebody}
 use Rattle.pb_shape.specs.Shape.{HasShape}
 use Rattle.pb_shape.specs.Theorem.{DoesRun}
@@ -33,10 +33,13 @@ names x n i role index within is at = one_only role (value x n i) index
 
 -- at N = 2
 first_is : Somebody (scope_of first_to_last) everywhere (is_end (worker (number (pos 0))))
-first_is = record { n = pos 2; i = pos 0; role = 0; index = pos 0; within = record { low = omega (arith, ints); high = tt }; rank = refl; at = refl; is = refl }
+first_is = record { n = pos 2; i = pos 0; role = 0; index = pos 0; within = record { low = omega (arith, ints); high = tt }; rank = refl; at = refl; comes = refl; is = refl }
 
 last_is : Somebody (scope_of first_to_last) everywhere (is_end (worker (from_n (negsuc 0))))
-last_is = record { n = pos 2; i = pos 0; role = 0; index = pos 1; within = record { low = omega (arith, ints); high = tt }; rank = refl; at = refl; is = refl }
+last_is = record { n = pos 2; i = pos 0; role = 0; index = pos 1; within = record { low = omega (arith, ints); high = tt }; rank = refl; at = refl; comes = refl; is = refl }
+
+anyone : Somebody (scope_of first_to_last) everywhere everyone
+anyone = record { n = pos 2; i = pos 0; role = 0; index = pos 0; within = record { low = omega (arith, ints); high = tt }; rank = refl; at = refl; comes = refl; is = refl }
 
 pub shape : HasShape first_to_last first_to_last_text
 shape = record {
@@ -45,7 +48,7 @@ shape = record {
   roles = refl;
   labels = refl;
   kernels = refl;
-  body = S.piece (P.item (I.message {middle = receiver} (G.there (names (number (pos 0))) first_is) (G.there (names (from_n (negsuc 0))) last_is))) S.none;
+  body = S.piece anyone (P.item (I.message {middle = receiver} (G.there (names (number (pos 0))) first_is) (G.there (names (from_n (negsuc 0))) last_is))) S.none;
 }
 
 -- ---- it is well made

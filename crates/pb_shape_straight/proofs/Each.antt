@@ -19,17 +19,18 @@ use Rattle.pb_local.specs.Tree.{Code, Codes, nothing, more, size_all, Program}
 use Rattle.pb_local.specs.Tree as L
 use Rattle.pb_local.specs.Computed.{fits, is_for_some}
 use Rattle.pb_local.specs.Machine.{Todo, round_of, pushed, turn, move_from, machine}
-use Rattle.pb_shape.specs.Places.{Here, Who, peer_of, scope_of}
-use Rattle.pb_shape.specs.Guards.{One}
+use Rattle.pb_shape.specs.Places.{Here, peer_of, scope_of}
+use Rattle.pb_shape.specs.Guards.{One, alone}
+use Rattle.pb_shape.specs.Items.{Items}
 use Rattle.pb_shape.specs.Segments.{is_at_offset, put, segment_codes, offsets, in_segment, OfRole, Segments}
-use Rattle.pb_shape.specs.Pieces.{fixed_in, in_for, but_fixed, Rounds, rounds, nowhere, ForEach}
+use Rattle.pb_shape.specs.Pieces.{fixed_in, in_for, but_fixed, ForEach}
 use Rattle.pb_shape.specs.Segments as E
 use Rattle.pb_shape.specs.Pieces as P
 use Rattle.pb_shape.specs.Ways as Y
 use Rattle.pb_shape.specs.Ways.{Way, renewed}
 use Rattle.pb_shape.specs.Straight.{IsVariable, AreItems, IsEach, IsOpenTo, at_todo}
 use Rattle.pb_shape_straight.proofs.Order.{gathered, gathered_nothing}
-use Rattle.pb_shape_straight.proofs.Segment.{IsSome, if_so, parts, my_parts, segment_does, roles_do, iterations, segments_are, fixed_acts}
+use Rattle.pb_shape_straight.proofs.Segment.{IsSome, if_so, parts, my_parts, segment_does, roles_do, iterations, segments_are, no_roles, fixed_acts}
 use Rattle.pb_shape_straight.proofs.Along.{joined, silently, Goes, goes_joined, stays, costs, when_held, when_not, owns}
 use Rattle.pb_shape_straight.proofs.Fits.{IsSize, fits_is, value_fits, guards_fit}
 use Rattle.pb_shape_straight.proofs.Peers.{bound_near, bound_small}
@@ -254,15 +255,16 @@ module _ (p : Protocol) (l : Program) (n : ℤ) (me : Seat) (g : Setting p l n m
         by (a ∷ x) y h = omega (arith, le)
 
     -- the For of a fixed rank
-    rounds_done : (first : Codes) (rest : Todo) (k number : ℕ) (i : ℤ) → Rounds (scope_of p) h b items first → IsVariable i → fixed_in items n me.role me.index ≡ true → Made l first →
-        size_all first ≤ k → 2 * size_all first ≤ bound → (j : ℤ) × IsVariable j × Goes l n bound me k i j (pushed number first rest) rest (size_all first) all_rounds
-    rounds_done first rest k number i (rounds {body = body} its) near fixed made room room' =
+    rounds_done : (body : Codes) (rest : Todo) (k number : ℕ) (i : ℤ) → Items (scope_of p) (in_for h b items) items body → IsVariable i → fixed_in items n me.role me.index ≡ true → Made l (alone (L.for_each b.low b.high body)) →
+        size_all (alone (L.for_each b.low b.high body)) ≤ k → 2 * size_all (alone (L.for_each b.low b.high body)) ≤ bound →
+        (j : ℤ) × IsVariable j × Goes l n bound me k i j (pushed number (alone (L.for_each b.low b.high body)) rest) rest (size_all (alone (L.for_each b.low b.high body))) all_rounds
+    rounds_done body rest k number i its near fixed made room room' =
         let x = bound_near b.low n g.size.low good.low in
         let y = bound_near b.high n g.size.low good.high in
         let m = count_of (hi +ℤ pos 1 -ℤ lo) in
         let t = turns l n bound me g.size b.high (suc number) body rest lo hi (size_all body) (λ v. my_parts p.roles n me v items) (bound_small b.high good.high)
         (λ j. same_value b.high n j (pos 0) (and_parts (is_over_n b.high.base) _ good.high).0) (omega (arith, ints, y.1, g.size.high)) (omega (arith, room')) done
-        (λ v c d. fixed_acts p.roles n me v items fixed) m k i lo (pushed number first rest) (starts (value b.low n i) (same_value b.low n i (pos 0) (and_parts (is_over_n b.low.base) _ good.low).0)) refl
+        (λ v c d. fixed_acts p.roles n me v items fixed) m k i lo (pushed number (alone (L.for_each b.low b.high body)) rest) (starts (value b.low n i) (same_value b.low n i (pos 0) (and_parts (is_over_n b.low.base) _ good.low).0)) refl
         (omega (arith, ints)) (record { low = omega (arith, ints, x.0); high = omega (arith, ints, x.1, g.size.high) }) (omega (arith, room)) in (
           t.last,
           t.near,
@@ -273,8 +275,8 @@ module _ (p : Protocol) (l : Program) (n : ℤ) (me : Seat) (g : Setting p l n m
           }),
         )
       where
-        starts : (v : ℤ) → v ≡ lo → turn l n (at_todo me i (pushed number first rest)) v b.high (suc number) body rest ≡ turn l n (at_todo me i (pushed number first rest)) lo b.high (suc number) body rest
-        starts v e = ap (λ w. turn l n (at_todo me i (pushed number first rest)) w b.high (suc number) body rest) e
+        starts : (v : ℤ) → v ≡ lo → turn l n (at_todo me i (pushed number (alone (L.for_each b.low b.high body)) rest)) v b.high (suc number) body rest ≡ turn l n (at_todo me i (pushed number (alone (L.for_each b.low b.high body)) rest)) lo b.high (suc number) body rest
+        starts v e = ap (λ w. turn l n (at_todo me i (pushed number (alone (L.for_each b.low b.high body)) rest)) w b.high (suc number) body rest) e
 
         within : (v : ℤ) → IsVariable v → lo ≤ℤ v → v ≤ℤ hi → Comes (in_for h b items) n me v
         within v near c d = record { near = near; at = is_between lo hi v c d; comes = and_from (fixed_in items n me.role me.index) (h.comes n v me.role me.index) fixed (open'.comes v) }
@@ -285,60 +287,61 @@ module _ (p : Protocol) (l : Program) (n : ℤ) (me : Seat) (g : Setting p l n m
             let e = items_done p l n me g bound true v k (suc number) (round_of b.high (suc number) body rest) its (within v near c d) (good.each v c d)
             (record { scope = made.scope; made = made.made.0.2 }) (record { now = room; ever = omega (arith, room') }) in
             costs l n bound me (size_all body) (omega (arith, e.small)) e.go
-    rounds_done first rest k number i (nowhere nobody) near fixed made room room' = (
-      i,
-      near,
-      subst (λ s. Goes l n bound me k i i rest rest 0 s)
-          (sym (gathered_nothing (count_of (hi +ℤ pos 1 -ℤ lo)) lo (λ v. my_parts p.roles n me v items) (λ v x y. none v x (last_of lo hi v x y)))) (stays l n bound me k i rest),
-    )
-      where
-        last_of : (low high v : ℤ) → low ≤ℤ v → v <ℤ (low +ℤ pos (count_of (high +ℤ pos 1 -ℤ low))) → v ≤ℤ high
-        last_of low high v x y = grind (arith, ints)
 
-        none : (v : ℤ) → lo ≤ℤ v → v ≤ℤ hi → my_parts p.roles n me v items ≡ []
-        none v x y = absurd (never (nobody n v me.role me.index g.within g.is (is_between lo hi v x y) (and_from (fixed_in items n me.role me.index) (h.comes n v me.role me.index) fixed (open'.comes v))))
+    last_of : (low high v : ℤ) → low ≤ℤ v → v <ℤ (low +ℤ pos (count_of (high +ℤ pos 1 -ℤ low))) → v ≤ℤ high
+    last_of low high v x y = grind (arith, ints)
+
+    none_then : (low high : ℤ) → ((v : ℤ) → low ≤ℤ v → v ≤ℤ high → ⊥) → high <ℤ low
+    none_then low high none = at (int_le low high) refl
+      where
+        at : (t : Bool) → int_le low high ≡ t → high <ℤ low
+        at true e = absurd (none low (omega (arith, ints)) (grind (arith, ints)))
+        at false e = grind (arith, ints)
 
     free_done : fixed_in items n me.role me.index ≡ false → roles_do p.roles n me b items 0 p.roles ≡ all_rounds
     free_done free = segments_are p.roles n me b items free g.in_role
 
     pub each_done : (tail codes : Codes) (rest : Todo) (k number : ℕ) (i : ℤ) → ForEach (scope_of p) h b items tail codes → IsVariable i → Made l codes → size_all codes ≤ k → 2 * size_all codes ≤ bound →
         Ends k number i codes tail rest all_rounds
-    each_done tail codes rest k number i (P.segments nobody segs) near made room room' =
-        subst (λ s. Ends k number i codes tail rest s) (free_done (nobody n i me.role me.index g.within g.is (open'.at i) (open'.comes i)))
-        (segments_done h b items open' good 0 p.roles tail codes rest k number i segs near made (record { now = room; ever = omega (arith, room') }))
-    each_done tail codes rest k number i (P.neither nobody segs) near made room room' = at (fixed_in items n me.role me.index) refl
+    each_done tail codes rest k number i (P.segments nobody segs) near made room room' = at (fixed_in items n me.role me.index) refl
       where
-        at : (t : Bool) → fixed_in items n me.role me.index ≡ t → Ends k number i tail tail rest all_rounds
-        at true e =
-            let d = rounds_done nothing (pushed number tail rest) k number i (nowhere nobody) near e (record { scope = made.scope; made = tt }) (omega arith) (omega arith) in
-            record { last = d.0; near = d.1; done = record { cost = 0; behind = number; small = omega arith; go = d.2 } }
-        at false e =
-            subst (λ s. Ends k number i tail tail rest s) (free_done e)
-            (segments_done (but_fixed h items) b items (record { at = open'.at; comes = λ i. rw e (open'.comes i) }) good 0 p.roles tail tail rest k number i segs near made (record { now = room; ever = omega (arith, room') }))
-    each_done tail codes rest zero number i (P.both {gs = gs} {first = first} {other = other} names some rnds segs) near made room room' = absurd (omega (arith, room))
-    each_done tail codes rest (suc k) number i (P.both {gs = gs} {first = first} {other = other} names some rnds segs) near made room room' = at (fixed_in items n me.role me.index) refl
+        done : Ends k number i codes tail rest (roles_do p.roles n me b items 0 p.roles)
+        done = segments_done h b items open' good 0 p.roles tail codes rest k number i segs near made (record { now = room; ever = omega (arith, room') })
+
+        -- the variable has no value where a fixed rank comes
+        none : fixed_in items n me.role me.index ≡ true → (v : ℤ) → lo ≤ℤ v → v ≤ℤ hi → ⊥
+        none e v x y = never (nobody n v me.role me.index g.within g.is (is_between lo hi v x y) (and_from (fixed_in items n me.role me.index) (h.comes n v me.role me.index) e (open'.comes v)))
+
+        no_rounds : fixed_in items n me.role me.index ≡ true → all_rounds ≡ []
+        no_rounds e = gathered_nothing (count_of (hi +ℤ pos 1 -ℤ lo)) lo (λ v. my_parts p.roles n me v items) (λ v x y. absurd (none e v x (last_of lo hi v x y)))
+
+        at : (t : Bool) → fixed_in items n me.role me.index ≡ t → Ends k number i codes tail rest all_rounds
+        at true e = subst (λ s. Ends k number i codes tail rest s) (no_roles p.roles n me b items 0 p.roles (none_then lo hi (none e)) ∙ sym (no_rounds e)) done
+        at false e = subst (λ s. Ends k number i codes tail rest s) (free_done e) done
+    each_done tail codes rest zero number i (P.both {gs = gs} {body = body} {other = other} names some its segs) near made room room' = absurd (omega (arith, room))
+    each_done tail codes rest (suc k) number i (P.both {gs = gs} {body = body} {other = other} names some its segs) near made room room' = at (fixed_in items n me.role me.index) refl
       where
         behind : ℕ
-        behind = number + L.size (L.when gs first other)
+        behind = number + L.size (L.when gs (alone (L.for_each b.low b.high body)) other)
 
         held : is_for_some n me i gs ≡ fixed_in items n me.role me.index
         held = names n i me.role me.index g.within g.is (open'.at i)
 
-        at : (t : Bool) → fixed_in items n me.role me.index ≡ t → Ends (suc k) number i (more (L.when gs first other) tail) tail rest all_rounds
+        at : (t : Bool) → fixed_in items n me.role me.index ≡ t → Ends (suc k) number i (more (L.when gs (alone (L.for_each b.low b.high body)) other) tail) tail rest all_rounds
         at true e =
-            let d = rounds_done first (pushed behind tail rest) k (suc number) i rnds near e (record { scope = made.scope; made = made.made.0.1 }) (omega (arith, room)) (omega (arith, room')) in
+            let d = rounds_done body (pushed behind tail rest) k (suc number) i its near e (record { scope = made.scope; made = made.made.0.1 }) (omega (arith, room)) (omega (arith, room')) in
             record {
               last = d.0;
               near = d.1;
               done = record {
-                cost = suc (size_all first);
+                cost = suc (size_all (alone (L.for_each b.low b.high body)));
                 behind = behind;
                 small = omega arith;
-                go = when_held l n bound me gs first other (pushed behind tail rest) (guards_fit l n me i g.size near gs made.made.0.0) (held ∙ e) d.2;
+                go = when_held l n bound me gs (alone (L.for_each b.low b.high body)) other (pushed behind tail rest) (guards_fit l n me i g.size near gs made.made.0.0) (held ∙ e) d.2;
               };
             }
         at false e =
-            let d = segments_done (but_fixed h items) b items (record { at = open'.at; comes = λ i. rw e (open'.comes i) }) good 0 p.roles nothing other (pushed behind tail rest) k (suc number + size_all first) i segs near
+            let d = segments_done (but_fixed h items) b items (record { at = open'.at; comes = λ i. rw e (open'.comes i) }) good 0 p.roles nothing other (pushed behind tail rest) k (suc number + size_all (alone (L.for_each b.low b.high body))) i segs near
             (record { scope = _; made = made.made.0.2 }) (record { now = omega (arith, room); ever = omega (arith, room') }) in
             record {
               last = d.last;
@@ -347,7 +350,7 @@ module _ (p : Protocol) (l : Program) (n : ℤ) (me : Seat) (g : Setting p l n m
                 cost = suc d.done.cost;
                 behind = behind;
                 small = omega (arith, d.done.small);
-                go = when_not l n bound me gs first other (pushed behind tail rest) (guards_fit l n me i g.size near gs made.made.0.0) (held ∙ e)
-                    (subst (λ s. Goes l n bound me k i d.last (pushed (suc number + size_all first) other (pushed behind tail rest)) (pushed behind tail rest) d.done.cost s) (free_done e) d.done.go);
+                go = when_not l n bound me gs (alone (L.for_each b.low b.high body)) other (pushed behind tail rest) (guards_fit l n me i g.size near gs made.made.0.0) (held ∙ e)
+                    (subst (λ s. Goes l n bound me k i d.last (pushed (suc number + size_all (alone (L.for_each b.low b.high body))) other (pushed behind tail rest)) (pushed behind tail rest) d.done.cost s) (free_done e) d.done.go);
               };
             }

@@ -151,4 +151,3 @@ module _ (p : Protocol) (l : Program) (n : ℤ) (me : Seat) (g : Setting p l n m
   items_done varies i k number rest I.none here' good made room = nothing_done k number i nothing rest
   items_done varies i k number rest (I.item a b) here' good made room =
       done_joined room (item_done varies k number i rest a here' good.0 made room) (λ k' number' room'. items_done varies i k' number' rest b here' good.1 (item_made a made) room')
-  items_done varies i k number rest (I.unreached nobody) here' good made room = absurd (never (nobody n i me.role me.index g.within g.is here'.at here'.comes))

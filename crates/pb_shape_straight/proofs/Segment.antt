@@ -299,6 +299,21 @@ module _ (roles : List CoreRole) (n : ℤ) where
     pub segments_are : (b : Bounds) (items : BlockTree) → fixed_in items n me.role me.index ≡ false → IsInRole me.role roles n me.index → roles_do b items 0 roles ≡ iterations b items
     segments_are b items free within = all_roles b items 0 me.role roles (omega arith) within ∙ sym (in_segments b items free)
 
+    -- where the variable has no value no segment does anything
+    no_segment : (b : Bounds) (items : BlockTree) (k : ℕ) (c : ℤ) → value b.high n (pos 0) <ℤ value b.low n (pos 0) → segment_does b items k c ≡ []
+    no_segment b items k c lt = rw (off (nat_eq k me.role) (value b.low n (pos 0)) (value b.high n (pos 0)) c me.index lt) refl
+      where
+        off : (a : Bool) (low high c x : ℤ) → high <ℤ low → a && (int_le (low +ℤ c) x && int_le x (high +ℤ c)) ≡ false
+        off a low high c x lt = grind (arith, ints)
+
+    no_role : (b : Bounds) (items : BlockTree) (k : ℕ) (cs : List ℤ) → value b.high n (pos 0) <ℤ value b.low n (pos 0) → gathered cs (segment_does b items k) ≡ []
+    no_role b items k [] lt = refl
+    no_role b items k (c ∷ cs) lt = rw (no_segment b items k c lt) (no_role b items k cs lt)
+
+    pub no_roles : (b : Bounds) (items : BlockTree) (k : ℕ) (rs : List CoreRole) → value b.high n (pos 0) <ℤ value b.low n (pos 0) → roles_do b items k rs ≡ []
+    no_roles b items k [] lt = refl
+    no_roles b items k (r ∷ rs) lt = rw (no_role b items k (offsets k items) lt) (no_roles b items (suc k) rs lt)
+
     -- a fixed rank has something in each iteration
     some_first : (s t : List Kind) → IsSome s → IsSome (s ++ t)
     some_first [] t h = absurd h

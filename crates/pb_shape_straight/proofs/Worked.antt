@@ -1,5 +1,5 @@
 -- The laws on a worked protocol, for every N: `foreach (i: 0..N-2) { A from W[i] to W[i+1]; }`, where W has the indices 0..N-1.
-use Rattle.std.proofs.Common.{◌≡◌, ℕ, ℤ, pos, negsuc, ◌+ℤ◌, ◌-ℤ◌, ◌≤ℤ◌, Bool, true, false, ◌&&◌, ◌||◌, nat_eq, int_le, inl, [], ◌∷◌, Some, None, codes, refl, ◌∙◌, arith}
+use Rattle.std.proofs.Common.{◌≡◌, ℕ, ℤ, pos, negsuc, ◌+ℤ◌, ◌-ℤ◌, ◌≤ℤ◌, Bool, true, false, ◌&&◌, ◌||◌, nat_eq, int_le, inl, [], ◌∷◌, Some, None, codes, refl, sym, ◌∙◌, arith}
 use Rattle.std.proofs.lemmas.Int.{ints}
 use Rattle.std.proofs.lemmas.Bool.Decides.{nat_tests}
 use Rattle.std.proofs.lemmas.List.Elements.{All-nil, All-cons}
@@ -27,7 +27,7 @@ use Rattle.pb_shape.specs.Guards as G
 use Rattle.pb_shape.specs.Segments as E
 use Rattle.pb_shape.specs.Pieces as P
 use Rattle.pb_shape.specs.Shape as S
-use Rattle.pb_shape.specs.Places.{Who, peer_of, scope_of, role_of, everywhere}
+use Rattle.pb_shape.specs.Places.{peer_of, scope_of, everyone, everywhere}
 use Rattle.pb_shape.specs.Guards.{Names, Somebody, One, alone}
 use Rattle.pb_shape.specs.Segments.{in_segment, Segments, OfRole}
 use Rattle.pb_shape.specs.Pieces.{ForEach, Piece}
@@ -125,6 +125,7 @@ somebody c l u = record {
   within = record { low = omega (arith, ints); high = tt };
   rank = worker (pos 2) c l (omega (arith, ints, u));
   at = refl;
+  comes = refl;
   is = by;
 }
   where
@@ -132,12 +133,25 @@ somebody c l u = record {
     by = grind (arith, ints, nat_tests)
 
 piece : Piece (scope_of protocol) everywhere nothing passed_on text
-piece = P.foreach (P.segments (λ n i role x within is at comes. refl)
+piece = P.foreach (P.segments (λ n i role x within is at comes. sym comes)
     (E.of_role {middle = nothing} (E.segment {middle = senders} (G.there (names (pos 1) (negsuc 0) refl) (somebody (pos 1) (omega (arith, ints)) (omega (arith, ints))))
     (E.segment {middle = nothing} (G.there (names (pos 0) (negsuc 1) refl) (somebody (pos 0) (omega (arith, ints)) (omega (arith, ints)))) E.none)) E.none))
 
+anyone : Somebody (scope_of protocol) everywhere everyone
+anyone = record {
+  n = pos 2;
+  i = pos 0;
+  role = 0;
+  index = pos 0;
+  within = record { low = omega (arith, ints); high = tt };
+  rank = worker (pos 2) (pos 0) (omega (arith, ints)) (omega (arith, ints));
+  at = refl;
+  comes = refl;
+  is = refl;
+}
+
 shape : HasShape protocol program
-shape = record { protocol = refl; range = refl; roles = refl; labels = refl; kernels = refl; body = S.piece piece S.none }
+shape = record { protocol = refl; range = refl; roles = refl; labels = refl; kernels = refl; body = S.piece anyone piece S.none }
 
 -- ---- it is well made
 

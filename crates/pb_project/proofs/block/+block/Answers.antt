@@ -111,8 +111,8 @@ choice_of-returns t c =
       parts = parts_now c.in_ok-parts.parts.items;
       is = c.in_ok-list.ensures;
       found_are = record { is = c.in_ok-found.ensures };
-      tests_are = subst (λ f. AreTests k.range k.roles k.whole f tests) c.deref.ensures.value (record { is = c.in_ok-tests.ensures.is; each = c.in_ok-tests.ensures.each; ascend = c.in_ok-tests.ensures.ascend });
+      tests_are = subst (λ f. AreTests k.range k.roles k.whole f tests) c.deref.ensures.value (record { is = c.in_ok-tests.ensures.is; each = c.in_ok-tests.ensures.each; ascend = c.in_ok-tests.ensures.ascend; held = c.in_ok-tests.ensures.held });
       relays_are = subst (λ f. AreRelays k.range k.roles k.whole c.args.asked.at f tests relays) c.deref-2.ensures.value
-          (subst (λ ts. AreRelays k.range k.roles k.whole c.args.asked.at c.deref-2.result.now ts relays) c.deref-3.ensures.value (record { is = c.in_ok-relays.ensures.is; each = c.in_ok-relays.ensures.each; told = c.in_ok-relays.ensures.told }));
+          (subst (λ ts. AreRelays k.range k.roles k.whole c.args.asked.at c.deref-2.result.now ts relays) c.deref-3.ensures.value (record { is = c.in_ok-relays.ensures.is; each = c.in_ok-relays.ensures.each; told = c.in_ok-relays.ensures.told; called = c.in_ok-relays.ensures.called }));
       parts_are = c.in_ok-parts.ensures;
     }

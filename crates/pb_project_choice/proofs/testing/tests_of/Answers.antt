@@ -5,8 +5,8 @@ use Rattle.pb_part_firsts.specs.Fitting.{EntriesFit}
 use Rattle.pb_core_language.specs.Verdict.{IsIn}
 use Rattle.pb_local.specs.WellMade.{IsTest}
 use Rattle.pb_project_choice.specs.Found.{entries_at, AreKnown}
-use Rattle.pb_project_choice.specs.Tested.{AscendTo}
-use Rattle.pb_project_choice.proofs.Telling.{entries_here, holds_more, holds_all, holds_none, fit_in, told_is, labels_known, ascend_none}
+use Rattle.pb_project_choice.specs.Tested.{HasHolder, HaveHolders, TellSuch, AscendTo}
+use Rattle.pb_project_choice.proofs.Telling.{entries_here, holds_more, holds_all, holds_none, fit_in, told_is, labels_known, tell_such, ascend_none}
 use Rattle.pb_project_choice.proofs.testing.tests_of.Goals as goal
 
 pub loop-branch-init : goal.loop-branch-init
@@ -14,6 +14,7 @@ loop-branch-init c = record {
   number = λ few. refl;
   holds = λ sc cuts st r few h f j m n i role x within is. holds_none c.args.branches.now c.new-tests.result.items j m n i role x c.new-tests.ensures.items;
   each = λ p sc cuts st r few h f known same. subst (All (IsTest p (length c.args.branches.now))) (sym c.new-tests.ensures.items) (All-nil (IsTest p (length c.args.branches.now)));
+  held = λ such sc cuts st r few h f tell. subst (HaveHolders c.args.setting.now.range sc.roles such) (sym c.new-tests.ensures.items) (All-nil (λ t. HasHolder c.args.setting.now.range sc.roles such t.guards));
   ascend = λ few. ascend_none 0 0 c.new-tests.result.items c.new-tests.ensures.items;
 }
 
@@ -34,6 +35,9 @@ loop-branch-preserved c =
       each = λ p sc cuts st r few h f known same.
           c.in_ok-put_tests.ensures.is.each p (length found) sc cuts st r h (subst (EntriesFit c.args.setting.now.range cuts) (sym here) (f i)) (subst (λ es. AreKnown sc es (length p.labels)) (sym here) (known i)) same
           (subst (λ z. z < length found) (sym (number few)) c.loop-branch-test.true) (c.loop-branch.invariant.each p sc cuts st r few h f known same);
+      held = λ such sc cuts st r few h f tell.
+          c.in_ok-put_tests.ensures.is.held such sc cuts st r h (subst (EntriesFit c.args.setting.now.range cuts) (sym here) (f i)) (subst (TellSuch c.args.setting.now.range sc.roles such) (sym here) (tell i))
+          (c.loop-branch.invariant.held such sc cuts st r few h f tell);
       ascend = λ few. subst (λ z. AscendTo (z + 1) 0 c.put_tests.new.tests.items) (number few)
           (c.in_ok-put_tests.ensures.ascend (subst (λ z. AscendTo z 0 c.loop-branch.tests.items) (sym (number few)) (c.loop-branch.invariant.ascend few)));
     }
@@ -50,3 +54,8 @@ returns-clause-each c = λ p sc a bs rows st r few it sound labels same.
     let found = c.args.branches.now in
     c.loop-branch.invariant.each p sc it.cuts st r few it.are_cuts (fit_in c.args.setting.now.range sc a bs found st.range_is it)
     (λ k. subst (AreKnown sc (entries_at k found)) labels (labels_known sc a bs found rows it sound k)) same
+
+pub returns-clause-held : goal.returns-clause-held
+returns-clause-held c = λ sc a bs such st r few it told.
+    let found = c.args.branches.now in
+    c.loop-branch.invariant.held such sc it.cuts st r few it.are_cuts (fit_in c.args.setting.now.range sc a bs found st.range_is it) (tell_such sc a bs found c.args.setting.now.range such st.range_is it told)
