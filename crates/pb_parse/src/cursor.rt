@@ -14,7 +14,7 @@ use std::alloc::AllocFailed;
 
 /// Why a form can't be read.
 #[derive(Clone, Copy, Debug, PartialEq, Eq)]
-pub(crate) enum Stop {
+pub enum Stop {
     /// The next token doesn't go on, or there is none.
     Unexpected,
     NoMemory,
@@ -33,9 +33,9 @@ impl<T: Drop> From<AllocFailed<T>> for Stop {
 
 /// A number where it stands.
 #[derive(Clone, Copy)]
-pub(crate) struct Numeral {
-    pub(crate) value: u32,
-    pub(crate) place: Place,
+pub struct Numeral {
+    pub value: u32,
+    pub place: Place,
 }
 
 // Marks have the kinds 0 to 12, in their order, and keys the kinds from here on, in theirs.
@@ -74,14 +74,16 @@ fn kind_number(kind: &TokenKind) -> u8
     }
 }
 
-/// The tokens that are left. A method reads one form; where it can't, the cursor stays before the token that doesn't go on.
+/// The tokens that are left. A method reads one form. Where it can't, it answers `Unexpected`, and the cursor stays before
+/// the token that doesn't go on. Where memory runs out, the cursor may stand anywhere behind.
 #[derive(Drop)]
-pub(crate) struct Cursor<'a> {
-    pub(crate) rest: &'a [Token],
+pub struct Cursor<'a> {
+    pub rest: &'a [Token],
 }
 
 impl<'a> Cursor<'a> {
-    pub(crate) fn at_mark(&self, mark: Mark) -> bool
+    /// Whether the next token is this mark.
+    pub fn at_mark(&self, mark: Mark) -> bool
         ensures { result ≡ starts (mark_next mark) self.now.rest.now }
     {
         match self.rest.first() {
@@ -90,7 +92,8 @@ impl<'a> Cursor<'a> {
         }
     }
 
-    pub(crate) fn at_key(&self, key: Key) -> bool
+    /// Whether the next token is this keyword.
+    pub fn at_key(&self, key: Key) -> bool
         ensures { result ≡ starts (key_next key) self.now.rest.now }
     {
         match self.rest.first() {
@@ -99,7 +102,8 @@ impl<'a> Cursor<'a> {
         }
     }
 
-    pub(crate) fn at_word(&self) -> bool
+    /// Whether the next token is a name.
+    pub fn at_word(&self) -> bool
         ensures { result ≡ starts word_next self.now.rest.now }
     {
         match self.rest.first() {
@@ -108,7 +112,8 @@ impl<'a> Cursor<'a> {
         }
     }
 
-    pub(crate) fn at_number(&self) -> bool
+    /// Whether the next token is a number.
+    pub fn at_number(&self) -> bool
         ensures { result ≡ starts number_next self.now.rest.now }
     {
         match self.rest.first() {
@@ -117,7 +122,8 @@ impl<'a> Cursor<'a> {
         }
     }
 
-    pub(crate) fn at_item(&self) -> bool
+    /// Whether the next token begins an item of a `foreach`.
+    pub fn at_item(&self) -> bool
         ensures { result ≡ starts (among item_keys) self.now.rest.now }
     {
         match self.rest.first() {
@@ -126,7 +132,8 @@ impl<'a> Cursor<'a> {
         }
     }
 
-    pub(crate) fn at_statement(&self) -> bool
+    /// Whether the next token begins a statement.
+    pub fn at_statement(&self) -> bool
         ensures { result ≡ starts (among statement_keys) self.now.rest.now }
     {
         match self.rest.first() {
@@ -146,7 +153,8 @@ impl<'a> Cursor<'a> {
         }
     }
 
-    pub(crate) fn mark(&mut self, mark: Mark) -> Result<Place, Stop>
+    /// This mark, as its place.
+    pub fn mark(&mut self, mark: Mark) -> Result<Place, Stop>
         ensures { GivesTo (λ x. x) result self.new.rest.now (mark_at mark self.old.rest.now) }
     {
         match self.rest.split_first() {
@@ -158,7 +166,8 @@ impl<'a> Cursor<'a> {
         }
     }
 
-    pub(crate) fn key(&mut self, key: Key) -> Result<Place, Stop>
+    /// This keyword, as its place.
+    pub fn key(&mut self, key: Key) -> Result<Place, Stop>
         ensures { GivesTo (λ x. x) result self.new.rest.now (key_at key self.old.rest.now) }
     {
         match self.rest.split_first() {
@@ -170,7 +179,8 @@ impl<'a> Cursor<'a> {
         }
     }
 
-    pub(crate) fn name(&mut self) -> Result<Spot, Stop>
+    /// A name.
+    pub fn name(&mut self) -> Result<Spot, Stop>
         ensures { GivesTo (λ x. x) result self.new.rest.now (name_at self.old.rest.now) }
     {
         let Some((token, rest)) = self.rest.split_first() else {
@@ -188,7 +198,8 @@ impl<'a> Cursor<'a> {
         }
     }
 
-    pub(crate) fn number(&mut self) -> Result<Numeral, Stop>
+    /// A number up to 2,000,000,000.
+    pub fn number(&mut self) -> Result<Numeral, Stop>
         ensures read { GivesTo numeral result self.new.rest.now (number_at self.old.rest.now) }
         ensures small { IfOk result (λ n. n.value ≤ MOST_NUMBER) }
     {
@@ -207,7 +218,8 @@ impl<'a> Cursor<'a> {
         }
     }
 
-    pub(crate) fn nonzero(&mut self) -> Result<Numeral, Stop>
+    /// A number from 1 to 2,000,000,000.
+    pub fn nonzero(&mut self) -> Result<Numeral, Stop>
         ensures { GivesTo numeral result self.new.rest.now (one_at reads_count self.old.rest.now) }
     {
         let Some((token, rest)) = self.rest.split_first() else {
@@ -225,8 +237,8 @@ impl<'a> Cursor<'a> {
         }
     }
 
-    // Where it stands in the text of these bytes.
-    pub(crate) fn place(&self, bytes: &[u8]) -> Place
+    /// The place of the next token, or behind the last of these bytes where there is none.
+    pub fn place(&self, bytes: &[u8]) -> Place
         ensures { result ≡ place_at (place_after first_place bytes.now) self.now.rest.now }
     {
         match self.rest.first() {

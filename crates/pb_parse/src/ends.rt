@@ -10,8 +10,9 @@ use pb_text::{Key, Mark};
 use std::alloc::Global;
 
 impl<'a> Cursor<'a> {
+    /// The index of an end that may not bind, or none.
     #[tactic(auto, unfolding(pb_syntax::specs::Readers::plain_index_at))]
-    pub(crate) fn plain_index(&mut self) -> Result<IndexText, Stop>
+    pub fn plain_index(&mut self) -> Result<IndexText, Stop>
         ensures { GivesTo (λ x. x) result self.new.rest.now (plain_index_at self.old.rest.now) }
     {
         if self.at_mark(Mark::LeftBracket) {
@@ -23,8 +24,9 @@ impl<'a> Cursor<'a> {
         Ok(IndexText::Zero)
     }
 
+    /// An end that may not bind.
     #[tactic(auto, unfolding(pb_syntax::specs::Readers::plain_end_at))]
-    pub(crate) fn plain_end(&mut self) -> Result<End, Stop>
+    pub fn plain_end(&mut self) -> Result<End, Stop>
         ensures { GivesTo (λ x. x) result self.new.rest.now (plain_end_at self.old.rest.now) }
     {
         let role = self.name()?;
@@ -32,8 +34,9 @@ impl<'a> Cursor<'a> {
         Ok(End { role, index })
     }
 
+    /// What stands behind the first name in the brackets of an end.
     #[tactic(auto, unfolding(pb_syntax::specs::Readers::after_name_at))]
-    pub(crate) fn after_name(&mut self, first: Spot) -> Result<IndexText, Stop>
+    pub fn after_name(&mut self, first: Spot) -> Result<IndexText, Stop>
         ensures { GivesTo (λ x. x) result self.new.rest.now (after_name_at first self.old.rest.now) }
     {
         if self.at_mark(Mark::Colon) {
@@ -50,8 +53,9 @@ impl<'a> Cursor<'a> {
         }))
     }
 
+    /// What stands in the brackets of an end that may bind.
     #[tactic(auto, unfolding(pb_syntax::specs::Readers::bracketed_at))]
-    pub(crate) fn bracketed(&mut self) -> Result<IndexText, Stop>
+    pub fn bracketed(&mut self) -> Result<IndexText, Stop>
         ensures { GivesTo (λ x. x) result self.new.rest.now (bracketed_at self.old.rest.now) }
     {
         if self.at_number() {
@@ -66,8 +70,9 @@ impl<'a> Cursor<'a> {
         self.after_name(first)
     }
 
+    /// The index of an end that may bind, or none.
     #[tactic(auto, unfolding(pb_syntax::specs::Readers::any_index_at))]
-    pub(crate) fn any_index(&mut self) -> Result<IndexText, Stop>
+    pub fn any_index(&mut self) -> Result<IndexText, Stop>
         ensures { GivesTo (λ x. x) result self.new.rest.now (any_index_at self.old.rest.now) }
     {
         if self.at_mark(Mark::LeftBracket) {
@@ -79,8 +84,9 @@ impl<'a> Cursor<'a> {
         Ok(IndexText::Zero)
     }
 
+    /// An end that may bind.
     #[tactic(auto, unfolding(pb_syntax::specs::Readers::any_end_at))]
-    pub(crate) fn any_end(&mut self) -> Result<End, Stop>
+    pub fn any_end(&mut self) -> Result<End, Stop>
         ensures { GivesTo (λ x. x) result self.new.rest.now (any_end_at self.old.rest.now) }
     {
         let role = self.name()?;
@@ -88,8 +94,9 @@ impl<'a> Cursor<'a> {
         Ok(End { role, index })
     }
 
+    /// The second end of a message, which may bind where the first one doesn't.
     #[tactic(auto, unfolding(pb_syntax::specs::Readers::end_beside_at))]
-    pub(crate) fn end_beside(&mut self, first: &IndexText) -> Result<End, Stop>
+    pub fn end_beside(&mut self, first: &IndexText) -> Result<End, Stop>
         ensures { GivesTo (λ x. x) result self.new.rest.now (end_beside_at first.now self.old.rest.now) }
     {
         match first {

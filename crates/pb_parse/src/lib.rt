@@ -2,7 +2,7 @@
 //!
 //! `specs/Parsed` says which answer is right, and `specs/Limits` which token passes which limit. One pass over the tokens
 //! finds the first that passes a limit. Then the tokens up to it are read once, from left to right, one method for each
-//! form, so a recursion never goes below 65 open braces.
+//! form, so a recursion never goes below 65 open braces. The forms in which no block stands can be read by `Cursor` alone.
 #![tactic(auto)]
 
 ghost use Rattle.pb_parse.specs.Parsed.{ReadsBack};
@@ -17,7 +17,9 @@ mod parts;
 mod simple;
 mod verdict;
 
+pub use cursor::{Cursor, Numeral, Stop};
 pub use fault::ParseFault;
+pub use parts::Top;
 pub use pb_lex::LexError;
 pub use verdict::parse;
 

@@ -12,14 +12,15 @@ use std::alloc::Global;
 
 /// The upper end of the constant where it stands.
 #[derive(Clone, Copy)]
-pub(crate) struct Top {
-    pub(crate) high: High,
-    pub(crate) place: Place,
+pub struct Top {
+    pub high: High,
+    pub place: Place,
 }
 
 impl<'a> Cursor<'a> {
+    /// `+` or `-` and a number, or nothing, which is 0.
     #[tactic(auto, unfolding(pb_syntax::specs::Readers::offset_at))]
-    pub(crate) fn offset(&mut self) -> Result<i32, Stop>
+    pub fn offset(&mut self) -> Result<i32, Stop>
         ensures { GivesTo (λ x. x) result self.new.rest.now (offset_at self.old.rest.now) }
     {
         if self.at_mark(Mark::Plus) {
@@ -35,8 +36,9 @@ impl<'a> Cursor<'a> {
         Ok(0)
     }
 
+    /// A number, or a name with an offset.
     #[tactic(auto, unfolding(pb_syntax::specs::Readers::lin_at))]
-    pub(crate) fn lin(&mut self) -> Result<LinText, Stop>
+    pub fn lin(&mut self) -> Result<LinText, Stop>
         ensures { GivesTo (λ x. x) result self.new.rest.now (lin_at self.old.rest.now) }
     {
         if self.at_number() {
@@ -57,8 +59,9 @@ impl<'a> Cursor<'a> {
         })
     }
 
+    /// Two of these with `..` between.
     #[tactic(auto, unfolding(pb_syntax::specs::Readers::range_at))]
-    pub(crate) fn range(&mut self) -> Result<RangeText, Stop>
+    pub fn range(&mut self) -> Result<RangeText, Stop>
         ensures { GivesTo (λ x. x) result self.new.rest.now (range_at self.old.rest.now) }
     {
         let low = self.lin()?;
@@ -67,8 +70,9 @@ impl<'a> Cursor<'a> {
         Ok(RangeText { low, high })
     }
 
+    /// The upper end of the constant: a number or `max`.
     #[tactic(auto, unfolding(pb_syntax::specs::Readers::top_at))]
-    pub(crate) fn top(&mut self) -> Result<Top, Stop>
+    pub fn top(&mut self) -> Result<Top, Stop>
         ensures { GivesTo top_of result self.new.rest.now (top_at self.old.rest.now) }
     {
         if self.at_number() {
@@ -85,8 +89,9 @@ impl<'a> Cursor<'a> {
         })
     }
 
+    /// The range of a role in brackets, or nothing.
     #[tactic(auto, unfolding(pb_syntax::specs::Readers::role_range_at))]
-    pub(crate) fn role_range(&mut self) -> Result<Option<RangeText>, Stop>
+    pub fn role_range(&mut self) -> Result<Option<RangeText>, Stop>
         ensures { GivesTo (λ x. x) result self.new.rest.now (role_range_at self.old.rest.now) }
     {
         if self.at_mark(Mark::LeftBracket) {
@@ -98,8 +103,9 @@ impl<'a> Cursor<'a> {
         Ok(None)
     }
 
+    /// The declaration of a role.
     #[tactic(auto, unfolding(pb_syntax::specs::Readers::role_at))]
-    pub(crate) fn role(&mut self) -> Result<RoleText, Stop>
+    pub fn role(&mut self) -> Result<RoleText, Stop>
         ensures { GivesTo (λ x. x) result self.new.rest.now (role_at self.old.rest.now) }
     {
         self.key(Key::Role)?;
@@ -108,16 +114,17 @@ impl<'a> Cursor<'a> {
         Ok(RoleText { role, range })
     }
 
+    /// A comma and the declaration of a role.
     #[tactic(auto, unfolding(pb_syntax::specs::Readers::comma_role_at))]
-    pub(crate) fn comma_role(&mut self) -> Result<RoleText, Stop>
+    pub fn comma_role(&mut self) -> Result<RoleText, Stop>
         ensures { GivesTo (λ x. x) result self.new.rest.now (comma_role_at self.old.rest.now) }
     {
         self.mark(Mark::Comma)?;
         self.role()
     }
 
-    // The roles behind a first one.
-    pub(crate) fn comma_roles(&mut self, mut list: Vec<RoleText>) -> Result<Vec<RoleText>, Stop>
+    /// The roles behind a first one, put behind those of the list.
+    pub fn comma_roles(&mut self, mut list: Vec<RoleText>) -> Result<Vec<RoleText>, Stop>
         ensures { GivesTo (λ v. v.items) result self.new.rest.now (with_front list.items (many_at (mark_next Mark.Comma) comma_role_at self.old.rest.now)) }
     {
         for _ in 0..self.rest.len() {
@@ -133,8 +140,9 @@ impl<'a> Cursor<'a> {
         Ok(list)
     }
 
+    /// One role or more, with commas between.
     #[tactic(auto, unfolding(pb_syntax::specs::Readers::roles_at))]
-    pub(crate) fn roles(&mut self, alloc: Global) -> Result<Vec<RoleText>, Stop>
+    pub fn roles(&mut self, alloc: Global) -> Result<Vec<RoleText>, Stop>
         ensures { GivesTo (λ v. v.items) result self.new.rest.now (roles_at self.old.rest.now) }
     {
         let role = self.role()?;
@@ -146,8 +154,9 @@ impl<'a> Cursor<'a> {
         self.comma_roles(list)
     }
 
+    /// The number of elements in brackets, which isn't 0, or nothing, which is 1.
     #[tactic(auto, unfolding(pb_syntax::specs::Readers::count_at))]
-    pub(crate) fn count(&mut self) -> Result<u32, Stop>
+    pub fn count(&mut self) -> Result<u32, Stop>
         ensures { GivesTo (λ x. x) result self.new.rest.now (count_at self.old.rest.now) }
     {
         if self.at_mark(Mark::LeftBracket) {
@@ -159,8 +168,9 @@ impl<'a> Cursor<'a> {
         Ok(1)
     }
 
+    /// What a payload holds, without its parentheses.
     #[tactic(auto, unfolding(pb_syntax::specs::Readers::carried_at, pb_syntax::specs::Readers::type_at))]
-    pub(crate) fn carried(&mut self) -> Result<Payload, Stop>
+    pub fn carried(&mut self) -> Result<Payload, Stop>
         ensures { GivesTo (λ x. x) result self.new.rest.now (carried_at self.old.rest.now) }
     {
         if self.at_key(Key::Int32) {
@@ -176,8 +186,9 @@ impl<'a> Cursor<'a> {
         Ok(Payload::Unit)
     }
 
+    /// A payload in its parentheses.
     #[tactic(auto, unfolding(pb_syntax::specs::Readers::payload_at))]
-    pub(crate) fn payload(&mut self) -> Result<Payload, Stop>
+    pub fn payload(&mut self) -> Result<Payload, Stop>
         ensures { GivesTo (λ x. x) result self.new.rest.now (payload_at self.old.rest.now) }
     {
         self.mark(Mark::LeftParen)?;
@@ -186,8 +197,9 @@ impl<'a> Cursor<'a> {
         Ok(payload)
     }
 
+    /// The operation of a reduction.
     #[tactic(auto, unfolding(pb_syntax::specs::Readers::op_at))]
-    pub(crate) fn op(&mut self) -> Result<Op, Stop>
+    pub fn op(&mut self) -> Result<Op, Stop>
         ensures { GivesTo (λ x. x) result self.new.rest.now (op_at self.old.rest.now) }
     {
         if self.at_key(Key::Min) {

@@ -13,8 +13,9 @@ use pb_text::{Key, Mark};
 use std::alloc::Global;
 
 impl<'a> Cursor<'a> {
+    /// A message up to its `;`. At most one of its ends binds.
     #[tactic(auto, unfolding(pb_syntax::specs::Readers::message_text_at))]
-    pub(crate) fn message(&mut self) -> Result<Statement, Stop>
+    pub fn message(&mut self) -> Result<Statement, Stop>
         ensures { GivesTo plain_statement result self.new.rest.now (message_text_at self.old.rest.now) }
     {
         let label = self.name()?;
@@ -31,8 +32,9 @@ impl<'a> Cursor<'a> {
         })
     }
 
+    /// A message of a `foreach` up to its `;`. No end binds.
     #[tactic(auto, unfolding(pb_syntax::specs::Readers::item_message_at))]
-    pub(crate) fn item_message(&mut self) -> Result<Statement, Stop>
+    pub fn item_message(&mut self) -> Result<Statement, Stop>
         ensures { GivesTo plain_statement result self.new.rest.now (item_message_at self.old.rest.now) }
     {
         let label = self.name()?;
@@ -49,8 +51,9 @@ impl<'a> Cursor<'a> {
         })
     }
 
+    /// `compute` up to its `;`.
     #[tactic(auto, unfolding(pb_syntax::specs::Readers::compute_text_at))]
-    pub(crate) fn compute(&mut self) -> Result<Statement, Stop>
+    pub fn compute(&mut self) -> Result<Statement, Stop>
         ensures { GivesTo plain_statement result self.new.rest.now (compute_text_at self.old.rest.now) }
     {
         let place = self.key(Key::Compute)?;
@@ -60,8 +63,9 @@ impl<'a> Cursor<'a> {
         Ok(Statement::Compute { place, kernel, at })
     }
 
+    /// `continue` up to its `;`.
     #[tactic(auto, unfolding(pb_syntax::specs::Readers::continue_text_at))]
-    pub(crate) fn continuation(&mut self) -> Result<Statement, Stop>
+    pub fn continuation(&mut self) -> Result<Statement, Stop>
         ensures { GivesTo plain_statement result self.new.rest.now (continue_text_at self.old.rest.now) }
     {
         let place = self.key(Key::Continue)?;
@@ -69,8 +73,9 @@ impl<'a> Cursor<'a> {
         Ok(Statement::Continue { place, name })
     }
 
+    /// A collective up to its `;`.
     #[tactic(auto, unfolding(pb_syntax::specs::Readers::collective_at))]
-    pub(crate) fn collective(&mut self) -> Result<Statement, Stop>
+    pub fn collective(&mut self) -> Result<Statement, Stop>
         ensures { GivesTo plain_statement result self.new.rest.now (collective_at self.old.rest.now) }
     {
         if self.at_key(Key::Barrier) {
@@ -119,8 +124,9 @@ impl<'a> Cursor<'a> {
         })
     }
 
+    /// An item of a `foreach`, its `;` too.
     #[tactic(auto, unfolding(pb_syntax::specs::Readers::item_at, pb_syntax::specs::Readers::and_semicolon_at))]
-    pub(crate) fn item(&mut self) -> Result<Statement, Stop>
+    pub fn item(&mut self) -> Result<Statement, Stop>
         ensures { GivesTo plain_statement result self.new.rest.now (item_at self.old.rest.now) }
     {
         if self.at_word() {
@@ -133,7 +139,8 @@ impl<'a> Cursor<'a> {
         Ok(compute)
     }
 
-    pub(crate) fn items(&mut self, alloc: Global) -> Result<Vec<Statement>, Stop>
+    /// Items as long as the next token begins one.
+    pub fn items(&mut self, alloc: Global) -> Result<Vec<Statement>, Stop>
         ensures { GivesTo (λ v. map plain_statement v.items) result self.new.rest.now (many_at (among item_keys) item_at self.old.rest.now) }
     {
         let mut list = Vec::new(alloc);
@@ -147,8 +154,9 @@ impl<'a> Cursor<'a> {
         Ok(list)
     }
 
+    /// Items in braces.
     #[tactic(auto, unfolding(pb_syntax::specs::Readers::braces_at))]
-    pub(crate) fn item_braces(&mut self, alloc: Global) -> Result<Block, Stop>
+    pub fn item_braces(&mut self, alloc: Global) -> Result<Block, Stop>
         ensures { GivesTo plain_block result self.new.rest.now (braces_at (among item_keys) item_at self.old.rest.now) }
     {
         let place = self.mark(Mark::LeftBrace)?;
@@ -157,8 +165,9 @@ impl<'a> Cursor<'a> {
         Ok(Block { place, list })
     }
 
+    /// A whole `foreach`.
     #[tactic(auto, unfolding(pb_syntax::specs::Readers::foreach_text_at))]
-    pub(crate) fn foreach(&mut self, alloc: Global) -> Result<Statement, Stop>
+    pub fn foreach(&mut self, alloc: Global) -> Result<Statement, Stop>
         ensures { GivesTo plain_statement result self.new.rest.now (foreach_text_at self.old.rest.now) }
     {
         let place = self.key(Key::Foreach)?;
