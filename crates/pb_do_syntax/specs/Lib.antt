@@ -1,0 +1,4 @@
+pub mod Calls
+pub mod Inlining
+pub mod Names
+pub mod Plain
