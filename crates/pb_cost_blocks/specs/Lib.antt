@@ -1,0 +1,6 @@
+pub mod Asked
+pub mod Fit
+pub mod Few
+pub mod Answers
+pub mod Sums
+pub mod Values
