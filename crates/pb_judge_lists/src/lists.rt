@@ -1,4 +1,4 @@
-ghost use Rattle.std.specs.Prelude.{◌≡◌, ◌∷◌, [], length, IfOk, MatchOption};
+ghost use Rattle.std.specs.Prelude.{◌≡◌, ◌≤◌, ◌∷◌, [], length, IfOk, MatchOption};
 ghost use Rattle.pb_judge_follow.specs.Follow.{all_of, passed_by, IsLeastLeft, IsUsedUp};
 ghost use Rattle.pb_judge_ruling.specs.Laws.{HasRanks};
 ghost use Rattle.pb_judge_lists.specs.Places.{left_of, Begins};
@@ -65,7 +65,8 @@ impl<'a> Lists<'a> {
 
     /// The rank passes its first entry, or owes one where none is left.
     pub fn pass(&mut self, rank: u32)
-        ensures { left_of self.new ≡ passed_by rank (left_of self.old) }
+        ensures left { left_of self.new ≡ passed_by rank (left_of self.old) }
+        ensures log { self.new.log ≡ self.old.log }
     {
         let none = self.log.len();
         let at = place_at(&self.next, rank as usize, none);
@@ -79,7 +80,8 @@ impl<'a> Lists<'a> {
 
     /// How many entries were passed.
     pub fn used(&self) -> usize
-        ensures { result ≡ (left_of self.now).used }
+        ensures used { result ≡ (left_of self.now).used }
+        ensures within { result ≤ length self.now.log }
     {
         self.used
     }

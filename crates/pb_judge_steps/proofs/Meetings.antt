@@ -1,5 +1,5 @@
 -- What is done is met, one action after the other.
-use Rattle.std.proofs.Common.{◌≡◌, ◌≢◌, ℕ, zero, suc, ◌==◌, cond, true, false, List, [], ◌∷◌, ◌++◌, length, replicate, Option, Some, None, Result, Ok, Err, refl, sym, ap, ap₂, subst, ◌∙◌, arith, filter_map, Bor, MatchOption, append_assoc}
+use Rattle.std.proofs.Common.{◌≡◌, ◌≢◌, ℕ, suc, ◌==◌, List, [], ◌∷◌, ◌++◌, length, replicate, Option, Some, None, refl, sym, ap, subst, ◌∙◌, arith, filter_map, Bor, MatchOption, append_assoc}
 use Rattle.std.specs.Prelude.{nat_lt}
 use Rattle.std.specs.List.{cons_option}
 use Rattle.pb_text.specs.declared.action.Action.{Action}
@@ -7,12 +7,12 @@ use Rattle.pb_text.specs.declared.action.Action.TheVariants as E
 use Rattle.pb_world.specs.Log.{rank_of, branch_recorded, words_recorded}
 use Rattle.pb_world.specs.Sequencer.{first_or}
 use Rattle.pb_judge_ruling.specs.Ruling.{actions_of}
-use Rattle.pb_judge_follow.specs.Follow.{Left, Fits, AllFit, passed, passed_by, all_passed, Misfits}
+use Rattle.pb_judge_follow.specs.Follow.{Left, Fits, AllFit, passed_by, all_passed, Misfits}
 use Rattle.pb_judge_follow.proofs.Passing.{fits_append, passed_append}
 use Rattle.pb_judge_lists.specs.Places.{Begins}
 use Rattle.pb_judge_steps.specs.declared.meeting.Difference.{Difference}
 use Rattle.pb_judge_steps.specs.Made.{sized_or, made_by, chosen_or}
-use Rattle.pb_judge_steps.specs.Met.{Told, Met, Chosen, words_sent, branch_taken}
+use Rattle.pb_judge_steps.specs.Met.{Told, Met, words_sent, branch_taken}
 
 -- ---- one rank's first entry
 
@@ -96,7 +96,7 @@ first_of a left r line m = go m.before m.is m.fits m.first
 -- Where a rank's first entry shows an answer by `shows`, what it does by that answer is known. Where it shows none, what it
 -- does doesn't fit, with whatever answer
 module _ {X : Type 0} (shows : Action → Option X) (make : X → Action) (shown : (x : X) → shows (make x) ≡ Some x) where
-  other_answer : (left : Left) (rank : ℕ) (entry : ℕ × Action) (x y : X) (d : Option Difference) (mid : Left) → rank_of (make x) ≡ rank → rank_of (make y) ≡ rank → Begins (left.entries rank) entry → shows entry.1 ≡ None →
+  pub other_answer : (left : Left) (rank : ℕ) (entry : ℕ × Action) (x y : X) (d : Option Difference) (mid : Left) → rank_of (make x) ≡ rank → rank_of (make y) ≡ rank → Begins (left.entries rank) entry → shows entry.1 ≡ None →
       Met (make x ∷ []) left d mid → Met (make y ∷ []) left d mid × (d ≡ None → ⊥)
   other_answer left rank entry x y None mid e f b none m =
       absurd (apart (sym none ∙ ap shows (subst (λ es. Fits es (make x)) b.1 (subst (λ r. Fits (left.entries r) (make x)) e m.0.0)) ∙ shown x))
@@ -123,12 +123,12 @@ module _ {X : Type 0} (shows : Action → Option X) (make : X → Action) (shown
 -- ---- sending
 
 -- a rank's first words
-made_is : (left : Left) (from size : ℕ) (o : Option (List ℕ)) (entry : ℕ × Action) (ws : List ℕ) → Begins (left.entries from) entry → words_recorded entry.1 ≡ o → o ≡ Some ws → sized_or (words_recorded entry.1) size ≡ words_sent left from size
+pub made_is : (left : Left) (from size : ℕ) (o : Option (List ℕ)) (entry : ℕ × Action) (ws : List ℕ) → Begins (left.entries from) entry → words_recorded entry.1 ≡ o → o ≡ Some ws → sized_or (words_recorded entry.1) size ≡ words_sent left from size
 made_is left from size o entry ws b is some =
     ap (λ p. sized_or p size) (is ∙ some)
     ∙ sym (ap (λ es. first_or (filter_map words_recorded (actions_of es)) (λ words. length words == size) (replicate size 0)) b.1 ∙ ap (λ p. first_or (cons_option p (filter_map words_recorded (actions_of b.0))) (λ words. length words == size) (replicate size 0)) (is ∙ some))
 
-made_none : (left : Left) (from size : ℕ) → left.entries from ≡ [] → replicate size 0 ≡ words_sent left from size
+pub made_none : (left : Left) (from size : ℕ) → left.entries from ≡ [] → replicate size 0 ≡ words_sent left from size
 made_none left from size e = sym (ap (λ es. first_or (filter_map words_recorded (actions_of es)) (λ words. length words == size) (replicate size 0)) e)
 
 pub sent : (left mid : Left) (from to label size : ℕ) (first : Option (Bor (ℕ × Action))) (ws : List ℕ) (r : Option Difference) → MatchOption first (left.entries from ≡ []) (λ entry. Begins (left.entries from) entry.now) → MatchOption first (ws ≡ replicate size 0) (λ entry. ws ≡ made_by entry.now.1 size) →

@@ -11,7 +11,7 @@ use pb_text::{Action, Joint};
 pub enum Deed<'a> {
     Choose {
         kernel: u32,
-        branch: u32,
+        branch: usize,
     },
     Run {
         kernel: u32,
@@ -47,7 +47,7 @@ fn same_joint(one: Joint, other: Joint) -> bool
     }
 }
 
-fn is_chosen(action: &Action, at: u32, kernel: u32, branch: u32) -> bool
+fn is_chosen(action: &Action, at: u32, kernel: u32, branch: usize) -> bool
     ensures { result ≡ is_chosen action.now at kernel branch }
 {
     match action {
@@ -55,7 +55,7 @@ fn is_chosen(action: &Action, at: u32, kernel: u32, branch: u32) -> bool
             rank,
             kernel: named,
             answer,
-        } => *rank == at && *named == kernel && *answer == branch,
+        } => *rank == at && *named == kernel && *answer as usize == branch,
         Action::Run { .. }
         | Action::Send { .. }
         | Action::Recv { .. }

@@ -112,7 +112,7 @@ fn sized<'a>(words: &'a [u32], size: u32) -> Made<'a>
 }
 
 /// The branch of a first entry where it is below the number of branches, else the other one.
-pub fn first_branch(first: Option<&(u32, Action)>, count: u32, otherwise: u32) -> u32
+pub fn first_branch(first: Option<&(u32, Action)>, count: usize, otherwise: usize) -> usize
     ensures { MatchOption first.entry (result ≡ otherwise) (λ entry. result ≡ chosen_or (branch_recorded entry.now.1) count otherwise) }
 {
     match first {
@@ -121,11 +121,14 @@ pub fn first_branch(first: Option<&(u32, Action)>, count: u32, otherwise: u32) -
     }
 }
 
-fn chosen_by(action: &Action, count: u32, otherwise: u32) -> u32
+fn chosen_by(action: &Action, count: usize, otherwise: usize) -> usize
     ensures { result ≡ chosen_or (branch_recorded action.now) count otherwise }
 {
     match branch_of(action) {
         None => otherwise,
-        Some(branch) => { if branch < count { branch } else { otherwise } }
+        Some(branch) => {
+            let branch = branch as usize;
+            if branch < count { branch } else { otherwise }
+        }
     }
 }

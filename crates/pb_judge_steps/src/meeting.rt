@@ -40,7 +40,8 @@ fn told(first: Option<&(u32, Action)>, rank: u32, deed: &Deed) -> Option<u32>
 
 /// The rank does this. None exactly where its first entry says so, or where it has none left.
 pub fn meet(lists: &mut Lists, rank: u32, deed: &Deed) -> Option<Difference>
-    ensures { Met (entry_of rank deed.now ∷ []) (left_of lists.old) result (left_of lists.new) }
+    ensures met { Met (entry_of rank deed.now ∷ []) (left_of lists.old) result (left_of lists.new) }
+    ensures log { lists.new.log ≡ lists.old.log }
 {
     match told(lists.first(rank), rank, deed) {
         Some(line) => Some(Difference { rank, line }),

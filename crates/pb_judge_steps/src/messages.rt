@@ -1,4 +1,4 @@
-ghost use Rattle.std.specs.Prelude.{◌∷◌, []};
+ghost use Rattle.std.specs.Prelude.{◌≡◌, ◌∷◌, []};
 ghost use Rattle.pb_text.specs.declared.action.Action.TheVariants as E;
 ghost use Rattle.pb_judge_lists.specs.Places.{left_of};
 ghost use Rattle.pb_judge_steps.specs.Met.{Met, Chosen, words_sent, branch_taken};
@@ -10,7 +10,8 @@ use pb_judge_lists::Lists;
 
 /// A message with so many words: its send, and then its receive with the same words.
 pub fn message(lists: &mut Lists, from: u32, to: u32, label: u32, size: u32) -> Option<Difference>
-    ensures { Met (E.Send from to label (words_sent (left_of lists.old) from size) ∷ E.Recv to from label (words_sent (left_of lists.old) from size) ∷ []) (left_of lists.old) result (left_of lists.new) }
+    ensures met { Met (E.Send from to label (words_sent (left_of lists.old) from size) ∷ E.Recv to from label (words_sent (left_of lists.old) from size) ∷ []) (left_of lists.old) result (left_of lists.new) }
+    ensures log { lists.new.log ≡ lists.old.log }
 {
     let words = first_words(lists.first(from), size);
     let send = Deed::Send { to, label, words };
@@ -22,7 +23,8 @@ pub fn message(lists: &mut Lists, from: u32, to: u32, label: u32, size: u32) -> 
 
 /// A rank computes.
 pub fn compute(lists: &mut Lists, at: u32, kernel: u32) -> Option<Difference>
-    ensures { Met (E.Run at kernel ∷ []) (left_of lists.old) result (left_of lists.new) }
+    ensures met { Met (E.Run at kernel ∷ []) (left_of lists.old) result (left_of lists.new) }
+    ensures log { lists.new.log ≡ lists.old.log }
 {
     meet(lists, at, &Deed::Run { kernel })
 }
@@ -32,10 +34,11 @@ pub fn choose(
     lists: &mut Lists,
     at: u32,
     kernel: u32,
-    count: u32,
-    otherwise: u32,
-) -> Result<u32, Difference>
-    ensures { Chosen at kernel (branch_taken (left_of lists.old) at count otherwise) (left_of lists.old) result (left_of lists.new) }
+    count: usize,
+    otherwise: usize,
+) -> Result<usize, Difference>
+    ensures chosen { Chosen at kernel (branch_taken (left_of lists.old) at count otherwise) (left_of lists.old) result (left_of lists.new) }
+    ensures log { lists.new.log ≡ lists.old.log }
 {
     let branch = first_branch(lists.first(at), count, otherwise);
     match meet(lists, at, &Deed::Choose { kernel, branch }) {

@@ -1,0 +1,2 @@
+pub mod ReadRanks
+pub mod Whole
