@@ -1,3 +1,4 @@
+mod Faults
 pub mod Losses
 pub mod Texts
 pub mod Places

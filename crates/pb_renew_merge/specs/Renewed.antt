@@ -1,18 +1,20 @@
 -- What the bodies of an old text become in the text of another tree.
-use Rattle.std.specs.Prelude.{◌≡◌, ℕ, List, ◌++◌, map, Ok, if◌then◌else◌}
+use Rattle.std.specs.Prelude.{◌≡◌, ◌⊎◌, ℕ, List, ◌++◌, map, Some, Ok, Err, if◌then◌else◌}
 use Rattle.pb_local.specs.Tree.{program_of}
 use Rattle.pb_ctree.specs.Functions.{default_of, functions_of}
 use Rattle.pb_ctree.specs.Texts.{Spells}
 use Rattle.pb_ctree.specs.declared.body.Bodies.{Bodies}
 use Rattle.pb_ctree.specs.declared.kernel.KName.{KName}
 use Rattle.pb_ctree.specs.declared.tree.CTree.{CTree}
+use Rattle.pb_kernels.specs.declared.fault.KernelFault.{KernelFault}
+use Rattle.pb_kernels.specs.declared.fault.KernelFault.TheVariants.{Missing, Twice}
 use Rattle.pb_kernels.specs.declared.file.NamedBody.{NamedBody}
 use Rattle.pb_kernels.specs.Files.{kernel_file}
 use Rattle.pb_kernels.specs.Marks.{prelude_name}
 use Rattle.pb_kernels.specs.Names.{body_of, is_among}
 use Rattle.pb_renew_merge.specs.declared.renewed.Renewed.{Renewed}
-use Rattle.pb_renew_merge.specs.Left.{left_text}
-use Rattle.pb_renew_merge.specs.Lost.{lost_names}
+use Rattle.pb_renew_merge.specs.Left.{first_twice, left_text}
+use Rattle.pb_renew_merge.specs.Lost.{first_lost, lost_names}
 use Rattle.pb_renew_merge.specs.Texts.{IsRenewed}
 
 -- The old text is a kernel file with the old bodies; the new text has those that still have a function; what it keeps of them
@@ -28,3 +30,27 @@ pub record IsLeft (renewed : Renewed) (before left : List ℕ) : Type 0 where
   pub list : List NamedBody
   pub read : kernel_file before ≡ Ok list
   pub bytes : left ≡ left_text before list renewed.old renewed.gone.items
+
+-- ---- why there is none
+
+-- the old text is no kernel file, or the text that was made of it can't be read again
+abbrev pub IsTextFault : List ℕ → CTree → KernelFault → Type 0
+IsTextFault out tree fault =
+    (kernel_file out ≡ Err fault) ⊎ ((old : List NamedBody) × (text : List ℕ) × IsRenewed old tree text × (kernel_file text ≡ Err fault))
+
+-- a list has another body with the name of one that is gone
+abbrev pub HasAnother : List NamedBody → List NamedBody → List KName → KernelFault → Type 0
+HasAnother list old gone fault = (name : KName) × (first_twice list old gone ≡ Some name) × (fault ≡ Twice name)
+
+-- bytes that were made are no kernel file, or lack a body that is gone
+abbrev pub IsUnfound : Renewed → List ℕ → KernelFault → Type 0
+IsUnfound renewed left fault =
+    (kernel_file left ≡ Err fault)
+    ⊎ ((list : List NamedBody) × (name : KName) × (kernel_file left ≡ Ok list) × (first_lost renewed.old renewed.kept list ≡ Some name) × (fault ≡ Missing name))
+
+-- the bytes are no kernel file, or have another body of a name, or no body can be put behind them
+abbrev pub IsLeftFault : Renewed → List ℕ → KernelFault → Type 0
+IsLeftFault renewed before fault =
+    (kernel_file before ≡ Err fault)
+    ⊎ ((list : List NamedBody) × (kernel_file before ≡ Ok list) × HasAnother list renewed.old renewed.gone.items fault)
+    ⊎ ((left : List ℕ) × IsLeft renewed before left × IsUnfound renewed left fault)

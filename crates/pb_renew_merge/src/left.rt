@@ -1,11 +1,12 @@
 //! A kernel file with more bodies behind its own.
 
-ghost use Rattle.std.specs.Prelude.{◌≡◌, ◌++◌, ℕ, List, IfOk, OnOk};
+ghost use Rattle.std.specs.Prelude.{◌≡◌, ◌⊎◌, ◌++◌, ℕ, List, IfErr, IfOk, OnOk};
 ghost use Rattle.std.specs.List.{flat_map};
 ghost use Rattle.pb_ctree.specs.declared.tree.CTree.{CTree};
+ghost use Rattle.pb_kernels.specs.declared.fault.KernelFault.TheVariants as faults;
 ghost use Rattle.pb_renew_merge.specs.Left.{first_twice, left_text, line_end, text_for};
 ghost use Rattle.pb_renew_merge.specs.Lost.{NothingLost};
-ghost use Rattle.pb_renew_merge.specs.Renewed.{IsLeft, IsRenewal};
+ghost use Rattle.pb_renew_merge.specs.Renewed.{HasAnother, IsLeft, IsLeftFault, IsRenewal};
 
 use crate::lost::{first_lost, keeps};
 use crate::marker::push_body;
@@ -17,15 +18,26 @@ use std::alloc::Global;
 ///
 /// A body that the file has already, with its name and byte for byte, isn't put there again. `BadMarker` and `Twice` say
 /// why the bytes are no kernel file; `Twice` also names the first body of which the file has another with its name.
-/// `NoMemory` may come in place of each. What was made is read again, and `Missing` names a body that isn't found there.
-#[tactic(auto, using(crate::proofs::Losses::is_left, crate::proofs::Losses::nothing_lost))]
+/// What was made is read again: `Missing` names a body that isn't found there, and a line at fault would be one there. `NoMemory`
+/// may come in place of each.
+#[tactic(auto, using(crate::proofs::Losses::is_left, crate::proofs::Losses::nothing_lost, crate::proofs::Faults::no_left, crate::proofs::Faults::another, crate::proofs::Faults::not_made, crate::proofs::Faults::not_found))]
 pub fn left_for(alloc: Global, renewed: &Renewed, before: &[u8]) -> Result<Vec<u8>, KernelFault>
     ensures bytes { IfOk result (λ left. IsLeft renewed.now before.now left.items) }
     ensures kept { IfOk result (λ left. (out : List ℕ) → (tree : CTree) → IsRenewal out tree renewed.now → NothingLost out renewed.now.text.items left.items) }
+    ensures fault { IfErr result (λ fault. (fault ≡ faults.NoMemory) ⊎ IsLeftFault renewed.now before.now fault) }
 {
-    let left = read_kernels(alloc, before)?;
-    let bytes = with_bodies(alloc, before, &left, &renewed.old, &renewed.gone)?;
-    let again = read_kernels(alloc, &bytes)?;
+    let left = match read_kernels(alloc, before) {
+        Ok(left) => left,
+        Err(fault) => return Err(fault),
+    };
+    let bytes = match with_bodies(alloc, before, &left, &renewed.old, &renewed.gone) {
+        Ok(bytes) => bytes,
+        Err(fault) => return Err(fault),
+    };
+    let again = match read_kernels(alloc, &bytes) {
+        Ok(again) => again,
+        Err(fault) => return Err(fault),
+    };
     match first_lost(&renewed.old, &renewed.kept, &again) {
         Some(name) => Err(KernelFault::Missing(name)),
         None => Ok(bytes),
@@ -40,7 +52,8 @@ fn with_bodies(
     old: &KernelFile,
     names: &[KName],
 ) -> Result<Vec<u8>, KernelFault>
-    ensures { IfOk result (λ bytes. bytes.items ≡ left_text before.now left.now old.now names.now) }
+    ensures bytes { IfOk result (λ bytes. bytes.items ≡ left_text before.now left.now old.now names.now) }
+    ensures fault { IfErr result (λ fault. (fault ≡ faults.NoMemory) ⊎ HasAnother left.now old.now names.now fault) }
 {
     if let Some(name) = first_twice(left, old, names) {
         return Err(KernelFault::Twice(name));

@@ -1,8 +1,9 @@
 //! An old text and the text that renews it.
 
-ghost use Rattle.std.specs.Prelude.{IfOk};
+ghost use Rattle.std.specs.Prelude.{◌≡◌, ◌⊎◌, IfErr, IfOk};
 ghost use Rattle.pb_ctree.specs.Trees.{IsTree};
-ghost use Rattle.pb_renew_merge.specs.Renewed.{IsRenewal};
+ghost use Rattle.pb_kernels.specs.declared.fault.KernelFault.TheVariants as faults;
+ghost use Rattle.pb_renew_merge.specs.Renewed.{IsRenewal, IsTextFault};
 
 use crate::lost::lost_names;
 use crate::made::text_of;
@@ -24,15 +25,23 @@ pub struct Renewed {
 
 /// The text of a tree that has each body of an old text that still has a function, and default bodies for new functions.
 ///
-/// `BadMarker` and `Twice` say why the old text is no kernel file. An empty old text has no body. `NoMemory` may come in
-/// place of each.
+/// `BadMarker` and `Twice` say why the old text is no kernel file, or why the new one can't be read again. An empty old text has
+/// no body. `NoMemory` may come in place of each.
+#[tactic(auto, using(crate::proofs::Faults::no_file, crate::proofs::Faults::no_text))]
 pub fn renew_text(alloc: Global, tree: &CTree, out: &[u8]) -> Result<Renewed, KernelFault>
     requires { IsTree tree.now }
-    ensures { IfOk result (IsRenewal out.now tree.now) }
+    ensures renewal { IfOk result (IsRenewal out.now tree.now) }
+    ensures fault { IfErr result (λ fault. (fault ≡ faults.NoMemory) ⊎ IsTextFault out.now tree.now fault) }
 {
-    let old = read_kernels(alloc, out)?;
+    let old = match read_kernels(alloc, out) {
+        Ok(old) => old,
+        Err(fault) => return Err(fault),
+    };
     let text = text_of(alloc, tree, &old)?;
-    let kept = read_kernels(alloc, &text)?;
+    let kept = match read_kernels(alloc, &text) {
+        Ok(kept) => kept,
+        Err(fault) => return Err(fault),
+    };
     let gone = lost_names(alloc, &old, &kept)?;
     Ok(Renewed {
         old,

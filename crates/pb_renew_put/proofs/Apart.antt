@@ -1,6 +1,6 @@
 -- The files beside OUT have four names.
 use Rattle.std.proofs.Common.{◌≡◌, ◌≢◌, ℕ, ◌+◌, ◌<◌, List, ◌++◌, length, codes, sym, ap, ◌∙◌, length-append, arith}
-use Rattle.pb_renew_put.specs.Names.{AreNames, left_name, new_name, spare_name}
+use Rattle.pb_renew_put.specs.Names.{AreNames}
 
 longer : (out a b : List ℕ) → length a < length b → out ++ a ≢ out ++ b
 longer out a b lt e =

@@ -1,5 +1,5 @@
 -- Changes one after the other, where the store tells its files.
-use Rattle.std.proofs.Common.{◌≡◌, List, Option, None, Some, Result, Ok, Err, OnOk, OnErr, refl}
+use Rattle.std.proofs.Common.{List, Option, None, Some, Result, Ok, Err, OnOk, OnErr}
 use Rattle.pb_io.specs.Files.{File}
 use Rattle.pb_renew_store.specs.Changes.{Turns}
 

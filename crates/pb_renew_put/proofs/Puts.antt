@@ -1,7 +1,7 @@
 -- What the steps of writing OUT and OUT.left leave, put together.
-use Rattle.std.proofs.Common.{◌≡◌, ◌≢◌, ℕ, List, Option, None, Some, refl, sym, ◌∙◌}
-use Rattle.pb_io.specs.Files.{File, file_of}
-use Rattle.pb_renew_store.specs.Changes.{HasBytes, KeepsFile, KeepsOthers, Renames, Turns}
+use Rattle.std.proofs.Common.{ℕ, List, Option, None, Some, sym, ◌∙◌}
+use Rattle.pb_io.specs.Files.{File}
+use Rattle.pb_renew_store.specs.Changes.{HasBytes, KeepsOthers, Renames, Turns}
 use Rattle.pb_renew_put.specs.Names.{AreNames}
 use Rattle.pb_renew_put.specs.Puts.{Fails, HasOne, HasTwo, IsClosed, KeepsTwo, Prepares, PutsBodies, Undoes}
 use Rattle.pb_renew_put.specs.declared.fault.PutFault.{PutFault}

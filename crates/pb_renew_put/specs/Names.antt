@@ -1,5 +1,6 @@
 -- The files beside OUT.
-use Rattle.std.specs.Prelude.{◌≡◌, ℕ, List, ◌++◌, codes}
+use Rattle.std.specs.Prelude.{◌≡◌, ℕ, Bool, ◌||◌, List, ◌++◌, codes, nat_eq}
+use Rattle.std.specs.Cmp.Lexicographic.{pointwise}
 
 -- the bodies that have no function
 abbrev pub left_name : List ℕ → List ℕ
@@ -17,3 +18,7 @@ pub record AreNames (out behind fresh extra : List ℕ) : Type 0 where
   pub left : behind ≡ left_name out
   pub new : fresh ≡ new_name out
   pub spare : extra ≡ spare_name out
+
+-- the name of a file that is written
+abbrev pub is_written : List ℕ → List ℕ → Bool
+is_written out name = pointwise nat_eq name out || pointwise nat_eq name (left_name out) || pointwise nat_eq name (new_name out) || pointwise nat_eq name (spare_name out)

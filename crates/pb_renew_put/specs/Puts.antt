@@ -1,5 +1,6 @@
 -- What stands in two files, OUT and OUT.left, when one of them or both were put.
-use Rattle.std.specs.Prelude.{◌≡◌, ℕ, List, Option, Some}
+use Rattle.std.specs.Prelude.{◌≡◌, ◌≢◌, ℕ, ◌≤◌, List, Option, Some}
+use Rattle.pb_io.specs.Faults.{Rose, next_count}
 use Rattle.pb_io.specs.Files.{File, file_of}
 use Rattle.pb_renew_put.specs.declared.fault.PutFault.{PutFault}
 use Rattle.pb_renew_put.specs.declared.fault.PutFault.TheVariants.{NoMemory, WriteFault, Halfway}
@@ -53,3 +54,13 @@ IsBehind Halfway left bodies old new = file_of new left ≡ Some bodies
 pub record Fails (why : PutFault) (out left : List ℕ) (before : Option (List ℕ)) (bodies : List ℕ) (old new : List File) : Type 0 where
   pub one : KeepsFile out old new
   pub other : file_of old left ≡ before → IsBehind why left bodies old new
+
+-- why they weren't put, in the store's count of faults: one call failed, and halfway a second one did
+abbrev pub HasFailed : PutFault → ℕ → ℕ → Type 0
+HasFailed NoMemory before now = before ≤ now
+HasFailed WriteFault before now = Rose before now
+HasFailed Halfway before now = Rose (next_count before) now
+
+-- each file with none of these four names is as it was
+abbrev pub KeepsRest : List ℕ → List ℕ → List ℕ → List ℕ → List File → List File → Type 0
+KeepsRest out left fresh spare old new = (other : List ℕ) → other ≢ out → other ≢ left → other ≢ fresh → other ≢ spare → KeepsFile other old new

@@ -10,6 +10,6 @@ mod put;
 mod steps;
 
 pub use fault::PutFault;
-pub use names::left_name;
+pub use names::{is_written, left_name};
 pub use pb_text::NoMemory;
 pub use put::{put_both, put_text};

@@ -2,7 +2,7 @@
 
 ghost use Rattle.std.specs.Prelude.{◌≡◌, ◌++◌, IfOk};
 ghost use Rattle.std.specs.String.{string_bytes};
-ghost use Rattle.pb_renew_put.specs.Names.{left_name, new_name, spare_name};
+ghost use Rattle.pb_renew_put.specs.Names.{is_written, left_name, new_name, spare_name};
 
 use crate::NoMemory;
 use std::alloc::Global;
@@ -34,4 +34,14 @@ fn joined(alloc: Global, name: &str, ending: &str) -> Result<String, NoMemory>
     let mut joined = String::from_str(alloc, name)?;
     joined.push_str(ending)?;
     Ok(joined)
+}
+
+/// True where this is the name of a file that is written: OUT, OUT.left, or one of the two beside them.
+pub fn is_written(alloc: Global, out: &str, name: &str) -> Result<bool, NoMemory>
+    ensures { IfOk result (λ is. is ≡ is_written out.now name.now) }
+{
+    let left = left_name(alloc, out)?;
+    let fresh = new_name(alloc, out)?;
+    let spare = spare_name(alloc, out)?;
+    Ok(name == out || name == left.as_str() || name == fresh.as_str() || name == spare.as_str())
 }

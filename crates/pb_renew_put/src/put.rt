@@ -1,9 +1,9 @@
 //! Putting OUT, and OUT.left with it.
 
-ghost use Rattle.std.specs.Prelude.{◌≡◌, IfErr, OnErr, OnOk};
+ghost use Rattle.std.specs.Prelude.{◌≡◌, ◌≤◌, IfErr, IsErrOf, OnErr, OnOk};
 ghost use Rattle.std.specs.Option.{option_map};
-ghost use Rattle.pb_renew_put.specs.Names.{left_name};
-ghost use Rattle.pb_renew_put.specs.Puts.{Fails, HasOne, HasTwo, KeepsTwo};
+ghost use Rattle.pb_renew_put.specs.Names.{left_name, new_name, spare_name};
+ghost use Rattle.pb_renew_put.specs.Puts.{Fails, HasFailed, HasOne, HasTwo, KeepsRest, KeepsTwo};
 ghost use Rattle.pb_renew_store.specs.Changes.{Turns};
 
 use crate::fault::PutFault;
@@ -23,6 +23,10 @@ pub fn put_text<S: Store>(
 ) -> Result<(), PutFault>
     ensures done { OnOk result (Turns (S.holds store.old) (S.holds store.new) (HasOne out.now (left_name out.now) text.now)) }
     ensures kept { OnErr result (Turns (S.holds store.old) (S.holds store.new) (KeepsTwo out.now (left_name out.now))) }
+    ensures fault { IfErr result (λ why. HasFailed why (S.faults store.old) (S.faults store.new)) }
+    ensures whole { IsErrOf result PutFault.Halfway → ⊥ }
+    ensures rest { Turns (S.holds store.old) (S.holds store.new) (KeepsRest out.now (left_name out.now) (new_name out.now) (spare_name out.now)) }
+    ensures later { S.faults store.old ≤ S.faults store.new }
 {
     let left = left_name(alloc, out)?;
     let fresh = new_name(alloc, out)?;
@@ -45,6 +49,9 @@ pub fn put_both<S: Store>(
 ) -> Result<(), PutFault>
     ensures done { OnOk result (Turns (S.holds store.old) (S.holds store.new) (HasTwo out.now (left_name out.now) text.now bodies.now)) }
     ensures kept { IfErr result (λ why. Turns (S.holds store.old) (S.holds store.new) (Fails why out.now (left_name out.now) (option_map (λ bytes. bytes.items) before.now) bodies.now)) }
+    ensures fault { IfErr result (λ why. HasFailed why (S.faults store.old) (S.faults store.new)) }
+    ensures rest { Turns (S.holds store.old) (S.holds store.new) (KeepsRest out.now (left_name out.now) (new_name out.now) (spare_name out.now)) }
+    ensures later { S.faults store.old ≤ S.faults store.new }
 {
     let left = left_name(alloc, out)?;
     let fresh = new_name(alloc, out)?;

@@ -1,10 +1,11 @@
 //! The steps of writing OUT and OUT.left, each whole beside the old one and then renamed. OUT, OUT.left and the two files beside
 //! them are given by their names.
 
-ghost use Rattle.std.specs.Prelude.{◌≡◌, IfErr, OnErr, OnOk};
+ghost use Rattle.std.specs.Prelude.{◌≡◌, ◌≤◌, IfErr, OnErr, OnOk};
 ghost use Rattle.std.specs.Option.{option_map};
+ghost use Rattle.pb_io.specs.Faults.{Rose};
 ghost use Rattle.pb_renew_put.specs.Names.{AreNames};
-ghost use Rattle.pb_renew_put.specs.Puts.{Fails, HasOne, HasTwo, IsClosed, KeepsTwo, Prepares, PutsBodies, Undoes};
+ghost use Rattle.pb_renew_put.specs.Puts.{Fails, HasFailed, HasOne, HasTwo, IsClosed, KeepsRest, KeepsTwo, Prepares, PutsBodies, Undoes};
 ghost use Rattle.pb_renew_store.specs.Changes.{Renames, Turns};
 
 use crate::fault::PutFault;
@@ -22,12 +23,16 @@ pub fn put_text<S: Store>(
     requires { AreNames out.now left.now fresh.now spare.now }
     ensures done { OnOk result (Turns (S.holds store.old) (S.holds store.new) (HasOne out.now left.now text.now)) }
     ensures kept { OnErr result (Turns (S.holds store.old) (S.holds store.new) (KeepsTwo out.now left.now)) }
+    ensures fault { OnErr result (Rose (S.faults store.old) (S.faults store.new)) }
+    ensures rest { Turns (S.holds store.old) (S.holds store.new) (KeepsRest out.now left.now fresh.now spare.now) }
+    ensures later { S.faults store.old ≤ S.faults store.new }
 {
     write_new(store, fresh, text)?;
     store.rename(fresh, out)
 }
 
 /// Writes OUT.left and OUT. `before` is what OUT.left has so far.
+#[tactic(auto, using(crate::proofs::Rest::rest_then))]
 pub fn put_both<S: Store>(
     store: &mut S,
     out: &str,
@@ -41,6 +46,9 @@ pub fn put_both<S: Store>(
     requires { AreNames out.now left.now fresh.now spare.now }
     ensures done { OnOk result (Turns (S.holds store.old) (S.holds store.new) (HasTwo out.now left.now text.now bodies.now)) }
     ensures kept { IfErr result (λ why. Turns (S.holds store.old) (S.holds store.new) (Fails why out.now left.now (option_map (λ bytes. bytes.items) before.now) bodies.now)) }
+    ensures fault { IfErr result (λ why. HasFailed why (S.faults store.old) (S.faults store.new)) }
+    ensures rest { Turns (S.holds store.old) (S.holds store.new) (KeepsRest out.now left.now fresh.now spare.now) }
+    ensures later { S.faults store.old ≤ S.faults store.new }
 {
     match prepare(store, out, left, fresh, spare, text, bodies) {
         Ok(()) => close(store, out, left, fresh, spare, before),
@@ -61,6 +69,9 @@ fn prepare<S: Store>(
     requires { AreNames out.now left.now fresh.now spare.now }
     ensures done { OnOk result (Turns (S.holds store.old) (S.holds store.new) (Prepares out.now left.now fresh.now text.now bodies.now)) }
     ensures kept { OnErr result (Turns (S.holds store.old) (S.holds store.new) (KeepsTwo out.now left.now)) }
+    ensures fault { OnErr result (Rose (S.faults store.old) (S.faults store.new)) }
+    ensures rest { Turns (S.holds store.old) (S.holds store.new) (KeepsRest out.now left.now fresh.now spare.now) }
+    ensures later { S.faults store.old ≤ S.faults store.new }
 {
     write_new(store, fresh, text)?;
     put_bodies(store, out, left, fresh, spare, bodies)
@@ -78,12 +89,16 @@ fn put_bodies<S: Store>(
     requires { AreNames out.now left.now fresh.now spare.now }
     ensures done { OnOk result (Turns (S.holds store.old) (S.holds store.new) (PutsBodies out.now left.now fresh.now bodies.now)) }
     ensures kept { OnErr result (Turns (S.holds store.old) (S.holds store.new) (KeepsTwo out.now left.now)) }
+    ensures fault { OnErr result (Rose (S.faults store.old) (S.faults store.new)) }
+    ensures rest { Turns (S.holds store.old) (S.holds store.new) (KeepsRest out.now left.now fresh.now spare.now) }
+    ensures later { S.faults store.old ≤ S.faults store.new }
 {
     write_new(store, spare, bodies)?;
     store.rename(spare, left)
 }
 
 /// Gives the new OUT its name, or puts OUT.left back.
+#[tactic(auto, using(crate::proofs::Rest::named, crate::proofs::Rest::same_then))]
 fn close<S: Store>(
     store: &mut S,
     out: &str,
@@ -95,6 +110,9 @@ fn close<S: Store>(
     requires { AreNames out.now left.now fresh.now spare.now }
     ensures done { OnOk result (Turns (S.holds store.old) (S.holds store.new) (Renames fresh.now out.now)) }
     ensures kept { IfErr result (λ why. Turns (S.holds store.old) (S.holds store.new) (IsClosed why out.now left.now (option_map (λ bytes. bytes.items) before.now))) }
+    ensures fault { IfErr result (λ why. HasFailed why (S.faults store.old) (S.faults store.new)) }
+    ensures rest { Turns (S.holds store.old) (S.holds store.new) (KeepsRest out.now left.now fresh.now spare.now) }
+    ensures later { S.faults store.old ≤ S.faults store.new }
 {
     match finish(store, out, left, fresh) {
         Ok(()) => Ok(()),
@@ -109,12 +127,15 @@ fn close<S: Store>(
 fn finish<S: Store>(store: &mut S, out: &str, left: &str, fresh: &str) -> Result<(), Failed>
     ensures done { OnOk result (Turns (S.holds store.old) (S.holds store.new) (Renames fresh.now out.now)) }
     ensures kept { OnErr result (S.holds store.new ≡ S.holds store.old) }
+    ensures fault { OnErr result (Rose (S.faults store.old) (S.faults store.new)) }
+    ensures later { S.faults store.old ≤ S.faults store.new }
 {
     store.sync(left)?;
     store.rename(fresh, out)
 }
 
 /// Puts OUT.left back as it was.
+#[tactic(auto, using(crate::proofs::Rest::away))]
 fn undo<S: Store>(
     store: &mut S,
     out: &str,
@@ -126,6 +147,9 @@ fn undo<S: Store>(
     requires { AreNames out.now left.now fresh.now spare.now }
     ensures done { OnOk result (Turns (S.holds store.old) (S.holds store.new) (Undoes out.now left.now (option_map (λ bytes. bytes.items) before.now))) }
     ensures kept { OnErr result (Turns (S.holds store.old) (S.holds store.new) (KeepsTwo out.now left.now)) }
+    ensures fault { OnErr result (Rose (S.faults store.old) (S.faults store.new)) }
+    ensures rest { Turns (S.holds store.old) (S.holds store.new) (KeepsRest out.now left.now fresh.now spare.now) }
+    ensures later { S.faults store.old ≤ S.faults store.new }
 {
     match before {
         Some(bytes) => put_bodies(store, out, left, fresh, spare, bytes),

@@ -80,6 +80,8 @@ impl<'a, R: Files> Folder for HostStore<'a, R> {
 
     ghost reads = { λ _. 0 };
 
+    ghost passed = { λ store. ⟦<HostFolder<'a, R> as Folder>⟧.passed store.folder };
+
     fn open_file(&mut self, name: &str) -> Result<(), Failed> {
         match self.folder.open_file(name) {
             Ok(()) => Ok(()),

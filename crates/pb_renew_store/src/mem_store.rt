@@ -2,6 +2,7 @@ ghost use Rattle.std.specs.Prelude.{◌≡◌, ◌≤◌, ◌++◌, length, take
 ghost use Rattle.std.specs.Option.{option_map};
 ghost use Rattle.pb_io.specs.Entries.{entries};
 ghost use Rattle.pb_io.specs.Files.{file_of};
+ghost use Rattle.pb_io.specs.Passed.{count_after};
 
 use crate::calls::{Calls, count_up};
 use crate::mem_files::{bytes_of, grown, put_first, rename};
@@ -15,6 +16,7 @@ pub struct MemStore {
     files: Vec<MemFile>,
     reading: Vec<u8>,
     position: usize,
+    passed: u64,
     most: usize,
     calls: Calls,
     faults: u64,
@@ -38,6 +40,7 @@ impl MemStore {
             files,
             reading: Vec::new(alloc),
             position: 0,
+            passed: 0,
             most,
             calls: Calls::new(fails),
             faults: 0,
@@ -67,6 +70,7 @@ impl MemStore {
     fn take(&mut self, buf: &mut [u8]) -> usize
         ensures files { store_files self.new ≡ store_files self.old }
         ensures faults { self.new.faults ≡ self.old.faults }
+        ensures passed { self.new.passed ≡ count_after self.old.passed result }
         ensures count { result ≡ min (length buf.old) (length (store_left self.old)) }
         ensures bytes { store_left self.old ≡ take result buf.new ++ store_left self.new }
     {
@@ -74,6 +78,7 @@ impl MemStore {
         let count = rest.len().min(buf.len());
         buf[..count].copy_from_slice(&rest[..count]);
         self.position += count;
+        self.passed = self.passed.saturating_add(count as u64);
         count
     }
 }
@@ -90,6 +95,8 @@ impl Folder for MemStore {
     ghost faults = { λ store. store.faults };
 
     ghost reads = { λ _. 0 };
+
+    ghost passed = { λ store. store.passed };
 
     fn open_file(&mut self, name: &str) -> Result<(), Failed> {
         if self.calls.next_fails() {

@@ -1,6 +1,6 @@
-use Rattle.std.proofs.Common.{◌≡◌}
 use Rattle.pb_renew_put.proofs.Chains.{err_then, ok_then, on_err}
 use Rattle.pb_renew_put.proofs.Puts.{fresh_kept, prepared, two_kept}
+use Rattle.pb_renew_put.proofs.Rest.{fresh_rest, rest_then}
 use Rattle.pb_renew_put.proofs.steps.prepare.Goals as goal
 
 pub returns-in_err-write_new-clause-kept : goal.returns-in_err-write_new-clause-kept
@@ -13,3 +13,9 @@ returns-clause-done g c =
 pub returns-clause-kept : goal.returns-clause-kept
 returns-clause-kept g c =
     err_then c.put_bodies.result (two_kept _ _ _ _ c.requires _ _ _ (fresh_kept _ _ _ _ c.requires _ _ c.write_new.ensures.others)) c.put_bodies.ensures.kept
+
+pub returns-in_err-write_new-clause-rest : goal.returns-in_err-write_new-clause-rest
+returns-in_err-write_new-clause-rest g c = fresh_rest _ _ _ _ _ _ c.write_new.ensures.others
+
+pub returns-clause-rest : goal.returns-clause-rest
+returns-clause-rest g c = rest_then _ _ _ _ _ _ _ (fresh_rest _ _ _ _ _ _ c.write_new.ensures.others) c.put_bodies.ensures.rest

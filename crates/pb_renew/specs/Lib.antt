@@ -1,0 +1,3 @@
+pub mod Faults
+pub mod Reasons
+pub mod Renewing

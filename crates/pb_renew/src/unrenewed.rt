@@ -1,0 +1,76 @@
+ghost use Rattle.std.specs.Prelude.{◌≡◌};
+ghost use Rattle.pb_renew.specs.declared.unrenewed.Unrenewed.TheVariants as why;
+
+use crate::{KernelFault, NoMemory};
+use pb_renew_put::PutFault;
+use thiserror::Error;
+
+/// Why a text wasn't renewed. OUT and OUT.left are as they were, but for `Halfway`.
+#[derive(Clone, Copy, Debug, PartialEq, Eq, Error)]
+pub enum Unrenewed {
+    /// OUT or OUT.left can't be read.
+    #[error("ReadFault")]
+    ReadFault,
+    /// OUT or OUT.left has more than 67,108,864 bytes, or would have.
+    #[error("TooLong")]
+    TooLong,
+    /// Memory ran out.
+    #[error("NoMemory")]
+    NoMemory,
+    /// OUT is no kernel file, or has bytes and no body: then the prelude is `Missing`.
+    #[error("Out")]
+    Out(KernelFault),
+    /// OUT.left is no kernel file, or has another body with the name of one that is gone.
+    #[error("Left")]
+    Left(KernelFault),
+    /// A file can't be written.
+    #[error("WriteFault")]
+    WriteFault,
+    /// OUT can't be written, and OUT.left, which has the bodies that are gone behind what it had, can't be put back.
+    #[error("Halfway")]
+    Halfway,
+}
+
+impl From<NoMemory> for Unrenewed {
+    ghost from_gives = { λ _ fault. fault ≡ why.NoMemory };
+
+    fn from(_error: NoMemory) -> Unrenewed {
+        Unrenewed::NoMemory
+    }
+}
+
+impl Unrenewed {
+    ghost use Rattle.std.specs.Prelude.{◌≡◌};
+    ghost use Rattle.pb_renew.specs.Faults.{no_left, no_text, unput};
+
+    /// An OUT that can't be renewed.
+    pub(crate) fn no_text(fault: KernelFault) -> Unrenewed
+        ensures { result ≡ no_text fault }
+    {
+        match fault {
+            KernelFault::NoMemory => Unrenewed::NoMemory,
+            other => Unrenewed::Out(other),
+        }
+    }
+
+    /// An OUT.left behind which no body can be put.
+    pub(crate) fn no_left(fault: KernelFault) -> Unrenewed
+        ensures { result ≡ no_left fault }
+    {
+        match fault {
+            KernelFault::NoMemory => Unrenewed::NoMemory,
+            other => Unrenewed::Left(other),
+        }
+    }
+
+    /// Files that couldn't be put.
+    pub(crate) fn unput(fault: PutFault) -> Unrenewed
+        ensures { result ≡ unput fault }
+    {
+        match fault {
+            PutFault::NoMemory => Unrenewed::NoMemory,
+            PutFault::WriteFault => Unrenewed::WriteFault,
+            PutFault::Halfway => Unrenewed::Halfway,
+        }
+    }
+}
