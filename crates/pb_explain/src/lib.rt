@@ -9,11 +9,10 @@ mod again;
 mod entry;
 mod files;
 mod kernels;
+mod played;
 mod protocol;
 mod running;
 mod schedule;
-mod seats;
-mod stuck;
 #[cfg(test)]
 mod tests;
 mod text;

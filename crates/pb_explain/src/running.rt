@@ -1,12 +1,12 @@
 //! Which N a protocol or a text is for, and how many ranks it has.
 
-use crate::seats::seats_of;
-use pb_ctree::{CTree, Formula};
+use pb_ctree::CTree;
 use pb_explain_ranks::Setting;
 use pb_explain_runs::{
     Count, Values, tell_flight, tell_many_ranks, tell_outside, tell_outside_text,
 };
 use pb_explain_source::{NoMemory, Page, Source};
+use pb_explain_waits::{seats_of, value};
 use pb_syntax::FileTree;
 use std::alloc::Global;
 
@@ -68,11 +68,6 @@ pub fn tell_many(
         counts.as_slice(),
         slope,
     )
-}
-
-/// The value of a formula.
-pub fn value(formula: Formula, n: i64) -> i64 {
-    formula.a.saturating_mul(n).saturating_add(formula.b)
 }
 
 /// How many ranks each role of a text has at N.

@@ -1,16 +1,16 @@
 //! Answers to a C text with a schedule.
 
+ghost use Rattle.pb_ctree.specs.Trees.{IsTree};
+
 use crate::again::{Again, read_again, tell_once};
 use crate::files::tell_long;
-use crate::running::{tell_many_in, tell_values_in, value};
-use crate::seats::seats_of;
-use crate::stuck::tell_standstill;
+use crate::played::tell_by_schedule;
+use crate::running::{tell_many_in, tell_values_in};
 use crate::text::tell_no_text;
-use pb_cli_simulate::{Schedule, read_text, read_turns, replay};
+use pb_cli_simulate::{read_text, read_turns};
 use pb_cli_status::{Quantity, Refusal, Status};
 use pb_ctree::CTree;
-use pb_explain_again::{Heard, number_in};
-use pb_explain_runs::{tell_events, tell_no_step, tell_schedule_line};
+use pb_explain_runs::{tell_events, tell_schedule_line};
 use pb_explain_source::{NoMemory, Page, Source};
 use pb_explain_syntax::tell_limit;
 use pb_io::Folder;
@@ -42,75 +42,18 @@ fn tell_no_schedule(
     }
 }
 
-/// The rank of the event in a line.
-fn rank_at(schedule: &Schedule, line: u32) -> Option<u32> {
-    let at = (line as usize).checked_sub(3)?;
-    let turn = schedule.turns.get(at)?;
-    Some(turn.rank)
-}
-
-/// Writes why the event has no step that the status line names.
-fn tell_refused_event(
-    page: &mut Page,
-    source: &Source,
-    tree: &CTree,
-    schedule: &Schedule,
-    heard: &Heard,
-    n: i64,
-) -> Result<(), NoMemory> {
-    let Some(digits) = heard.told().strip_prefix(b"schedule line ") else {
-        return Ok(());
-    };
-    let line = number_in(digits);
-    match rank_at(schedule, line) {
-        Some(rank) => tell_no_step(page, source, line, rank, n, value(tree.size, n)),
-        None => Ok(()),
-    }
-}
-
-/// Explains what the events of a schedule came to, by playing them once more.
-fn tell_played<F: Folder, A: Fn(u64, u32, u64) -> u32 + Drop>(
-    alloc: Global,
-    page: &mut Page,
-    folder: &mut F,
-    asked: &Replay,
-    source: &Source,
-    tree: &CTree,
-    schedule: &Schedule,
-    answers: A,
-) -> Result<(), NoMemory>
-    requires { A.IsAlwaysCallable answers }
-{
-    let n = i64::from(asked.n);
-    let mut heard = Heard::new(alloc);
-    let status = replay(
-        alloc,
-        asked.text,
-        asked.schedule,
-        asked.n,
-        answers,
-        folder,
-        &mut heard,
-    );
-    if status == Status::Stuck {
-        let seats = seats_of(alloc, tree, n)?;
-        return tell_standstill(page, asked.text, &heard, seats.as_slice());
-    }
-    tell_refused_event(page, source, tree, schedule, &heard, n)
-}
-
 /// Explains the answer to a tree with the schedule of these bytes.
-fn tell_schedule<F: Folder, A: Fn(u64, u32, u64) -> u32 + Drop>(
+fn tell_schedule<A: Fn(u64, u32, u64) -> u32 + Drop>(
     alloc: Global,
     page: &mut Page,
-    folder: &mut F,
     asked: &Replay,
     bytes: &[u8],
-    tree: &CTree,
+    tree: CTree,
     status: Status,
     answers: A,
 ) -> Result<(), NoMemory>
-    requires { A.IsAlwaysCallable answers }
+    requires callable { A.IsAlwaysCallable answers }
+    requires tree { IsTree tree }
 {
     let source = Source {
         file: asked.schedule,
@@ -119,8 +62,15 @@ fn tell_schedule<F: Folder, A: Fn(u64, u32, u64) -> u32 + Drop>(
     match read_turns(alloc, bytes) {
         Ok(schedule) => match status {
             Status::Turns => tell_events(page, asked.schedule),
-            Status::Schedule | Status::Stuck => tell_played(
-                alloc, page, folder, asked, &source, tree, &schedule, answers,
+            Status::Schedule | Status::Stuck => tell_by_schedule(
+                alloc,
+                page,
+                asked.text,
+                &source,
+                i64::from(asked.n),
+                tree,
+                &schedule,
+                answers,
             ),
             _ => Ok(()),
         },
@@ -135,15 +85,16 @@ fn tell_tree<F: Folder, A: Fn(u64, u32, u64) -> u32 + Drop>(
     folder: &mut F,
     asked: &Replay,
     text: &Source,
-    tree: &CTree,
+    tree: CTree,
     status: Status,
     answers: A,
 ) -> Result<(), NoMemory>
-    requires { A.IsAlwaysCallable answers }
+    requires callable { A.IsAlwaysCallable answers }
+    requires tree { IsTree tree }
 {
     let n = i64::from(asked.n);
     if status == Status::OutOfRange {
-        return tell_values_in(alloc, page, text, tree, n);
+        return tell_values_in(alloc, page, text, &tree, n);
     }
     let bytes = match read_again(alloc, folder, asked.schedule, MOST_TEXT_BYTES)? {
         Again::Bytes(bytes) => bytes,
@@ -152,12 +103,13 @@ fn tell_tree<F: Folder, A: Fn(u64, u32, u64) -> u32 + Drop>(
         Again::Unread => return tell_once(page, asked.schedule),
     };
     if status == Status::Limit && read_turns(alloc, &bytes).is_ok() {
-        return tell_many_in(alloc, page, text, tree, n);
+        return tell_many_in(alloc, page, text, &tree, n);
     }
-    tell_schedule(alloc, page, folder, asked, &bytes, tree, status, answers)
+    tell_schedule(alloc, page, asked, &bytes, tree, status, answers)
 }
 
 /// Explains the answer to a C text with a schedule.
+#[tactic(auto, using(pb_cli_simulate::proofs::Taken::made))]
 pub fn tell_replay<F: Folder, A: Fn(u64, u32, u64) -> u32 + Drop>(
     alloc: Global,
     page: &mut Page,
@@ -179,7 +131,7 @@ pub fn tell_replay<F: Folder, A: Fn(u64, u32, u64) -> u32 + Drop>(
         bytes: &bytes,
     };
     match read_text(alloc, &bytes) {
-        Ok(tree) => tell_tree(alloc, page, folder, asked, &source, &tree, status, answers),
-        Err(refusal) => tell_no_text(page, &source, refusal, status),
+        Ok(tree) => tell_tree(alloc, page, folder, asked, &source, tree, status, answers),
+        Err(refusal) => tell_no_text(alloc, page, &source, refusal, status),
     }
 }

@@ -1,24 +1,26 @@
 //! Answers to a C text.
 
+ghost use Rattle.pb_ctree.specs.Trees.{IsTree};
+
 use crate::again::{Again, read_again, tell_once};
 use crate::files::tell_long;
+use crate::played::tell_by_seed;
 use crate::running::{tell_many_in, tell_values_in};
-use crate::seats::seats_of;
-use crate::stuck::tell_standstill;
-use pb_cli_simulate::{read_text, sim};
+use pb_cli_simulate::read_text;
 use pb_cli_status::{Refusal, Status};
-use pb_cli_words::{Options, Shown};
+use pb_cli_words::Options;
 use pb_ctree::CTree;
-use pb_explain_again::Heard;
-use pb_explain_runs::{tell_text_line, tell_turns};
+use pb_explain_runs::tell_turns;
 use pb_explain_source::{NoMemory, Page, Source};
 use pb_explain_syntax::tell_limit;
+use pb_explain_texts::tell_text_line;
 use pb_io::Folder;
-use pb_text::{MOST_EVENTS, MOST_TEXT_BYTES};
+use pb_text::MOST_TEXT_BYTES;
 use std::alloc::Global;
 
 /// Writes why bytes are no text, where the program ends with this status for it.
 pub fn tell_no_text(
+    alloc: Global,
     page: &mut Page,
     source: &Source,
     refusal: Refusal,
@@ -28,55 +30,30 @@ pub fn tell_no_text(
         return Ok(());
     }
     match refusal {
-        Refusal::Text(place) => tell_text_line(page, source, place),
+        Refusal::Text(place) => tell_text_line(alloc, page, source, place),
         Refusal::Limit(quantity, place) => tell_limit(page, source, quantity, Some(place)),
         _ => Ok(()),
     }
 }
 
-/// Plays a simulation by a seed once more, and explains why nobody can go on.
-fn tell_again<F: Folder, A: Fn(u64, u32, u64) -> u32 + Drop>(
-    alloc: Global,
-    page: &mut Page,
-    folder: &mut F,
-    file: &str,
-    tree: &CTree,
-    options: Options,
-    answers: A,
-) -> Result<(), NoMemory>
-    requires { A.IsAlwaysCallable answers }
-{
-    let mut heard = Heard::new(alloc);
-    let shown = Options {
-        n: options.n,
-        seed: options.seed,
-        turns: options.turns.min(MOST_EVENTS),
-        modes: options.modes,
-        shown: Shown::Log,
-    };
-    let _status = sim(alloc, file, shown, answers, folder, &mut heard);
-    let seats = seats_of(alloc, tree, i64::from(options.n))?;
-    tell_standstill(page, file, &heard, seats.as_slice())
-}
-
 /// Explains what a simulation of a tree came to.
-fn tell_simulation<F: Folder, A: Fn(u64, u32, u64) -> u32 + Drop>(
+fn tell_simulation<A: Fn(u64, u32, u64) -> u32 + Drop>(
     alloc: Global,
     page: &mut Page,
-    folder: &mut F,
     source: &Source,
-    tree: &CTree,
+    tree: CTree,
     status: Status,
     options: Options,
     answers: A,
 ) -> Result<(), NoMemory>
-    requires { A.IsAlwaysCallable answers }
+    requires callable { A.IsAlwaysCallable answers }
+    requires tree { IsTree tree }
 {
     match status {
-        Status::Limit => tell_many_in(alloc, page, source, tree, i64::from(options.n)),
-        Status::OutOfRange => tell_values_in(alloc, page, source, tree, i64::from(options.n)),
+        Status::Limit => tell_many_in(alloc, page, source, &tree, i64::from(options.n)),
+        Status::OutOfRange => tell_values_in(alloc, page, source, &tree, i64::from(options.n)),
         Status::Turns => tell_turns(page, source.file, u64::from(options.turns)),
-        Status::Stuck => tell_again(alloc, page, folder, source.file, tree, options, answers),
+        Status::Stuck => tell_by_seed(alloc, page, source.file, tree, options, answers),
         Status::Done
         | Status::Refused
         | Status::Usage
@@ -90,6 +67,7 @@ fn tell_simulation<F: Folder, A: Fn(u64, u32, u64) -> u32 + Drop>(
 }
 
 /// Explains the answer to a C text.
+#[tactic(auto, using(pb_cli_simulate::proofs::Taken::made))]
 pub fn tell_text<F: Folder, A: Fn(u64, u32, u64) -> u32 + Drop>(
     alloc: Global,
     page: &mut Page,
@@ -112,9 +90,7 @@ pub fn tell_text<F: Folder, A: Fn(u64, u32, u64) -> u32 + Drop>(
         bytes: &bytes,
     };
     match read_text(alloc, &bytes) {
-        Ok(tree) => tell_simulation(
-            alloc, page, folder, &source, &tree, status, options, answers,
-        ),
-        Err(refusal) => tell_no_text(page, &source, refusal, status),
+        Ok(tree) => tell_simulation(alloc, page, &source, tree, status, options, answers),
+        Err(refusal) => tell_no_text(alloc, page, &source, refusal, status),
     }
 }

@@ -10,12 +10,21 @@ const MOST_LINE: usize = 200;
 /// How many ranks a simulation has at most.
 const MOST_RANKS: usize = 1024;
 
-/// A sink that keeps the last line of each rank, and the status line.
+/// What is kept of a rank.
+#[derive(Drop)]
+struct Deeds {
+    /// What it did last.
+    last: Vec<u8>,
+    /// How many collectives it has entered.
+    entered: u32,
+}
+
+/// A sink that keeps the last line of each rank, how many collectives each has entered, and the status line.
 #[derive(Drop)]
 pub struct Heard {
     alloc: Global,
     line: Vec<u8>,
-    deeds: Vec<Vec<u8>>,
+    deeds: Vec<Deeds>,
     told: Vec<u8>,
 }
 
@@ -34,7 +43,7 @@ fn number_before(bytes: &[u8]) -> Option<(usize, &[u8])> {
 }
 
 /// The number that begins the bytes.
-pub fn number_in(bytes: &[u8]) -> u32 {
+fn number_in(bytes: &[u8]) -> u32 {
     let mut number = 0u32;
     for byte in bytes {
         if !byte.is_ascii_digit() {
@@ -61,8 +70,16 @@ impl Heard {
     /// What the rank did last; none where it did nothing.
     pub fn deed(&self, rank: usize) -> &[u8] {
         match self.deeds.get(rank) {
-            Some(deed) => deed.as_slice(),
+            Some(deeds) => deeds.last.as_slice(),
             None => &[],
+        }
+    }
+
+    /// How many collectives the rank has entered.
+    pub fn entered(&self, rank: usize) -> u32 {
+        match self.deeds.get(rank) {
+            Some(deeds) => deeds.entered,
+            None => 0,
         }
     }
 
@@ -74,7 +91,10 @@ impl Heard {
     /// Makes room for the deeds of a rank.
     fn reach(&mut self, rank: usize) -> Result<(), NoMemory> {
         for _ in self.deeds.len()..rank.saturating_add(1) {
-            self.deeds.push(Vec::new(self.alloc))?;
+            self.deeds.push(Deeds {
+                last: Vec::new(self.alloc),
+                entered: 0,
+            })?;
         }
         Ok(())
     }
@@ -96,9 +116,12 @@ impl Heard {
         let Some((_, words)) = number_before(self.line.as_slice()) else {
             return Ok(());
         };
-        if let Some(deed) = self.deeds.get_mut(rank) {
-            deed.clear();
-            deed.extend_from_slice(words)?;
+        if let Some(deeds) = self.deeds.get_mut(rank) {
+            deeds.last.clear();
+            deeds.last.extend_from_slice(words)?;
+            if words.starts_with(b"enter ") {
+                deeds.entered = deeds.entered.saturating_add(1);
+            }
         }
         Ok(())
     }

@@ -6,6 +6,6 @@ mod regular;
 #[cfg(test)]
 mod tests;
 
-pub use heard::{Heard, number_in};
+pub use heard::Heard;
 pub use pb_io::{Folder, Sink};
 pub use regular::RegularFolder;

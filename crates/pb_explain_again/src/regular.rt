@@ -40,6 +40,8 @@ impl<'a, R: Files> Folder for RegularFolder<'a, R> {
 
     ghost reads = { λ _. 0 };
 
+    ghost passed = { λ regular. ⟦<HostFolder<'a, R> as Folder>⟧.passed regular.folder };
+
     // No file has the empty name, so opening it fails.
     fn open_file(&mut self, name: &str) -> Result<(), Failed> {
         if is_regular(self.rt, name) {

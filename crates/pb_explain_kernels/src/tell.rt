@@ -107,12 +107,19 @@ fn tell_extra(
     marks: &Marks,
     functions: &[Function],
 ) -> Result<(), NoMemory> {
+    let mut is_any = false;
     for name in marks.names.as_slice() {
         if !is_wanted(functions, name) {
             say_extra(page, source.file, name)?;
+            is_any = true;
         }
     }
-    Ok(())
+    if !is_any {
+        return Ok(());
+    }
+    page.help(&[Part::Text(
+        "the functions are `make_L` and `take_L` of each label with numbers, `k_K` of each compute and `c_K` of each choice: rename the body, or leave it out",
+    )])
 }
 
 /// Writes why a kernel file doesn't fit the protocol with these labels and kernels. Nothing is written where it fits.

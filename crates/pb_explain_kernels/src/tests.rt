@@ -36,6 +36,7 @@ static int32_t c_K(int32_t N, int32_t role, int32_t index)
 /*@ end */
 }
 k.c: the protocol has no function `k_L`
+help: the functions are `make_L` and `take_L` of each label with numbers, `k_K` of each compute and `c_K` of each choice: rename the body, or leave it out
 ";
     assert!(rt; page.bytes() == wanted.as_slice());
     Ok(())

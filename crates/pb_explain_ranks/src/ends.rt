@@ -195,6 +195,64 @@ fn say_end(page: &mut Page, end: &End, moved: Option<&Moved>, index: i64) -> Res
     }
 }
 
+/// How far above the N's that are looked at the last one is.
+const FAR: i64 = 1_000_000;
+
+/// Whether the end's index is one of the role's at N.
+fn is_there(setting: &Setting, role: &RoleText, end: &End) -> bool {
+    match (setting.indices(role), setting.index(end, None)) {
+        (Some(span), Some(index)) => span.has(index),
+        _ => false,
+    }
+}
+
+/// The number N from which on the end's index, which is this one at an N without it, is one of the role's.
+fn first_with(setting: &Setting, role: &RoleText, end: &End, index: i64) -> Option<i64> {
+    let span = setting.indices(role)?;
+    let short = if index > span.high {
+        index.saturating_sub(span.high)
+    } else {
+        span.low.saturating_sub(index)
+    };
+    let n = setting.n.saturating_add(short);
+    let first = Setting {
+        file: setting.file,
+        n,
+    };
+    let last = Setting {
+        file: setting.file,
+        n: n.saturating_add(FAR),
+    };
+    if is_there(&first, role, end) && is_there(&last, role, end) {
+        Some(n)
+    } else {
+        None
+    }
+}
+
+/// Says from which N on there is an index.
+fn help_constant(page: &mut Page, constant: &Name, n: i64) -> Result<(), NoMemory> {
+    page.help(&[
+        Part::Text("let `"),
+        Part::Name(constant),
+        Part::Text("` begin at "),
+        Part::Number(n),
+        Part::Text(" or higher, or take another index of the role"),
+    ])
+}
+
+/// Says which index there is, where N doesn't help.
+fn help_role(page: &mut Page, role: &RoleText) -> Result<(), NoMemory> {
+    match &role.range {
+        None => page.help(&[
+            Part::Text("write `"),
+            Part::Name(&role.role.name),
+            Part::Text("` alone: it is one rank"),
+        ]),
+        Some(_) => page.help(&[Part::Text("take an index that the role has at each N")]),
+    }
+}
+
 /// Writes why the end at the place breaks rule 7, where its index is this.
 pub fn tell_end(
     alloc: Global,
@@ -234,10 +292,9 @@ pub fn tell_end(
             }
             help_variable(page, role, span, moved, index)
         }
-        None => page.help(&[
-            Part::Text("take an index of the role, or let `"),
-            Part::Name(&setting.file.constant.name),
-            Part::Text("` begin where there is this one"),
-        ]),
+        None => match first_with(setting, role, end, index) {
+            Some(n) => help_constant(page, &setting.file.constant.name, n),
+            None => help_role(page, role),
+        },
     }
 }

@@ -4,7 +4,7 @@ use crate::ends::{Moved, range_around, say_moved, say_with, variable_of};
 use crate::setting::{Setting, say_rank};
 use pb_explain_source::{Page, Part, Source};
 use pb_explain_tree::path_to;
-use pb_syntax::{RangeText, Statement};
+use pb_syntax::{End, RangeText, Statement};
 use pb_text::{Name, NoMemory, Place};
 use std::alloc::Global;
 
@@ -37,6 +37,42 @@ fn help_value(
         _ => return page.say(&[Part::Text("\n")]),
     }
     page.say(&[Part::Text("`\n")])
+}
+
+/// Says from which N on the ends differ.
+fn help_constant(page: &mut Page, constant: &Name, n: i64) -> Result<(), NoMemory> {
+    page.help(&[
+        Part::Text("let `"),
+        Part::Name(constant),
+        Part::Text("` begin at "),
+        Part::Number(n),
+        Part::Text(", or choose ends that differ at each of its values"),
+    ])
+}
+
+/// Says how an end of a role is another rank than its first one.
+fn help_role(page: &mut Page, role: &Name) -> Result<(), NoMemory> {
+    page.help(&[
+        Part::Text("choose two ends that differ; `"),
+        Part::Name(role),
+        Part::Text("` alone is `"),
+        Part::Rank(role, 0),
+        Part::Text("`, and many ranks are `"),
+        Part::Name(role),
+        Part::Text("[i:1..N-1]`, say"),
+    ])
+}
+
+/// Says how ends without a variable differ that are one rank at N: from the next N on, or by other indices.
+fn help_ends(page: &mut Page, setting: &Setting, from: &End, to: &End) -> Result<(), NoMemory> {
+    let next = Setting {
+        file: setting.file,
+        n: setting.n.saturating_add(1),
+    };
+    if next.index(from, None) == next.index(to, None) {
+        return help_role(page, &to.role.name);
+    }
+    help_constant(page, &setting.file.constant.name, next.n)
 }
 
 /// Writes why the message with its label at the place breaks rule 8, where this rank is both.
@@ -88,12 +124,6 @@ pub fn tell_same(
             let value = index.saturating_sub(moved.off);
             help_value(page, setting, range_around(path.as_slice()), moved, value)
         }
-        None => page.help(&[
-            Part::Text("let `"),
-            Part::Name(&setting.file.constant.name),
-            Part::Text("` begin at "),
-            Part::Number(setting.n.saturating_add(1)),
-            Part::Text(", or choose ends that differ at each of its values"),
-        ]),
+        None => help_ends(page, setting, from, to),
     }
 }

@@ -39,8 +39,8 @@ pub fn tell_schedule_line(page: &mut Page, source: &Source, line: u32) -> Result
     page.help(&[Part::Text("a schedule is what `pabble sim TEXT --n A --schedule` writes")])
 }
 
-/// Writes that the rank of this line's event has no step, where there are so many ranks at this N.
-pub fn tell_no_step(
+/// Writes that there is no rank of this line's event, where there are so many ranks at this N.
+pub fn tell_no_rank(
     page: &mut Page,
     source: &Source,
     line: u32,
@@ -48,32 +48,41 @@ pub fn tell_no_step(
     n: i64,
     ranks: i64,
 ) -> Result<(), NoMemory> {
-    let place = Place { line, col: 1 };
-    if i64::from(rank) >= ranks {
-        page.point(
-            source,
-            place,
-            &[
-                Part::Text("there is no rank "),
-                Part::Number(i64::from(rank)),
-                Part::Text(": at N = "),
-                Part::Number(n),
-                Part::Text(" there are "),
-                Part::Number(ranks),
-                Part::Text(", from 0 on"),
-            ],
-        )?;
-    } else {
-        page.point(
-            source,
-            place,
-            &[
-                Part::Text("rank "),
-                Part::Number(i64::from(rank)),
-                Part::Text(" can't go on here: it has ended, or waits for others"),
-            ],
-        )?;
-    }
+    page.point(
+        source,
+        Place { line, col: 1 },
+        &[
+            Part::Text("there is no rank "),
+            Part::Number(i64::from(rank)),
+            Part::Text(": at N = "),
+            Part::Number(n),
+            Part::Text(" there are "),
+            Part::Number(ranks),
+            Part::Text(", from 0 on"),
+        ],
+    )
+}
+
+/// Writes that the rank of this line's event has no step.
+pub fn tell_no_step(
+    page: &mut Page,
+    source: &Source,
+    line: u32,
+    rank: u32,
+) -> Result<(), NoMemory> {
+    page.point(
+        source,
+        Place { line, col: 1 },
+        &[
+            Part::Text("rank "),
+            Part::Number(i64::from(rank)),
+            Part::Text(" has no step here"),
+        ],
+    )
+}
+
+/// Writes what helps where an event has no step.
+pub fn help_no_step(page: &mut Page) -> Result<(), NoMemory> {
     page.help(&[Part::Text(
         "a schedule fits the text and the N that it was made of; make one anew by `pabble sim TEXT --n A --schedule`",
     )])

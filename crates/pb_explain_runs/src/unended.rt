@@ -1,7 +1,7 @@
 //! Simulations that don't come to their end.
 
 use pb_explain_source::{Page, Part};
-use pb_text::{Name, NoMemory};
+use pb_text::NoMemory;
 
 /// The most events that may be asked for.
 const MOST_TURNS: u64 = 1_000_000;
@@ -45,50 +45,5 @@ pub fn tell_flight(page: &mut Page, file: &str) -> Result<(), NoMemory> {
     ])?;
     page.help(&[Part::Text(
         "with `--mode waiting` each send waits until it is taken; or take a smaller N",
-    )])
-}
-
-/// Appends what the rank waits for, as the status line tells it.
-fn say_told<'x>(page: &mut Page, file: &'x str, told: &'x [u8]) -> Result<(), NoMemory> {
-    page.say(&[
-        Part::Text(file),
-        Part::Text(": no rank can go on, and not all is at its end: rank "),
-    ])?;
-    page.say(&[Part::Bytes(told), Part::Text("\n")])
-}
-
-/// Writes that nobody can go on in a simulation of a text: `told` is the rank that is told with what it waits for. What the
-/// ranks did last follows, by `note_deed`, and then `help_stuck`.
-pub fn tell_stuck(page: &mut Page, file: &str, told: &[u8]) -> Result<(), NoMemory> {
-    say_told(page, file, told)?;
-    page.say(&[Part::Text("note: the last that each rank did\n")])
-}
-
-/// Writes what the rank with this number did last, as a log has it, without the rank; no words where it did nothing.
-pub fn note_deed(
-    page: &mut Page,
-    rank: u32,
-    role: &Name,
-    index: i64,
-    words: &[u8],
-) -> Result<(), NoMemory> {
-    page.say(&[
-        Part::Text("  rank "),
-        Part::Number(i64::from(rank)),
-        Part::Text(", `"),
-        Part::Rank(role, index),
-        Part::Text("`: "),
-    ])?;
-    if words.is_empty() {
-        page.say(&[Part::Text("nothing\n")])
-    } else {
-        page.say(&[Part::Bytes(words), Part::Text("\n")])
-    }
-}
-
-/// Writes what helps where nobody can go on.
-pub fn help_stuck(page: &mut Page) -> Result<(), NoMemory> {
-    page.help(&[Part::Text(
-        "a text as `gen` prints it never comes to this; it was edited outside of its markers: print it anew by `pabble gen FILE`",
     )])
 }

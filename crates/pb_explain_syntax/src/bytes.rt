@@ -10,7 +10,7 @@ fn remedy(byte: u8) -> &'static str {
         b'*' =>
             "an index is a number, or a name with one offset, as `N-1` or `i+1`; even and odd ranks are two roles, as `Even[0..N-1]` and `Odd[0..N-1]`",
         b'%' =>
-            "there are no remainders; a ring is `A() from W[i:0..N-2] to W[i+1];` and, to close it, `A() from W[N-1] to W[0];`",
+            "there are no remainders; a ring is `A() from W[i:0..N-2] to W[i+1];` and, to close it, `A() from W[N-1] to W[0];`; even and odd ranks are two roles, as `Even[0..N-1]` and `Odd[0..N-1]`",
         b'/' => {
             "an index has no quotients; a comment is `// ..` up to the line's end, or `/* .. */`"
         }

@@ -174,8 +174,18 @@ fn at_key(key: Key, stop: &Stop) -> Option<&'static str> {
             "a `foreach` has messages and computes alone; choices, loops and collectives stand outside of it",
         );
     }
+    if key == Key::To && wants_mark(stop, Mark::Semicolon) {
+        return Some(
+            "a message has one `to`; a broadcast and an allreduce go to all ranks, and have none",
+        );
+    }
     if wants_mark(stop, Mark::Semicolon) {
         return Some("the statement before it ends with `;`");
+    }
+    if key == Key::At && wants_name(stop) {
+        return Some(
+            "a choice and a compute name their kernel: `choice More at W[0] { .. } or { .. }`, `compute Work at W[0];`",
+        );
     }
     if wants_name(stop) {
         return Some("a keyword is no name: take another one");
@@ -204,6 +214,9 @@ fn at_mark(mark: Mark, stop: &Stop) -> Option<&'static str> {
         Mark::RightBracket if wants_mark(stop, Mark::Dots) => {
             Some("a role's range has two ends, as `[0..N-1]`")
         }
+        Mark::Dots if wants_mark(stop, Mark::RightBracket) => Some(
+            "an end for many ranks binds a variable, in one end of a message: `W[i:0..N-1]`; a kernel at many ranks is `foreach (i:0..N-1) { compute K at W[i]; }`",
+        ),
         Mark::Plus | Mark::Minus => {
             Some("an index is a number, or a name with one offset, as `N-1` or `i+1`")
         }
@@ -222,11 +235,18 @@ fn at_mark(mark: Mark, stop: &Stop) -> Option<&'static str> {
 
 /// The remedy at any token.
 fn at_token(stop: &Stop) -> Option<&'static str> {
+    if wants_key(stop, Key::Const) {
+        return Some(
+            "a file begins with its constant, as `const N = 2..max;`, and then comes `global protocol NAME(role W[0..N-1]) { .. }`",
+        );
+    }
     if wants_key(stop, Key::Or) && stop.wanted.len() == 1 {
         return Some("a choice has at least two branches; the last may be empty: `or { }`");
     }
     if wants_count(stop) {
-        return Some("a message without numbers has the payload `()`");
+        return Some(
+            "the number of words is the same at each N, from 1 to 1024; a message without words has the payload `()`",
+        );
     }
     if wants_mark(stop, Mark::LeftParen) && matches!(stop.form, Form::Payload) {
         return Some("a label has a payload: `()`, `(int32)` or `(uint32[64])`");

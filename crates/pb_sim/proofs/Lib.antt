@@ -1,4 +1,5 @@
 pub mod Exact
+pub mod Idle
 pub mod Listing
 pub mod Modes
 pub mod Nexts

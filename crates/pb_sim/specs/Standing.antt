@@ -1,5 +1,5 @@
 -- How a world stands: somebody has a step, all is at its end, or nobody can go on, and why.
-use Rattle.std.specs.Prelude.{◌≡◌, ◌≢◌, ℕ, ◌<◌, ◌⊎◌, List, [], ◌∷◌, ◌++◌, None}
+use Rattle.std.specs.Prelude.{◌≡◌, ◌≢◌, ℕ, ◌<◌, ◌⊎◌, List, [], ◌∷◌, ◌++◌, Option, None, Some}
 use Rattle.pb_text.specs.declared.mode.Mode.TheVariants.{Waiting}
 use Rattle.pb_world.specs.Actions.{Collective, Receives, Enters, Leaves}
 use Rattle.pb_world.specs.Machine as N
@@ -84,3 +84,21 @@ abbrev pub IsStanding : {S : Type 0} → Family S → World S → Standing → T
 IsStanding F W S.Going = IsGoing F W
 IsStanding F W S.Ended = (IsGoing F W → ⊥) × IsAtEnd F W
 IsStanding F W (S.Stuck rank cause) = (IsGoing F W → ⊥) × (IsAtEnd F W → ⊥) × IsStuckBy F W rank cause
+
+-- ---- one rank
+
+-- it is there, hasn't ended and has no step, and this is why
+pub record IsIdle {S : Type 0} (F : Family S) (W : World S) (r : ℕ) (cause : Cause) : Type 0 where
+  pub there : r < F.total
+  pub goes_on : next_of F W r ≢ N.Ended
+  pub idle : CanStep F W r → ⊥
+  pub why : IsCause F W r cause
+
+-- it isn't there, has ended, or has a step
+abbrev pub IsNotIdle : {S : Type 0} → Family S → World S → ℕ → Type 0
+IsNotIdle F W r = r < F.total → (next_of F W r ≡ N.Ended) ⊎ CanStep F W r
+
+-- why a rank has no step, and None where it isn't idle
+abbrev pub TellsIdle : {S : Type 0} → Family S → World S → ℕ → Option Cause → Type 0
+TellsIdle F W r None = IsNotIdle F W r
+TellsIdle F W r (Some cause) = IsIdle F W r cause

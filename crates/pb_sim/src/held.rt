@@ -17,13 +17,13 @@ ghost use Rattle.pb_sim.specs.Scheduled.{IsInMode};
 ghost use Rattle.pb_sim.specs.Seen.{IsStepped, IsUnchanged, is_too_much};
 ghost use Rattle.pb_sim.specs.Made.{IsBegun, IsNoStart, HasStep};
 ghost use Rattle.pb_sim.specs.Runs.{IsReadyList};
-ghost use Rattle.pb_sim.specs.Standing.{IsStanding};
+ghost use Rattle.pb_sim.specs.Standing.{IsStanding, TellsIdle};
 
 use crate::begun::{MOST_RANKS, is_number};
 use crate::counts::Counts;
 use crate::outcomes::SimFault;
 use crate::seen::Seen;
-use crate::standing::Standing;
+use crate::standing::{Cause, Standing};
 use pb_machine::{CTree, Next, total_of};
 use pb_sim_collectives::{Call, Joint, Op};
 use pb_sim_world::{weight, words_of};
@@ -133,6 +133,13 @@ impl Held {
         ensures { (sequence : Sequence) → IsStanding (family (program self.now.state) self.now.state.n sequence) (world_of self.now.state) result }
     {
         self.seen.standing()
+    }
+
+    /// Why a rank has no step. None where it isn't there, has ended, or has a step.
+    pub fn idle(&self, rank: u32) -> Option<Cause>
+        ensures { (sequence : Sequence) → TellsIdle (family (program self.now.state) self.now.state.n sequence) (world_of self.now.state) rank result }
+    {
+        self.seen.idle(rank)
     }
 
     /// The tree that is simulated.

@@ -15,13 +15,13 @@ ghost use Rattle.pb_sim.specs.Seen.{IsUnchanged, is_too_much};
 ghost use Rattle.pb_sim.specs.Done.{AreWords};
 ghost use Rattle.pb_sim.specs.Made.{IsBegun, IsNoStart, HasStep, IsTooMuch, IsRefusal, IsMade};
 ghost use Rattle.pb_sim.specs.Runs.{IsReadyList, BeginsRun, GoesOn, StaysRun};
-ghost use Rattle.pb_sim.specs.Standing.{IsStanding};
+ghost use Rattle.pb_sim.specs.Standing.{IsStanding, TellsIdle};
 
 use crate::answers::Answers;
 use crate::counts::Counts;
 use crate::held::Held;
 use crate::outcomes::{SimFault, StepDone, StepFault};
-use crate::standing::Standing;
+use crate::standing::{Cause, Standing};
 use pb_machine::{Act, CTree, Next, NoMemory};
 use pb_sim_collectives::{Call, Joint, Op};
 use pb_text::{Action, Mode, Words};
@@ -75,6 +75,14 @@ impl<A: Fn(u64, u32, u64) -> u32 + Drop> Sim<A> {
         ensures { (sequence : Sequence) → IsStanding (family (program self.now.held.state) self.now.held.state.n sequence) (world_of self.now.held.state) result }
     {
         self.held.standing()
+    }
+
+    /// Why a rank has no step, as it stands now; None where it isn't there, has ended, or has a step. `Left` never comes.
+    /// Takes no memory.
+    pub fn idle(&self, rank: u32) -> Option<Cause>
+        ensures { (sequence : Sequence) → TellsIdle (family (program self.now.held.state) self.now.held.state.n sequence) (world_of self.now.held.state) rank result }
+    {
+        self.held.idle(rank)
     }
 
     /// How many actions were done. Takes no memory.

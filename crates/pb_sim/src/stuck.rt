@@ -5,7 +5,7 @@ ghost use Rattle.pb_sim_world.specs.States.{program, total_of, next_at, stand};
 ghost use Rattle.pb_sim_world.specs.Can.{is_undefined};
 ghost use Rattle.pb_sim_world.specs.Worlds.{world_of};
 ghost use Rattle.pb_sim.specs.Seen.{IsSeen};
-ghost use Rattle.pb_sim.specs.Standing.{IsStanding};
+ghost use Rattle.pb_sim.specs.Standing.{IsStanding, TellsIdle};
 ghost use Rattle.pb_sim.specs.Causes.{IsLeast, cause_at, cause_of};
 
 use crate::seen::Seen;
@@ -51,6 +51,34 @@ impl Seen {
                 by: waits.by,
                 label: waits.label,
             },
+        }
+    }
+
+    /// Why a rank that is there has no step. None where it has ended, or has a step.
+    fn idle_there(&self, rank: u32) -> Option<Cause>
+        requires seen { IsSeen self.now }
+        requires there { rank < total_of self.now.state }
+        ensures { (sequence : Sequence) → TellsIdle (family (program self.now.state) self.now.state.n sequence) (world_of self.now.state) rank result }
+    {
+        if self.is_ready(rank) {
+            return None;
+        }
+        match self.state.next(rank) {
+            Next::Ended => None,
+            _ => Some(self.cause(rank)),
+        }
+    }
+
+    /// Why a rank has no step. None where it isn't there, has ended, or has a step.
+    #[tactic(auto, using(crate::proofs::Idle::away))]
+    pub fn idle(&self, rank: u32) -> Option<Cause>
+        requires { IsSeen self.now }
+        ensures { (sequence : Sequence) → TellsIdle (family (program self.now.state) self.now.state.n sequence) (world_of self.now.state) rank result }
+    {
+        if (rank as usize) < self.state.ranks.len() {
+            self.idle_there(rank)
+        } else {
+            None
         }
     }
 

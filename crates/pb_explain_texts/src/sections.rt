@@ -1,8 +1,5 @@
 //! What stands where in a C text.
 
-use pb_explain_source::{Page, Part, Source};
-use pb_text::{NoMemory, Place};
-
 /// A part of a C text.
 #[derive(Clone, Copy, PartialEq)]
 enum Section {
@@ -55,7 +52,7 @@ impl Section {
 }
 
 /// What stands in this line of the text.
-fn wanted_at(bytes: &[u8], line: u32) -> &'static str {
+pub fn wanted_at(bytes: &[u8], line: u32) -> &'static str {
     match line {
         1 => "`/* pabble 1 */`",
         2 => "`/* protocol NAME */`",
@@ -76,29 +73,4 @@ fn section_at(bytes: &[u8], line: u32) -> Section {
         number = number.saturating_add(1);
     }
     section
-}
-
-/// Whether the bytes begin as a protocol does: with no line of a text.
-fn is_protocol(bytes: &[u8]) -> bool {
-    !bytes.starts_with(b"/* pabble 1 */\n")
-}
-
-/// Writes that the line at this place is none that `gen` prints there.
-pub fn tell_text_line(page: &mut Page, source: &Source, place: Place) -> Result<(), NoMemory> {
-    page.point(
-        source,
-        place,
-        &[
-            Part::Text("`gen` doesn't print this line here; here stands "),
-            Part::Text(wanted_at(source.bytes, place.line)),
-        ],
-    )?;
-    if place.line == 1 && is_protocol(source.bytes) {
-        return page.help(&[Part::Text(
-            "a text is what `pabble gen FILE` writes; a protocol is simulated by `pabble run FILE --n A`",
-        )]);
-    }
-    page.help(&[Part::Text(
-        "a text may be edited between its markers `/*@ kernel NAME */` and `/*@ end */` alone; `pabble gen FILE KERNELS` puts bodies into a new one",
-    )])
 }

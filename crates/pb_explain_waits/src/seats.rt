@@ -1,7 +1,6 @@
 //! Which ranks a text has.
 
-use crate::running::value;
-use pb_ctree::CTree;
+use pb_ctree::{CTree, Formula};
 use pb_text::{Name, NoMemory};
 use std::alloc::Global;
 
@@ -13,6 +12,11 @@ pub struct Seat {
     pub first: i64,
     pub behind: i64,
     pub place: i64,
+}
+
+/// The value of a formula at N.
+pub fn value(formula: Formula, n: i64) -> i64 {
+    formula.a.saturating_mul(n).saturating_add(formula.b)
 }
 
 /// The number of the first rank of a role, or of the first one behind them all.
