@@ -25,6 +25,8 @@ impl<F: Folder + Drop> Folder for ByteFolder<F> {
 
     ghost reads = { λ _. 0 };
 
+    ghost passed = { λ slow. F.passed slow.folder };
+
     fn open_file(&mut self, name: &str) -> Result<(), Failed> {
         self.folder.open_file(name)
     }

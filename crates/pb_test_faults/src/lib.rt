@@ -10,3 +10,7 @@ mod commands;
 mod fault_tests;
 #[cfg(test)]
 mod limit_tests;
+#[cfg(test)]
+mod long_folder;
+#[cfg(test)]
+mod long_tests;
