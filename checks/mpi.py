@@ -19,6 +19,14 @@ TOP = os.path.dirname(os.path.dirname(os.path.realpath(__file__)))
 ACTIONS = 2000
 SECONDS = 60
 
+# Open MPI starts more ranks than processors, and as root, only where it is told to.
+OPEN_MPI = {
+    "OMPI_ALLOW_RUN_AS_ROOT": "1",
+    "OMPI_ALLOW_RUN_AS_ROOT_CONFIRM": "1",
+    "OMPI_MCA_rmaps_base_oversubscribe": "1",
+    "OMPI_MCA_mpi_yield_when_idle": "1",
+}
+
 
 def option(words, name, other):
     if name in words:
@@ -125,7 +133,7 @@ def run(pabble, plain, file, room):
             for old in range(8):
                 if os.path.exists(f"{log}.{old}"):
                     os.remove(f"{log}.{old}")
-            how = {**os.environ, "LOG": log, **({"WAITING": "1"} if waiting else {})}
+            how = {**os.environ, **OPEN_MPI, "LOG": log, **({"WAITING": "1"} if waiting else {})}
             try:
                 ran = subprocess.run(["mpiexec", "-n", str(size), f"{room}/text"], env=how, capture_output=True, timeout=SECONDS)
                 over = ran.returncode == 0
