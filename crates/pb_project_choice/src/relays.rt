@@ -1,4 +1,4 @@
-ghost use Rattle.std.specs.Prelude.{◌≡◌, ◌≤◌, ◌++◌, ℕ, ℤ, pos, Bool, length, List, [], true, IfOk, OnOk, IfSome};
+ghost use Rattle.std.specs.Prelude.{◌≡◌, ◌≤◌, ◌++◌, ℕ, ℤ, pos, Bool, length, List, [], ◌∷◌, true, IfOk, OnOk, IfSome};
 ghost use Rattle.std.specs.List.{All, list_any};
 ghost use Rattle.pb_choice.specs.Clashes.{same_base};
 ghost use Rattle.pb_core_language.specs.Sound.{is_small};
@@ -13,8 +13,8 @@ ghost use Rattle.pb_shape.specs.Loops.{Around};
 ghost use Rattle.pb_shape.specs.Choices.{Tests, Relays, is_told};
 ghost use Rattle.pb_project_choice.specs.Found.{IsFoundIn, all_entries};
 ghost use Rattle.pb_project_choice.specs.Sayable.{IsPlainLin, IsSayable};
-ghost use Rattle.pb_project_choice.specs.Sources.{OneSource, same_source, is_from, is_listed};
-ghost use Rattle.pb_project_choice.specs.Heard.{IsCutOut, AreOthers, AddsHeard, IsHeard};
+ghost use Rattle.pb_project_choice.specs.Sources.{OneSource, same_source, source_at, is_from, is_listed};
+ghost use Rattle.pb_project_choice.specs.Heard.{IsCutOut, AreOthers, AreStrangers, AddsHeard, IsHeard};
 ghost use Rattle.pb_project_choice.specs.Relayed.{HaveCallers, IsRelayed, AreRelayed};
 
 use crate::entries::Branch;
@@ -161,7 +161,16 @@ fn cut_out(alloc: Global, list: Vec<Area>, area: Area) -> Result<Vec<Area>, NoMe
     }
 }
 
-/// The ranks of the area, but the chooser and those for which the source is the chooser.
+fn source_at(chooser: CoreEnd) -> Source
+    ensures { result ≡ source_at chooser }
+{
+    Source {
+        role: chooser.role,
+        at: chooser.at,
+    }
+}
+
+/// The ranks of the area, but the chooser and those for which the source is the chooser, as far as guards can say that.
 fn others(
     alloc: Global,
     chooser: CoreEnd,
@@ -170,10 +179,7 @@ fn others(
 ) -> Result<Vec<Area>, NoMemory>
     ensures { IfOk result (λ v. AreOthers chooser area source v.items) }
 {
-    let from = Source {
-        role: chooser.role,
-        at: chooser.at,
-    };
+    let from = source_at(chooser);
     let all = one(alloc, area)?;
     let left = cut_out(alloc, all, agreement(area, source, from))?;
     let rest = cut_out(alloc, left, end_area(chooser))?;
@@ -223,7 +229,40 @@ fn heard_from(
     Ok(areas)
 }
 
-/// Adds the relay of a source, unless it would hold of nobody.
+/// The ranks of the area, but the chooser and those for which the source is the chooser, be there guards for them or not.
+fn strangers_of(
+    alloc: Global,
+    chooser: CoreEnd,
+    area: Area,
+    source: Source,
+) -> Result<Vec<Area>, NoMemory>
+    ensures { IfOk result (λ v. AreStrangers chooser source (area ∷ []) v.items) }
+{
+    let from = source_at(chooser);
+    let all = one(alloc, area)?;
+    let left = without(alloc, all, &[agreement(area, source, from)])?;
+    let rest = without(alloc, left, &[end_area(chooser)])?;
+    Ok(rest)
+}
+
+/// Those of all the areas.
+fn strangers(
+    alloc: Global,
+    chooser: CoreEnd,
+    areas: &[Area],
+    source: Source,
+) -> Result<Vec<Area>, NoMemory>
+    ensures { IfOk result (λ v. AreStrangers chooser source areas.now v.items) }
+{
+    let mut list = Vec::new(alloc);
+    for area in areas {
+        let more = strangers_of(alloc, chooser, *area, source)?;
+        absorb(alloc, &mut list, &more)?;
+    }
+    Ok(list)
+}
+
+/// Adds the relay of a source, unless the source is the chooser for each rank of which it would hold.
 fn put_relay(
     alloc: Global,
     setting: &Setting,
@@ -235,7 +274,8 @@ fn put_relay(
     ensures { OnOk result (IsRelayed setting.now.range setting.now.roles setting.now.whole.now chooser entries.now source relays.old.items relays.new.items) }
 {
     let areas = heard_from(alloc, chooser, entries, source)?;
-    let there = is_somebody(alloc, setting, &areas)?;
+    let others = strangers(alloc, chooser, &areas, source)?;
+    let there = is_somebody(alloc, setting, &others)?;
     if there {
         let guards = guards_in(alloc, &areas, setting.range, setting.roles)?;
         let from = Peer {
@@ -265,7 +305,8 @@ fn put_relays(
 }
 
 /// The relays of a choice with these tests, by what the ranks find first in each branch: who hears of it first from another
-/// rank than the chooser. Each holds of somebody who is told. Where there are no tests, nobody is told, and there are none.
+/// rank than the chooser. Each holds of somebody who is told and for whom it doesn't name the chooser. Where there are no tests,
+/// nobody is told, and there are none.
 pub fn relays_of(
     alloc: Global,
     setting: &Setting,
@@ -279,8 +320,8 @@ pub fn relays_of(
         is_small chooser.at.off ≡ true → IsFoundIn sc a bs branches.now → OneSource sc a chooser bs → length p.roles ≡ setting.now.roles → All (IsRelay p) v.items) }
     ensures told { IfOk result (λ v. tests.now ≡ [] → v.items ≡ []) }
     ensures called { IfOk result (λ v. (sc : Scope) (a : Around) (bs : BranchTrees) (such : ℤ → ℕ → ℤ → Bool) → Stands setting.now.range setting.now.roles setting.now.whole.now sc → IsRange setting.now.range →
-        IsFoundIn sc a bs branches.now → OneSource sc a chooser bs →
-        ((k l : ℕ) (n : ℤ) (role : ℕ) (x : ℤ) → IsIn sc.range n → is_rank sc.roles n role x ≡ true → is_told sc a bs k l n (pos 0) role x ≡ true → such n role x ≡ true) → HaveCallers setting.now.range sc.roles such v.items) }
+        is_small chooser.at.off ≡ true → IsFoundIn sc a bs branches.now → OneSource sc a chooser bs →
+        ((k l : ℕ) (n : ℤ) (role : ℕ) (x : ℤ) → IsIn sc.range n → is_rank sc.roles n role x ≡ true → is_told sc a bs k l n (pos 0) role x ≡ true → such n role x ≡ true) → HaveCallers setting.now.range sc.roles such chooser v.items) }
 {
     if tests.is_empty() {
         return Ok(Vec::new(alloc));
