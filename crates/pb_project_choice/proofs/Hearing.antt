@@ -29,7 +29,7 @@ use Rattle.pb_part_takers.specs.Ends.{IsEndArea}
 use Rattle.pb_core_flat.specs.Seated.{is_at}
 use Rattle.pb_project_choice.specs.Heard.{IsCutOut, IsOther, AreOthers, AreStrangers, AddsHeard, IsHeard}
 use Rattle.pb_project_choice.specs.Sayable.{AreSayable, IsSayable}
-use Rattle.pb_project_choice.specs.Sources.{same_source, is_from, is_listed, hears, source_at}
+use Rattle.pb_project_choice.specs.Sources.{same_source, is_from, is_listed, are_once, hears, source_at}
 use Rattle.pb_project_choice.proofs.Plain.{both_fit}
 use Rattle.pb_project_choice.proofs.Telling.{fit_at}
 
@@ -309,6 +309,32 @@ listed_there list new t e = ap (is_listed t) e ∙ listed_push list t t ∙ or_r
 
 pub listed_from : (s t : Source) (list : List Source) → same_source s t ≡ true → is_listed t list ≡ true → is_listed s list ≡ true
 listed_from s t list h k = subst (λ z. is_listed z list ≡ true) (sym (source_is s t h)) k
+
+left_false : (a b : Bool) → a || b ≡ false → a ≡ false
+left_false true b h = absurd (true≢false h)
+left_false false b h = refl
+
+right_false : (a b : Bool) → a || b ≡ false → b ≡ false
+right_false true b h = absurd (true≢false h)
+right_false false b h = h
+
+differs : (u t : Source) → same_source t u ≡ false → same_source u t ≡ false
+differs u t h = pick (same_source u t) refl
+  where
+    pick : (v : Bool) → v ≡ same_source u t → same_source u t ≡ false
+    pick true e = absurd (true≢false (sym (source_self t) ∙ sym (ap (same_source t) (source_is u t (sym e))) ∙ h))
+    pick false e = sym e
+
+once_push : (list : List Source) (t : Source) → is_listed t list ≡ false → are_once list ≡ true → are_once (list ++ t ∷ []) ≡ true
+once_push [] t h k = refl
+once_push (u ∷ list) t h k =
+    let parts = and_parts (not (is_listed u list)) (are_once list) k in
+    let apart = differs u t (left_false (same_source t u) (is_listed t list) h) in
+    and_from (not (is_listed u (list ++ t ∷ []))) (are_once (list ++ t ∷ []))
+    (ap not (listed_push list t u ∙ ap (λ z. is_listed u list || z) apart ∙ or-false (is_listed u list)) ∙ parts.0) (once_push list t (right_false (same_source t u) (is_listed t list) h) parts.1)
+
+pub once_pushed : (list new : List Source) (t : Source) → new ≡ list ++ t ∷ [] → is_listed t list ≡ false → are_once list ≡ true → are_once new ≡ true
+once_pushed list new t e h k = ap are_once e ∙ once_push list t h k
 
 -- the sources of the entries up to a place are there
 abbrev pub ListedSoFar : List Entry → ℕ → List Source → Type 0

@@ -13,7 +13,7 @@ ghost use Rattle.pb_shape.specs.Loops.{Around};
 ghost use Rattle.pb_shape.specs.Choices.{Tests, Relays, is_told};
 ghost use Rattle.pb_project_choice.specs.Found.{IsFoundIn, all_entries};
 ghost use Rattle.pb_project_choice.specs.Sayable.{IsPlainLin, IsSayable};
-ghost use Rattle.pb_project_choice.specs.Sources.{OneSource, same_source, source_at, is_from, is_listed};
+ghost use Rattle.pb_project_choice.specs.Sources.{OneSource, same_source, source_at, is_from, is_listed, are_once};
 ghost use Rattle.pb_project_choice.specs.Heard.{IsCutOut, AreOthers, AreStrangers, AddsHeard, IsHeard};
 ghost use Rattle.pb_project_choice.specs.Relayed.{HaveCallers, IsRelayed, AreRelayed};
 
@@ -78,9 +78,11 @@ fn is_there(list: &[Source], source: Source) -> bool
     false
 }
 
+#[tactic(auto, using(crate::proofs::Hearing::once_pushed))]
 fn add_source(list: &mut Vec<Source>, source: Source) -> Result<(), NoMemory>
     ensures kept { OnOk result ((s : Source) → is_listed s list.old.items ≡ true → is_listed s list.new.items ≡ true) }
     ensures there { OnOk result (is_listed source list.new.items ≡ true) }
+    ensures once { OnOk result (are_once list.old.items ≡ true → are_once list.new.items ≡ true) }
 {
     if !is_there(list, source) {
         list.push(source)?;
@@ -91,6 +93,7 @@ fn add_source(list: &mut Vec<Source>, source: Source) -> Result<(), NoMemory>
 fn add_source_of(list: &mut Vec<Source>, entry: Entry) -> Result<(), NoMemory>
     ensures kept { OnOk result ((s : Source) → is_listed s list.old.items ≡ true → is_listed s list.new.items ≡ true) }
     ensures there { OnOk result ((s : Source) → is_from s entry.kind ≡ true → is_listed s list.new.items ≡ true) }
+    ensures once { OnOk result (are_once list.old.items ≡ true → are_once list.new.items ≡ true) }
 {
     match entry.kind {
         Kind::Receive { from, .. } => add_source(list, from),
@@ -101,7 +104,8 @@ fn add_source_of(list: &mut Vec<Source>, entry: Entry) -> Result<(), NoMemory>
 
 /// The sources of the receives, each once.
 fn sources_of(alloc: Global, entries: &[Entry]) -> Result<Vec<Source>, NoMemory>
-    ensures { IfOk result (λ v. (s : Source) → list_any (λ e. is_from s e.kind) entries.now ≡ true → is_listed s v.items ≡ true) }
+    ensures there { IfOk result (λ v. (s : Source) → list_any (λ e. is_from s e.kind) entries.now ≡ true → is_listed s v.items ≡ true) }
+    ensures once { IfOk result (λ v. are_once v.items ≡ true) }
 {
     let mut list = Vec::new(alloc);
     for entry in entries {

@@ -22,7 +22,7 @@ pub returns-clause-is : goal.returns-clause-is
 returns-clause-is c = λ sc h a bs st opened range_is small found one tests.
     let s = c.args.setting.now in
     relays_right s.range s.roles s.whole.now sc a c.args.chooser bs c.args.branches.now c.in_ok-entries.entries.items c.in_ok-sources.sources.items c.in_ok-relays.relays.items st range_is small found one c.in_ok-entries.ensures
-    (subst (λ z. (q : Source) → list_any (λ e. is_from q e.kind) z ≡ true → is_listed q c.in_ok-sources.sources.items ≡ true) c.deref.ensures.value c.in_ok-sources.ensures)
+    (subst (λ z. (q : Source) → list_any (λ e. is_from q e.kind) z ≡ true → is_listed q c.in_ok-sources.sources.items ≡ true) c.deref.ensures.value c.in_ok-sources.ensures.there)
     (subst (λ z. AreRelayed s.range s.roles s.whole.now c.args.chooser z c.in_ok-sources.sources.items c.in_ok-relays.relays.items) c.deref-2.ensures.value
     (subst (λ z. AreRelayed s.range s.roles s.whole.now c.args.chooser c.deref-2.result.now z c.in_ok-relays.relays.items) c.deref-3.ensures.value c.in_ok-relays.ensures))
 
