@@ -1,5 +1,8 @@
 //! Answers to a protocol file.
 
+ghost use Rattle.std.specs.Prelude.{IfOk};
+ghost use Rattle.pb_explain_source.specs.Pages.{IsPageOf};
+
 use crate::running::{tell_many, tell_values};
 use crate::verdict::{tell_refused, tree_of};
 use pb_cli_status::Status;
@@ -21,7 +24,7 @@ pub enum Ask {
 /// Writes the warnings on an accepted protocol.
 pub fn warn(alloc: Global, page: &mut Page, source: &Source) -> Result<(), NoMemory> {
     match tree_of(alloc, source.bytes)? {
-        Some(file) => tell_warnings(page, source, &file),
+        Some(file) => tell_warnings(page, &file),
         None => Ok(()),
     }
 }
@@ -51,31 +54,43 @@ fn tell_run(
         return tell_turns(page, source.file, u64::from(options.turns));
     }
     match tree_of(alloc, source.bytes)? {
-        Some(file) => tell_values(alloc, page, source, &file, i64::from(options.n)),
+        Some(file) => tell_values(alloc, page, &file, i64::from(options.n)),
         None => Ok(()),
     }
 }
 
 /// Explains the answer to a protocol of these bytes.
-pub fn tell_protocol(
+fn tell_protocol(
     alloc: Global,
     page: &mut Page,
-    file: &str,
-    bytes: &[u8],
+    source: &Source,
     status: Status,
     ask: Ask,
 ) -> Result<(), NoMemory> {
-    let source = Source { file, bytes };
     match (status, ask) {
-        (Status::Done, _) => warn(alloc, page, &source),
+        (Status::Done, _) => warn(alloc, page, source),
         (Status::Refused, _) => {
-            let _refused = tell_refused(alloc, page, &source, status)?;
+            let _refused = tell_refused(alloc, page, source, status)?;
             Ok(())
         }
-        (Status::Limit, _) => tell_limits(alloc, page, &source, ask),
+        (Status::Limit, _) => tell_limits(alloc, page, source, ask),
         (Status::Turns | Status::OutOfRange, Ask::Run(options)) => {
-            tell_run(alloc, page, &source, status, options)
+            tell_run(alloc, page, source, status, options)
         }
         _ => Ok(()),
     }
+}
+
+/// What is told of a protocol file.
+pub fn text_of_protocol(
+    alloc: Global,
+    source: &Source,
+    status: Status,
+    ask: Ask,
+) -> Result<Vec<u8>, NoMemory>
+    ensures { IfOk result (λ text. IsPageOf source.now.file.now source.now.bytes.now text.items) }
+{
+    let mut page = Page::new(alloc);
+    tell_protocol(alloc, &mut page, source, status, ask)?;
+    page.text(alloc, source)
 }

@@ -70,7 +70,7 @@ pub fn tell_limit(
 ) -> Result<(), NoMemory> {
     let why = Part::Text(reason(limit));
     match place {
-        Some(place) => page.point(source, place, &[why])?,
+        Some(place) => page.point(place, &[why])?,
         None => page.say(&[
             Part::Text(source.file),
             Part::Text(": "),
