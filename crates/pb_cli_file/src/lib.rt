@@ -13,6 +13,6 @@ mod tree;
 
 pub use answer::Wanted;
 pub use pb_cli_status::{Refusal, Status};
-pub use pb_compile::CTree;
+pub use pb_compile::{CTree, Core};
 pub use telling::{tell, tell_merged};
-pub use tree::tree_in;
+pub use tree::{core_in, tree_in};

@@ -1,5 +1,5 @@
 -- A choice, and a choice that nobody takes part in.
-use Rattle.std.proofs.Common.{◌≡◌, ◌<◌, ◌≤◌, ◌+◌, ◌*◌, ◌==◌, ℕ, zero, suc, ℤ, pos, max, Bool, true, false, not, ◌&&◌, ◌||◌, nat_lt, List, [], ◌∷◌, length, get_or, refl, sym, ap, ◌∙◌, subst, arith}
+use Rattle.std.proofs.Common.{◌≡◌, ◌<◌, ◌≤◌, ◌+◌, ◌*◌, ◌==◌, ℕ, zero, suc, ℤ, pos, max, Bool, true, false, ◌||◌, nat_lt, List, [], ◌∷◌, length, get_or, refl, sym, ap, ◌∙◌, subst, arith}
 use Rattle.std.specs.List.{All}
 use Rattle.std.proofs.lemmas.Bool.{and_parts, and_from, or_parts, or_left, or_right, false≢true, ltb-true}
 use Rattle.std.proofs.lemmas.List.Elements.{All-nil, All-weaker}
@@ -22,7 +22,7 @@ use Rattle.pb_core_language.specs.Tree as T
 use Rattle.pb_core_language.specs.Tree.{Mark, StmtTree, BlockTree, BranchTrees}
 use Rattle.pb_core_language.specs.Verdict.{IsIn}
 use Rattle.pb_part_firsts.specs.Takers.{IsWhole}
-use Rattle.pb_core_flat.specs.Seated.{rank, is_rank, is_at}
+use Rattle.pb_core_flat.specs.Seated.{rank, is_rank}
 use Rattle.pb_core_flat.proofs.OutcomesAdd.{bystander_finds}
 use Rattle.pb_local.specs.declared.stmt.Relay.{Relay}
 use Rattle.pb_local.specs.declared.stmt.Test.{Test}
@@ -36,10 +36,10 @@ use Rattle.pb_project_piece.specs.Standing.{IsOpen}
 use Rattle.pb_project_piece.proofs.Ones.{guard_holds}
 use Rattle.pb_shape.specs.Guards as G
 use Rattle.pb_shape.specs.Shape as S
-use Rattle.pb_shape.specs.Places.{Scope, Who, Here, everyone, scope_of, inside, peer_of}
+use Rattle.pb_shape.specs.Places.{Scope, Here, everyone, scope_of, inside, peer_of}
 use Rattle.pb_shape.specs.Guards.{Somebody, Nobody, alone}
 use Rattle.pb_shape.specs.Loops.{Around, takers}
-use Rattle.pb_shape.specs.Choices.{Tests, AreHeld, Relays, is_chooser, AreCalled, is_told, told_by}
+use Rattle.pb_shape.specs.Choices.{Tests, AreHeld, Relays, AreCalled, is_told, told_by}
 use Rattle.pb_shape.specs.Shape.{Shapes}
 use Rattle.pb_shape.specs.Sizes.{braces, braces_all}
 use Rattle.pb_shape.specs.Tabled.{count}
@@ -48,7 +48,6 @@ use Rattle.pb_syntax.specs.declared.core_label.KernelKind.{KernelKind}
 use Rattle.pb_syntax.specs.declared.core_label.KernelKind.TheVariants.{Compute}
 use Rattle.pb_project_choice.specs.Found.{IsFoundIn}
 use Rattle.pb_project_choice.specs.Tested.{HasHolder}
-use Rattle.pb_project_choice.specs.Relayed.{is_apart}
 use Rattle.pb_project.specs.Learning.{Told}
 use Rattle.pb_project.specs.Blocks.{behind, IsStmtOf, IsChoiceOf}
 use Rattle.pb_project.specs.Places.{Known, IsPlace, IsGoodStmt, IsReached}
@@ -175,40 +174,24 @@ module _ (k : Known) (before after : ℕ) (m : Mark) (kernel : ℕ) (at : CoreEn
         made.relays_are.is (scope_of p) h a bs place.stands free place.range_is end_is.low found_is (one_source p cuts a m kernel at bs fair) (tests_are h free)
 
     -- a rank of which guards hold comes to the choice
-    holder_comes : (h : Here) → IsReached (scope_of p) h (takers (scope_of p) a m (T.choice kernel at bs)) → (gs : List Guard) (such : ℤ → ℕ → ℤ → Bool) →
-        ((n : ℤ) (role : ℕ) (x : ℤ) → such n role x ≡ true → part_in (scope_of p) a bs n role x ≡ true) → HasHolder k.range p.roles such gs →
-        (who : Who) → ((n : ℤ) (role : ℕ) (x : ℤ) → such n role x ≡ true → ((i : ℤ) → hold gs n i role x ≡ true) → who n (pos 0) role x ≡ true) →
-        Somebody (scope_of p) (inside h (takers (scope_of p) a m (T.choice kernel at bs))) who
-    holder_comes h reached gs such in_part s who is =
+    holder_comes : (h : Here) → IsReached (scope_of p) h (takers (scope_of p) a m (T.choice kernel at bs)) → (gs : List Guard) → HasHolder k.range p.roles (part_in (scope_of p) a bs) gs →
+        (n : ℤ) × (role : ℕ) × (x : ℤ) × IsIn p.range n × (is_rank p.roles n role x ≡ true) × (h.at n (pos 0) ≡ true) × ((inside h (takers (scope_of p) a m (T.choice kernel at bs))).comes n (pos 0) role x ≡ true) × ((i : ℤ) → hold gs n i role x ≡ true)
+    holder_comes h reached gs s =
         let within = of_range k p l cuts a place s.n s.within in
-        let takes : takers (scope_of p) a m (T.choice kernel at bs) s.n (pos 0) s.role s.index ≡ true = or_left _ _ (or_right _ _ (in_part s.n s.role s.index s.is)) in
-        record {
-          n = s.n;
-          i = pos 0;
-          role = s.role;
-          index = s.index;
-          within = within;
-          rank = s.rank;
-          at = reached.free.at s.n (pos 0);
-          comes = and_from _ _ takes (reached.come.come s.n (pos 0) s.role s.index within s.rank takes);
-          is = is s.n s.role s.index s.is s.holds;
-        }
+        let takes : takers (scope_of p) a m (T.choice kernel at bs) s.n (pos 0) s.role s.index ≡ true = or_left _ _ (or_right _ _ s.is) in
+        (s.n, s.role, s.index, within, s.rank, reached.free.at s.n (pos 0), and_from _ _ takes (reached.come.come s.n (pos 0) s.role s.index within s.rank takes), s.holds)
 
     pub tests_held : (h : Here) → IsReached (scope_of p) h (takers (scope_of p) a m (T.choice kernel at bs)) → AreHeld (scope_of p) (inside h (takers (scope_of p) a m (T.choice kernel at bs))) made.tests
     tests_held h reached =
         All-weaker (λ t. HasHolder k.range p.roles (part_in (scope_of p) a bs) t.guards) (λ t. Somebody (scope_of p) (inside h (takers (scope_of p) a m (T.choice kernel at bs))) (λ n i role x. hold t.guards n i role x))
-        (λ t s. holder_comes h reached t.guards (part_in (scope_of p) a bs) (λ n role x y. y) s (λ n i role x. hold t.guards n i role x) (λ n role x y holds. holds (pos 0))) made.tests
+        (λ t s. let c = holder_comes h reached t.guards s in record { n = c.0; i = pos 0; role = c.1; index = c.2; within = c.3; rank = c.4; at = c.5; comes = c.6; is = c.7 (pos 0) }) made.tests
         (made.tests_are.held (scope_of p) a bs (part_in (scope_of p) a bs) place.stands place.range_is few found_is (part_told (scope_of p) a bs))
 
-    pub relays_called : (h : Here) → IsReached (scope_of p) h (takers (scope_of p) a m (T.choice kernel at bs)) → AreCalled (scope_of p) (inside h (takers (scope_of p) a m (T.choice kernel at bs))) at made.relays
+    pub relays_called : (h : Here) → IsReached (scope_of p) h (takers (scope_of p) a m (T.choice kernel at bs)) → AreCalled (scope_of p) (inside h (takers (scope_of p) a m (T.choice kernel at bs))) made.relays
     relays_called h reached =
-        All-weaker (λ r. HasHolder k.range p.roles (λ n role x. part_in (scope_of p) a bs n role x && is_apart r at n role x) r.guards)
-        (λ r. Somebody (scope_of p) (inside h (takers (scope_of p) a m (T.choice kernel at bs))) (λ n i role x. hold r.guards n x role x && not (is_chooser r.from at n x || is_at at n (pos 0) role x)))
-        (λ r s.
-        holder_comes h reached r.guards (λ n role x. part_in (scope_of p) a bs n role x && is_apart r at n role x) (λ n role x y. (and_parts (part_in (scope_of p) a bs n role x) (is_apart r at n role x) y).0) s
-        (λ n i role x. hold r.guards n x role x && not (is_chooser r.from at n x || is_at at n (pos 0) role x))
-        (λ n role x y holds. and_from _ _ (holds x) (and_parts (part_in (scope_of p) a bs n role x) (is_apart r at n role x) y).1)) made.relays
-        (made.relays_are.called (scope_of p) a bs (part_in (scope_of p) a bs) place.stands place.range_is end_is.low found_is (one_source p cuts a m kernel at bs fair) (part_told (scope_of p) a bs))
+        All-weaker (λ r. HasHolder k.range p.roles (part_in (scope_of p) a bs) r.guards) (λ r. Somebody (scope_of p) (inside h (takers (scope_of p) a m (T.choice kernel at bs))) (λ n i role x. hold r.guards n x role x))
+        (λ r s. let c = holder_comes h reached r.guards s in record { n = c.0; i = pos 0; role = c.1; index = c.2; within = c.3; rank = c.4; at = c.5; comes = c.6; is = c.7 c.2 }) made.relays
+        (made.relays_are.called (scope_of p) a bs (part_in (scope_of p) a bs) place.stands place.range_is found_is (one_source p cuts a m kernel at bs fair) (part_told (scope_of p) a bs))
 
     told_if : (ts : List Test) → (ts ≡ [] → made.relays ≡ []) → IsToldIf (end_guard at) made.relays (peer_of at) ts
     told_if [] f = (f refl, refl, refl)
@@ -292,7 +275,7 @@ choice_gone k before m kernel at bs areas none taken = record {
       (λ j lab n i role x within r here. sym (nobody_told (scope_of p) a m kernel at bs n i role x j lab (takes n i role x within r)))
       (All-nil (λ (t : Test). Somebody (scope_of p) (inside h (takers (scope_of p) a m s)) (λ n i role x. hold t.guards n i role x)))
       (λ n role x j lab within r other told. absurd (false≢true (sym (nobody_told (scope_of p) a m kernel at bs n (pos 0) role x j lab (takes n (pos 0) role x within r)) ∙ told)))
-      (All-nil (λ (q : Relay). Somebody (scope_of p) (inside h (takers (scope_of p) a m s)) (λ n i role x. hold q.guards n x role x && not (is_chooser q.from at n x || is_at at n (pos 0) role x))))
+      (All-nil (λ (q : Relay). Somebody (scope_of p) (inside h (takers (scope_of p) a m s)) (λ n i role x. hold q.guards n x role x)))
       (unreached (scope_of p) (inside h (takers (scope_of p) a m s)) a (nobody_inside k p l cuts a place m s fair areas taken none h) bs) others;
   made = λ p l cuts a place fair tail others. others;
   loops = λ tail. refl;

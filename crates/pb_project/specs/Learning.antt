@@ -52,5 +52,5 @@ pub record AreRelays (range : NRange) (roles : ℕ) (whole : List Area) (at : Co
   pub each : (l : Program) (sc : Scope) (a : Around) (bs : BranchTrees) → Stands range roles whole sc → IsRange range → is_small at.at.off ≡ true → IsFoundIn sc a bs found →
       OneSource sc a at bs → length l.roles ≡ roles → All (IsRelay l) relays
   pub told : tests ≡ [] → relays ≡ []
-  pub called : (sc : Scope) (a : Around) (bs : BranchTrees) (such : ℤ → ℕ → ℤ → Bool) → Stands range roles whole sc → IsRange range → is_small at.at.off ≡ true → IsFoundIn sc a bs found → OneSource sc a at bs → Told sc a bs such →
-      HaveCallers range sc.roles such at relays
+  pub called : (sc : Scope) (a : Around) (bs : BranchTrees) (such : ℤ → ℕ → ℤ → Bool) → Stands range roles whole sc → IsRange range → IsFoundIn sc a bs found → OneSource sc a at bs → Told sc a bs such →
+      HaveCallers range sc.roles such relays

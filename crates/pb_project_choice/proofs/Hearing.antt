@@ -1,5 +1,5 @@
 -- The ranks that hear first from a source.
-use Rattle.std.proofs.Common.{◌≡◌, ◌<◌, ◌≤◌, ◌+◌, ◌≤ℤ◌, inl, inr, ◌⊎◌, ℕ, zero, suc, ℤ, pos, negsuc, Bool, true, false, not, ◌&&◌, ◌||◌, nat_eq, int_le, List, [], ◌∷◌, ◌++◌, drop, get_or, length, refl, sym, ap, ◌∙◌, subst, arith, drop_of_length-le}
+use Rattle.std.proofs.Common.{◌≡◌, ◌<◌, ◌≤◌, ◌+◌, inl, inr, ◌⊎◌, ℕ, zero, suc, ℤ, pos, negsuc, Bool, true, false, not, ◌&&◌, ◌||◌, nat_eq, int_le, List, [], ◌∷◌, ◌++◌, drop, get_or, length, refl, sym, ap, ◌∙◌, subst, arith, drop_of_length-le}
 use Rattle.std.specs.List.{All, list_any}
 use Rattle.std.specs.Ordering.{int_eq}
 use Rattle.std.proofs.lemmas.List.{drop_more}
@@ -16,9 +16,8 @@ use Rattle.pb_part_areas.specs.declared.area.Area.{Area}
 use Rattle.pb_part_areas.specs.Areas.{has, have}
 use Rattle.pb_part_areas.specs.Fits.{Fits}
 use Rattle.pb_cases.specs.Breakpoints.{IsCut}
-use Rattle.pb_choice.specs.Clashes.{same_base, agrees, IsAgreement}
+use Rattle.pb_choice.specs.Clashes.{same_base, IsAgreement}
 use Rattle.pb_core_language.specs.declared.tree.CoreEnd.{CoreEnd}
-use Rattle.pb_core_language.specs.Sound.{is_small}
 use Rattle.pb_part_firsts.specs.declared.firsts.Entry.{Entry}
 use Rattle.pb_part_firsts.specs.declared.firsts.Kind.{Kind}
 use Rattle.pb_part_firsts.specs.declared.firsts.Kind.TheVariants.{Receive, Other, Again}
@@ -26,10 +25,9 @@ use Rattle.pb_part_firsts.specs.declared.firsts.Source.{Source}
 use Rattle.pb_part_firsts.specs.Firsts.{is_small_off, is_small_kind, are_small}
 use Rattle.pb_part_firsts.specs.Fitting.{EntriesFit}
 use Rattle.pb_part_takers.specs.Ends.{IsEndArea}
-use Rattle.pb_core_flat.specs.Seated.{is_at}
-use Rattle.pb_project_choice.specs.Heard.{IsCutOut, IsOther, AreOthers, AreStrangers, AddsHeard, IsHeard}
+use Rattle.pb_project_choice.specs.Heard.{IsCutOut, IsOther, AreOthers, AddsHeard, IsHeard}
 use Rattle.pb_project_choice.specs.Sayable.{AreSayable, IsSayable}
-use Rattle.pb_project_choice.specs.Sources.{same_source, is_from, is_listed, are_once, hears, source_at}
+use Rattle.pb_project_choice.specs.Sources.{same_source, is_from, is_listed, hears, source_at}
 use Rattle.pb_project_choice.proofs.Plain.{both_fit}
 use Rattle.pb_project_choice.proofs.Telling.{fit_at}
 
@@ -208,93 +206,6 @@ heard_end chooser s es i areas le h = record {
   sayable = h.sayable;
 }
 
--- ---- for whom the source isn't the chooser
-
-beyond : (v l b : Bool) → v ≡ l && not (b || false) → v ≡ true → b ≡ false
-beyond v l b e h = grind (arith, nat_tests)
-
-alone_has : (a : Area) (n : ℤ) (role : ℕ) (x : ℤ) → have (a ∷ []) n role x ≡ has a n role x
-alone_has a n role x = or-false (has a n role x)
-
-pub strangers_alone : (chooser : CoreEnd) (a : Area) (s : Source) (all left new : List Area) (same end : Area) → ((n : ℤ) (role : ℕ) (x : ℤ) → have all n role x ≡ has a n role x) → IsAgreement a s (source_at chooser) same →
-    IsEndArea chooser end → ((n : ℤ) (role : ℕ) (x : ℤ) → have left n role x ≡ have all n role x && not (have (same ∷ []) n role x)) →
-    ((n : ℤ) (role : ℕ) (x : ℤ) → have new n role x ≡ have left n role x && not (have (end ∷ []) n role x)) → AreStrangers chooser s (a ∷ []) new
-strangers_alone chooser a s all left new same end is met ends one two = record {
-  only = λ n role x h. alone_has a n role x ∙ inside n role x h;
-  apart = λ n role x near small small_s h.
-      sym (met.is n role x small_s (small_bools chooser.at.off small) near (inside n role x h)) ∙ beyond (have left n role x) (have all n role x) (has same n role x) (one n role x) (in_left n role x h);
-  else_where = λ n role x near small h. sym (ends.is n role x near small) ∙ beyond (have new n role x) (have left n role x) (has end n role x) (two n role x) h;
-  rest = λ n role x other small h.
-      let here : has a n role x ≡ true = sym (alone_has a n role x) ∙ h in
-      left_over (have new n role x) (have left n role x) (has end n role x) (two n role x)
-      (left_over (have left n role x) (have all n role x) (has same n role x) (one n role x) (is n role x ∙ here)
-      (met.is n role x small (small_bools chooser.at.off other.small) other.near here ∙ other.apart))
-      (ends.is n role x other.near other.small ∙ other.else_where);
-}
-  where
-    in_left : (n : ℤ) (role : ℕ) (x : ℤ) → have new n role x ≡ true → have left n role x ≡ true
-    in_left n role x h = taken (have new n role x) (have left n role x) (has end n role x) (two n role x) h
-
-    inside : (n : ℤ) (role : ℕ) (x : ℤ) → have new n role x ≡ true → has a n role x ≡ true
-    inside n role x h = sym (is n role x) ∙ taken (have left n role x) (have all n role x) (has same n role x) (one n role x) (in_left n role x h)
-
--- those of the areas before place i
-pub record StrangersSoFar (chooser : CoreEnd) (s : Source) (areas : List Area) (i : ℕ) (list : List Area) : Type 0 where
-  pub only : (n : ℤ) (role : ℕ) (x : ℤ) → have list n role x ≡ true → have areas n role x ≡ true
-  pub apart : (n : ℤ) (role : ℕ) (x : ℤ) → pos 0 ≤ℤ n → is_small chooser.at.off ≡ true → is_small_off s.at.off ≡ true → have list n role x ≡ true → agrees s (source_at chooser) n x ≡ false
-  pub else_where : (n : ℤ) (role : ℕ) (x : ℤ) → pos 0 ≤ℤ n → is_small chooser.at.off ≡ true → have list n role x ≡ true → is_at chooser n (pos 0) role x ≡ false
-  pub rest : (n : ℤ) (role : ℕ) (x : ℤ) → IsOther chooser s n role x → is_small_off s.at.off ≡ true → have areas n role x ≡ true → (have list n role x ≡ true) ⊎ (have (drop i areas) n role x ≡ true)
-
-pub strangers_start : (chooser : CoreEnd) (s : Source) (areas list : List Area) → list ≡ [] → StrangersSoFar chooser s areas 0 list
-strangers_start chooser s areas list e = subst (StrangersSoFar chooser s areas 0) (sym e) (record {
-  only = λ n role x h. absurd (false≢true h);
-  apart = λ n role x near small small_s h. absurd (false≢true h);
-  else_where = λ n role x near small h. absurd (false≢true h);
-  rest = λ n role x other small h. inr h;
-})
-
-have_at : (areas : List Area) (i : ℕ) (d : Area) (n : ℤ) (role : ℕ) (x : ℤ) → i < length areas → has (get_or areas i d) n role x ≡ true → have areas n role x ≡ true
-have_at [] i d n role x lt h = absurd (no_place i lt)
-have_at (a ∷ areas) zero d n role x lt h = or_left (has a n role x) (have areas n role x) h
-have_at (a ∷ areas) (suc i) d n role x lt h = or_right (has a n role x) (have areas n role x) (have_at areas i d n role x (omega (arith, lt)) h)
-
-pub strangers_step : (chooser : CoreEnd) (s : Source) (areas : List Area) (i : ℕ) (d : Area) (old more new : List Area) → i < length areas → AreStrangers chooser s (get_or areas i d ∷ []) more →
-    ((n : ℤ) (role : ℕ) (x : ℤ) → have new n role x ≡ have old n role x || have more n role x) → StrangersSoFar chooser s areas i old → StrangersSoFar chooser s areas (i + 1) new
-strangers_step chooser s areas i d old more new lt one is h =
-    let a : Area = get_or areas i d in
-    record {
-      only = λ n role x k. elim (either (have new n role x) (have old n role x) (have more n role x) (is n role x) k) [
-        | inl y ↦ h.only n role x y
-        | inr y ↦ have_at areas i d n role x lt (sym (alone_has a n role x) ∙ one.only n role x y)
-      ];
-      apart = λ n role x near small small_s k. elim (either (have new n role x) (have old n role x) (have more n role x) (is n role x) k) [
-        | inl y ↦ h.apart n role x near small small_s y
-        | inr y ↦ one.apart n role x near small small_s y
-      ];
-      else_where = λ n role x near small k. elim (either (have new n role x) (have old n role x) (have more n role x) (is n role x) k) [
-        | inl y ↦ h.else_where n role x near small y
-        | inr y ↦ one.else_where n role x near small y
-      ];
-      rest = λ n role x other small k. elim (h.rest n role x other small k) [
-        | inl y ↦ inl (joined_left (have new n role x) (have old n role x) (have more n role x) (is n role x) y)
-        | inr y ↦ elim (or_cases (has a n role x) (have (drop (i + 1) areas) n role x) (ap (λ z. have z n role x) (sym (drop_more areas i d lt)) ∙ y)) [
-          | inl z ↦ inl (joined_right (have new n role x) (have old n role x) (have more n role x) (is n role x) (one.rest n role x other small (alone_has a n role x ∙ z)))
-          | inr z ↦ inr z
-        ]
-      ];
-    }
-
-pub strangers_end : (chooser : CoreEnd) (s : Source) (areas : List Area) (i : ℕ) (list : List Area) → length areas ≤ i → StrangersSoFar chooser s areas i list → AreStrangers chooser s areas list
-strangers_end chooser s areas i list le h = record {
-  only = h.only;
-  apart = h.apart;
-  else_where = h.else_where;
-  rest = λ n role x other small k. elim (h.rest n role x other small k) [
-    | inl y ↦ y
-    | inr y ↦ absurd (false≢true (ap (λ z. have z n role x) (sym (drop_of_length-le areas le)) ∙ y))
-  ];
-}
-
 -- ---- the sources of entries
 
 listed_push : (list : List Source) (t s : Source) → is_listed s (list ++ t ∷ []) ≡ is_listed s list || same_source s t
@@ -309,32 +220,6 @@ listed_there list new t e = ap (is_listed t) e ∙ listed_push list t t ∙ or_r
 
 pub listed_from : (s t : Source) (list : List Source) → same_source s t ≡ true → is_listed t list ≡ true → is_listed s list ≡ true
 listed_from s t list h k = subst (λ z. is_listed z list ≡ true) (sym (source_is s t h)) k
-
-left_false : (a b : Bool) → a || b ≡ false → a ≡ false
-left_false true b h = absurd (true≢false h)
-left_false false b h = refl
-
-right_false : (a b : Bool) → a || b ≡ false → b ≡ false
-right_false true b h = absurd (true≢false h)
-right_false false b h = h
-
-differs : (u t : Source) → same_source t u ≡ false → same_source u t ≡ false
-differs u t h = pick (same_source u t) refl
-  where
-    pick : (v : Bool) → v ≡ same_source u t → same_source u t ≡ false
-    pick true e = absurd (true≢false (sym (source_self t) ∙ sym (ap (same_source t) (source_is u t (sym e))) ∙ h))
-    pick false e = sym e
-
-once_push : (list : List Source) (t : Source) → is_listed t list ≡ false → are_once list ≡ true → are_once (list ++ t ∷ []) ≡ true
-once_push [] t h k = refl
-once_push (u ∷ list) t h k =
-    let parts = and_parts (not (is_listed u list)) (are_once list) k in
-    let apart = differs u t (left_false (same_source t u) (is_listed t list) h) in
-    and_from (not (is_listed u (list ++ t ∷ []))) (are_once (list ++ t ∷ []))
-    (ap not (listed_push list t u ∙ ap (λ z. is_listed u list || z) apart ∙ or-false (is_listed u list)) ∙ parts.0) (once_push list t (right_false (same_source t u) (is_listed t list) h) parts.1)
-
-pub once_pushed : (list new : List Source) (t : Source) → new ≡ list ++ t ∷ [] → is_listed t list ≡ false → are_once list ≡ true → are_once new ≡ true
-once_pushed list new t e h k = ap are_once e ∙ once_push list t h k
 
 -- the sources of the entries up to a place are there
 abbrev pub ListedSoFar : List Entry → ℕ → List Source → Type 0

@@ -1,5 +1,5 @@
 -- Relays, and the one rank from which each rank hears first.
-use Rattle.std.proofs.Common.{◌≡◌, ◌<◌, ◌≤◌, ◌+◌, ◌≤ℤ◌, inl, inr, ◌⊎◌, ℕ, zero, suc, ◌==◌, ℤ, pos, negsuc, Bool, true, false, not, ◌&&◌, ◌||◌, nat_eq, int_le, if◌then◌else◌, List, [], ◌∷◌, ◌++◌, drop, get_or, length, refl, sym, ap, ◌∙◌, subst, arith}
+use Rattle.std.proofs.Common.{◌≡◌, ◌<◌, ◌≤◌, ◌+◌, ◌≤ℤ◌, inl, inr, ◌⊎◌, ℕ, zero, suc, ◌==◌, ℤ, pos, negsuc, Bool, true, false, ◌&&◌, ◌||◌, nat_eq, int_le, if◌then◌else◌, List, [], ◌∷◌, ◌++◌, drop, get_or, length, refl, sym, ap, ◌∙◌, subst, arith}
 use Rattle.std.specs.List.{All, list_any}
 use Rattle.std.specs.Ordering.{int_eq}
 use Rattle.std.proofs.lemmas.List.Elements.{All-nil, All-push, All-head, All-tail}
@@ -45,15 +45,14 @@ use Rattle.pb_local.specs.Computed as C
 use Rattle.pb_local.specs.Tree.{Program}
 use Rattle.pb_local.specs.WellMade.{IsRange, IsGuard, IsRelay}
 use Rattle.pb_project_piece.specs.Ranked.{Ranked}
-use Rattle.pb_project_piece.proofs.Ones.{from_zero}
 use Rattle.pb_project_piece.specs.Standing.{Stands, IsOpen}
 use Rattle.pb_shape.specs.Places.{Scope, Here, peer_of}
 use Rattle.pb_shape.specs.Loops.{Around}
 use Rattle.pb_shape.specs.Choices.{Tests, Relays, is_told, teller}
 use Rattle.pb_project_choice.specs.declared.entries.Branch.{Branch}
 use Rattle.pb_project_choice.specs.Found.{entries_at, all_entries, IsFoundIn}
-use Rattle.pb_project_choice.specs.Heard.{IsOther, IsHeard, AreStrangers}
-use Rattle.pb_project_choice.specs.Relayed.{relayed, is_apart, IsRight, AreOfRoles, AreFit, HaveCallers, HearSuch, IsRelayed, AreRelayed}
+use Rattle.pb_project_choice.specs.Heard.{IsOther, IsHeard}
+use Rattle.pb_project_choice.specs.Relayed.{relayed, IsRight, AreOfRoles, AreFit, HaveCallers, HearSuch, IsRelayed, AreRelayed}
 use Rattle.pb_project_choice.specs.Tested.{HasHolder}
 use Rattle.pb_project_choice.specs.Sayable.{AreSayable}
 use Rattle.pb_project_choice.specs.Sources.{OneSource, same_source, is_from, is_listed, hears, source_at}
@@ -91,16 +90,11 @@ heard_small s (e ∷ es) n role x small h =
 sayable_of : (range : NRange) (chooser : CoreEnd) (s : Source) (es : List Entry) (areas : List Area) → IsHeard chooser s es areas → AreFit range es → AreSayable range areas
 sayable_of range chooser s es areas it fit = it.sayable range fit.cuts fit.are_cuts fit.fit
 
-neither : (a b : Bool) → a ≡ false → b ≡ false → not (a || b) ≡ true
-neither a b h k = grind (arith, h, k)
-
-pub relay_there : (range : NRange) (roles : ℕ) (whole areas strangers : List Area) (chooser : CoreEnd) (es : List Entry) (s : Source) (old new : List Relay) (gs : List Guard) → IsHeard chooser s es areas → AreStrangers chooser s areas strangers → Ranked range whole strangers →
+pub relay_there : (range : NRange) (roles : ℕ) (whole areas : List Area) (chooser : CoreEnd) (es : List Entry) (s : Source) (old new : List Relay) (gs : List Guard) → IsHeard chooser s es areas → Ranked range whole areas →
     Says range roles areas gs → ((p : Program) → length p.roles ≡ roles → All (IsGuard p) gs) → new ≡ old ++ (record { guards = gs; from = record { role = s.role; at = s.at } }) ∷ [] →
     IsRelayed range roles whole chooser es s old new
-relay_there range roles whole areas strangers chooser es s old new gs it apart there says guards e =
+relay_there range roles whole areas chooser es s old new gs it there says guards e =
     let r : Relay = record { guards = gs; from = record { role = s.role; at = s.at } } in
-    let in_areas : have areas there.n there.role there.index ≡ true = apart.only there.n there.role there.index there.there in
-    let heard : hears s es there.n there.role there.index ≡ true = it.only there.n there.role there.index in_areas in
     record {
       kept = λ n role x h. ap (λ z. relayed z n role x) e ∙ relayed_append old r n role x ∙ or_left (relayed old n role x) (hold gs n x role x) h;
       rest = λ sc st range_is fit n role x within is other h.
@@ -110,35 +104,33 @@ relay_there range roles whole areas strangers chooser es s old new gs it apart t
           (λ n role x within is held. it.only n role x (sym (says sc.roles n x role x (sym st.roles_is) range_is (sayable_of range chooser s es areas it fit) within is) ∙ held)));
       each = λ p sc st range_is fit known same all.
           let is_one = rank_there range roles whole sc there.n there.role there.index st there.within there.rank in
-          let held : hold gs there.n (pos 0) there.role there.index ≡ true = says sc.roles there.n (pos 0) there.role there.index (sym st.roles_is) range_is (sayable_of range chooser s es areas it fit) there.within is_one ∙ in_areas in
+          let heard : hears s es there.n there.role there.index ≡ true = it.only there.n there.role there.index there.there in
+          let held : hold gs there.n (pos 0) there.role there.index ≡ true = says sc.roles there.n (pos 0) there.role there.index (sym st.roles_is) range_is (sayable_of range chooser s es areas it fit) there.within is_one ∙ there.there in
           subst (All (IsRelay p)) (sym e) (All-push (IsRelay p) old r all (record {
             guards = record { some = some_guard gs there.n (pos 0) there.role there.index held; each = guards p same };
             from = record { role = subst (λ z. s.role < z) (sym same) (known there.n there.role there.index s there.within is_one heard); off = small_off s.at.off (heard_small s es there.n there.role there.index fit.small heard) };
           }));
-      called = λ such sc st range_is small fit hear all.
+      called = λ such sc st range_is fit hear all.
           let is_one = rank_there range roles whole sc there.n there.role there.index st there.within there.rank in
-          let other : agrees s (source_at chooser) there.n there.index ≡ false = apart.apart there.n there.role there.index (from_zero range there.n there.within) small (heard_small s es there.n there.role there.index fit.small heard) there.there in
-          let else_where = apart.else_where there.n there.role there.index (from_zero range there.n there.within) small there.there in
-          subst (HaveCallers range sc.roles such chooser) (sym e) (All-push (λ q. HasHolder range sc.roles (λ n role x. such n role x && is_apart q chooser n role x) q.guards) old r all (record {
+          subst (HaveCallers range sc.roles such) (sym e) (All-push (λ q. HasHolder range sc.roles such q.guards) old r all (record {
             n = there.n;
             role = there.role;
             index = there.index;
             within = there.within;
             rank = is_one;
-            is = and_from _ _ (hear s there.n there.role there.index there.within is_one heard) (neither _ _ other else_where);
-            holds = λ i. says sc.roles there.n i there.role there.index (sym st.roles_is) range_is (sayable_of range chooser s es areas it fit) there.within is_one ∙ in_areas;
+            is = hear s there.n there.role there.index there.within is_one (it.only there.n there.role there.index there.there);
+            holds = λ i. says sc.roles there.n i there.role there.index (sym st.roles_is) range_is (sayable_of range chooser s es areas it fit) there.within is_one ∙ there.there;
           }));
     }
 
-pub relay_gone : (range : NRange) (roles : ℕ) (whole areas strangers : List Area) (chooser : CoreEnd) (es : List Entry) (s : Source) (old : List Relay) → IsHeard chooser s es areas → AreStrangers chooser s areas strangers →
-    ((n : ℤ) (role : ℕ) (x : ℤ) → IsIn range n → have whole n role x ≡ true → have strangers n role x ≡ false) → IsRelayed range roles whole chooser es s old old
-relay_gone range roles whole areas strangers chooser es s old it apart none = record {
+pub relay_gone : (range : NRange) (roles : ℕ) (whole areas : List Area) (chooser : CoreEnd) (es : List Entry) (s : Source) (old : List Relay) → IsHeard chooser s es areas →
+    ((n : ℤ) (role : ℕ) (x : ℤ) → IsIn range n → have whole n role x ≡ true → have areas n role x ≡ false) → IsRelayed range roles whole chooser es s old old
+relay_gone range roles whole areas chooser es s old it none = record {
   kept = λ n role x h. h;
-  rest = λ sc st range_is fit n role x within is other h.
-      absurd (true≢false (sym (apart.rest n role x other (heard_small s es n role x fit.small h) (it.rest n role x other fit.small h)) ∙ none n role x within (st.whole_is.is n role x within ∙ is)));
+  rest = λ sc st range_is fit n role x within is other h. absurd (true≢false (sym (it.rest n role x other fit.small h) ∙ none n role x within (st.whole_is.is n role x within ∙ is)));
   right = λ sc st range_is fit all. all;
   each = λ p sc st range_is fit known same all. all;
-  called = λ such sc st range_is small fit hear all. all;
+  called = λ such sc st range_is fit hear all. all;
 }
 
 -- ---- all relays
@@ -148,14 +140,14 @@ pub record RelayedSoFar (range : NRange) (roles : ℕ) (whole : List Area) (choo
       IsOther chooser s n role x → hears s es n role x ≡ true → (relayed rs n role x ≡ true) ⊎ (is_listed s (drop i sources) ≡ true)
   pub right : (sc : Scope) → Stands range roles whole sc → IsRange range → AreFit range es → All (IsRight range sc.roles es) rs
   pub each : (p : Program) (sc : Scope) → Stands range roles whole sc → IsRange range → AreFit range es → AreOfRoles range sc.roles es roles → length p.roles ≡ roles → All (IsRelay p) rs
-  pub called : (such : ℤ → ℕ → ℤ → Bool) (sc : Scope) → Stands range roles whole sc → IsRange range → is_small chooser.at.off ≡ true → AreFit range es → HearSuch range sc.roles such es → HaveCallers range sc.roles such chooser rs
+  pub called : (such : ℤ → ℕ → ℤ → Bool) (sc : Scope) → Stands range roles whole sc → IsRange range → AreFit range es → HearSuch range sc.roles such es → HaveCallers range sc.roles such rs
 
 pub relayed_start : (range : NRange) (roles : ℕ) (whole : List Area) (chooser : CoreEnd) (es : List Entry) (sources : List Source) (rs : List Relay) → rs ≡ [] → RelayedSoFar range roles whole chooser es sources 0 rs
 relayed_start range roles whole chooser es sources rs e = subst (RelayedSoFar range roles whole chooser es sources 0) (sym e) (record {
   rest = λ sc st range_is fit s listed n role x within is other h. inr listed;
   right = λ sc st range_is fit. All-nil (IsRight range sc.roles es);
   each = λ p sc st range_is fit known same. All-nil (IsRelay p);
-  called = λ such sc st range_is small fit hear. All-nil (λ q. HasHolder range sc.roles (λ n role x. such n role x && is_apart q chooser n role x) q.guards);
+  called = λ such sc st range_is fit hear. All-nil (λ q. HasHolder range sc.roles such q.guards);
 })
 
 pub relayed_step : (range : NRange) (roles : ℕ) (whole : List Area) (chooser : CoreEnd) (es : List Entry) (sources : List Source) (i : ℕ) (d : Source) (old new : List Relay) → i < length sources →
@@ -173,7 +165,7 @@ relayed_step range roles whole chooser es sources i d old new lt one h =
       ];
       right = λ sc st range_is fit. one.right sc st range_is fit (h.right sc st range_is fit);
       each = λ p sc st range_is fit known same. one.each p sc st range_is fit known same (h.each p sc st range_is fit known same);
-      called = λ such sc st range_is small fit hear. one.called such sc st range_is small fit hear (h.called such sc st range_is small fit hear);
+      called = λ such sc st range_is fit hear. one.called such sc st range_is fit hear (h.called such sc st range_is fit hear);
     }
 
 pub relayed_end : (range : NRange) (roles : ℕ) (whole : List Area) (chooser : CoreEnd) (es : List Entry) (sources : List Source) (i : ℕ) (rs : List Relay) → length sources ≤ i →
@@ -418,8 +410,8 @@ module _ (sc : Scope) (a : Around) (at : CoreEnd) (bs : BranchTrees) (found : Li
       told f.0 f.1 n role x within is ((label_is os f.1).1 (rank sc.roles n s.role (value s.at n x), f.2))
 
   pub relays_hold : (roles : ℕ) (whole : List Area) (sources : List Source) (rs : List Relay) → Stands sc.range roles whole sc → IsRange sc.range → AreRelayed sc.range roles whole at (all_entries found) sources rs →
-      is_small at.at.off ≡ true → (such : ℤ → ℕ → ℤ → Bool) → Told such → HaveCallers sc.range sc.roles such at rs
-  relays_hold roles whole sources rs st range_is are small such told = are.called such sc st range_is small (are_fit sc.range sc a bs found refl h) (heard_such such told)
+      (such : ℤ → ℕ → ℤ → Bool) → Told such → HaveCallers sc.range sc.roles such rs
+  relays_hold roles whole sources rs st range_is are such told = are.called such sc st range_is (are_fit sc.range sc a bs found refl h) (heard_such such told)
 
 -- nobody is told where there are no tests
 pub no_tests : (sc : Scope) (h : Here) (a : Around) (at : CoreEnd) (bs : BranchTrees) (tests : List Test) (rs : List Relay) → IsOpen h → Tests sc h a bs tests → tests ≡ [] → Relays sc a at bs rs
@@ -444,9 +436,9 @@ relays_each range roles whole sc a at bs found es sources rs p st range_is h one
     st range_is (subst (λ z. AreRelayed range roles whole at z sources rs) same are)
 
 pub relays_called : (range : NRange) (roles : ℕ) (whole : List Area) (sc : Scope) (a : Around) (at : CoreEnd) (bs : BranchTrees) (found : List Branch) (es : List Entry) (sources : List Source) (rs : List Relay) (such : ℤ → ℕ → ℤ → Bool) →
-    Stands range roles whole sc → IsRange range → is_small at.at.off ≡ true → IsFoundIn sc a bs found → OneSource sc a at bs → es ≡ all_entries found → AreRelayed range roles whole at es sources rs →
-    ((k l : ℕ) (n : ℤ) (role : ℕ) (x : ℤ) → IsIn sc.range n → is_rank sc.roles n role x ≡ true → is_told sc a bs k l n (pos 0) role x ≡ true → such n role x ≡ true) → HaveCallers range sc.roles such at rs
-relays_called range roles whole sc a at bs found es sources rs such st range_is small h one same are told =
-    subst (λ r. Stands r roles whole sc → IsRange r → AreRelayed r roles whole at (all_entries found) sources rs → HaveCallers r sc.roles such at rs) st.range_is
-    (λ st range_is are. relays_hold sc a at bs found h one roles whole sources rs st range_is are small such told)
+    Stands range roles whole sc → IsRange range → IsFoundIn sc a bs found → OneSource sc a at bs → es ≡ all_entries found → AreRelayed range roles whole at es sources rs →
+    ((k l : ℕ) (n : ℤ) (role : ℕ) (x : ℤ) → IsIn sc.range n → is_rank sc.roles n role x ≡ true → is_told sc a bs k l n (pos 0) role x ≡ true → such n role x ≡ true) → HaveCallers range sc.roles such rs
+relays_called range roles whole sc a at bs found es sources rs such st range_is h one same are told =
+    subst (λ r. Stands r roles whole sc → IsRange r → AreRelayed r roles whole at (all_entries found) sources rs → HaveCallers r sc.roles such rs) st.range_is
+    (λ st range_is are. relays_hold sc a at bs found h one roles whole sources rs st range_is are such told)
     st range_is (subst (λ z. AreRelayed range roles whole at z sources rs) same are)

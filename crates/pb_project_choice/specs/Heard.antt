@@ -37,13 +37,6 @@ pub record AreOthers (chooser : CoreEnd) (a : Area) (s : Source) (new : List Are
   pub rest : (n : ℤ) (role : ℕ) (x : ℤ) → IsOther chooser s n role x → is_small_off s.at.off ≡ true → has a n role x ≡ true → have new n role x ≡ true
   pub sayable : (range : NRange) (cuts : List Lin) → All IsCut cuts → Fits range cuts a → AreSayable range new
 
--- the new areas are of the ranks of the old ones, but the chooser and those for which the source is the chooser
-pub record AreStrangers (chooser : CoreEnd) (s : Source) (areas new : List Area) : Type 0 where
-  pub only : (n : ℤ) (role : ℕ) (x : ℤ) → have new n role x ≡ true → have areas n role x ≡ true
-  pub apart : (n : ℤ) (role : ℕ) (x : ℤ) → pos 0 ≤ℤ n → is_small chooser.at.off ≡ true → is_small_off s.at.off ≡ true → have new n role x ≡ true → agrees s (source_at chooser) n x ≡ false
-  pub else_where : (n : ℤ) (role : ℕ) (x : ℤ) → pos 0 ≤ℤ n → is_small chooser.at.off ≡ true → have new n role x ≡ true → is_at chooser n (pos 0) role x ≡ false
-  pub rest : (n : ℤ) (role : ℕ) (x : ℤ) → IsOther chooser s n role x → is_small_off s.at.off ≡ true → have areas n role x ≡ true → have new n role x ≡ true
-
 -- those of an entry are added, if it is of the source
 pub record AddsHeard (chooser : CoreEnd) (s : Source) (e : Entry) (old new : List Area) : Type 0 where
   pub only : (n : ℤ) (role : ℕ) (x : ℤ) → have new n role x ≡ true → (have old n role x ≡ true) ⊎ (is_from s e.kind && has e.area n role x ≡ true)

@@ -1,28 +1,26 @@
 -- Relays that are added for sources.
-use Rattle.std.specs.Prelude.{◌≡◌, ◌<◌, ℕ, ℤ, pos, Bool, true, ◌&&◌, ◌||◌, not, List, length}
+use Rattle.std.specs.Prelude.{◌≡◌, ◌<◌, ℕ, ℤ, Bool, true, List, length}
 use Rattle.std.specs.List.{All, list_any}
 use Rattle.pb_affine.specs.declared.lin.Lin.{Lin}
 use Rattle.pb_affine.specs.declared.range.NRange.{NRange}
 use Rattle.pb_affine.specs.Values.{hold}
 use Rattle.pb_part_areas.specs.declared.area.Area.{Area}
 use Rattle.pb_cases.specs.Breakpoints.{IsCut}
-use Rattle.pb_choice.specs.Clashes.{agrees}
 use Rattle.pb_core_language.specs.declared.protocol.CoreRole.{CoreRole}
 use Rattle.pb_core_language.specs.declared.tree.CoreEnd.{CoreEnd}
-use Rattle.pb_core_language.specs.Sound.{is_small}
 use Rattle.pb_core_language.specs.Verdict.{IsIn}
 use Rattle.pb_part_firsts.specs.declared.firsts.Entry.{Entry}
 use Rattle.pb_part_firsts.specs.declared.firsts.Source.{Source}
 use Rattle.pb_part_firsts.specs.Firsts.{are_small}
 use Rattle.pb_part_firsts.specs.Fitting.{EntriesFit}
-use Rattle.pb_core_flat.specs.Seated.{is_rank, is_at}
+use Rattle.pb_core_flat.specs.Seated.{is_rank}
 use Rattle.pb_local.specs.declared.stmt.Relay.{Relay}
 use Rattle.pb_local.specs.Tree.{Program}
 use Rattle.pb_local.specs.WellMade.{IsRange, IsRelay}
 use Rattle.pb_project_piece.specs.Standing.{Stands}
 use Rattle.pb_shape.specs.Places.{Scope}
 use Rattle.pb_project_choice.specs.Heard.{IsOther}
-use Rattle.pb_project_choice.specs.Sources.{is_listed, hears, source_at}
+use Rattle.pb_project_choice.specs.Sources.{is_listed, hears}
 use Rattle.pb_project_choice.specs.Tested.{HasHolder}
 
 -- the guards of some relay hold of the rank, with its own index for the variable
@@ -44,13 +42,9 @@ pub record AreFit (range : NRange) (es : List Entry) : Type 0 where
   pub are_cuts : All IsCut cuts
   pub fit : EntriesFit range cuts es
 
--- the source of a relay isn't the chooser, and the rank isn't either
-abbrev pub is_apart : Relay → CoreEnd → ℤ → ℕ → ℤ → Bool
-is_apart r chooser n role x = not (agrees (record { role = r.from.role; at = r.from.at }) (source_at chooser) n x || is_at chooser n (pos 0) role x)
-
--- each relay holds of such a rank other than the chooser, for which it doesn't name the chooser
-abbrev pub HaveCallers : NRange → List CoreRole → (ℤ → ℕ → ℤ → Bool) → CoreEnd → List Relay → Type 0
-HaveCallers range roles such chooser relays = All (λ r. HasHolder range roles (λ n role x. such n role x && is_apart r chooser n role x) r.guards) relays
+-- each relay holds of such a rank
+abbrev pub HaveCallers : NRange → List CoreRole → (ℤ → ℕ → ℤ → Bool) → List Relay → Type 0
+HaveCallers range roles such relays = All (λ r. HasHolder range roles such r.guards) relays
 
 -- whoever of these entries hears is such a rank
 abbrev pub HearSuch : NRange → List CoreRole → (ℤ → ℕ → ℤ → Bool) → List Entry → Type 0
@@ -63,7 +57,7 @@ pub record IsRelayed (range : NRange) (roles : ℕ) (whole : List Area) (chooser
       hears s es n role x ≡ true → relayed new n role x ≡ true
   pub right : (sc : Scope) → Stands range roles whole sc → IsRange range → AreFit range es → All (IsRight range sc.roles es) old → All (IsRight range sc.roles es) new
   pub each : (p : Program) (sc : Scope) → Stands range roles whole sc → IsRange range → AreFit range es → AreOfRoles range sc.roles es roles → length p.roles ≡ roles → All (IsRelay p) old → All (IsRelay p) new
-  pub called : (such : ℤ → ℕ → ℤ → Bool) (sc : Scope) → Stands range roles whole sc → IsRange range → is_small chooser.at.off ≡ true → AreFit range es → HearSuch range sc.roles such es → HaveCallers range sc.roles such chooser old → HaveCallers range sc.roles such chooser new
+  pub called : (such : ℤ → ℕ → ℤ → Bool) (sc : Scope) → Stands range roles whole sc → IsRange range → AreFit range es → HearSuch range sc.roles such es → HaveCallers range sc.roles such old → HaveCallers range sc.roles such new
 
 -- of all sources
 pub record AreRelayed (range : NRange) (roles : ℕ) (whole : List Area) (chooser : CoreEnd) (es : List Entry) (sources : List Source) (new : List Relay) : Type 0 where
@@ -71,4 +65,4 @@ pub record AreRelayed (range : NRange) (roles : ℕ) (whole : List Area) (choose
       IsOther chooser s n role x → hears s es n role x ≡ true → relayed new n role x ≡ true
   pub right : (sc : Scope) → Stands range roles whole sc → IsRange range → AreFit range es → All (IsRight range sc.roles es) new
   pub each : (p : Program) (sc : Scope) → Stands range roles whole sc → IsRange range → AreFit range es → AreOfRoles range sc.roles es roles → length p.roles ≡ roles → All (IsRelay p) new
-  pub called : (such : ℤ → ℕ → ℤ → Bool) (sc : Scope) → Stands range roles whole sc → IsRange range → is_small chooser.at.off ≡ true → AreFit range es → HearSuch range sc.roles such es → HaveCallers range sc.roles such chooser new
+  pub called : (such : ℤ → ℕ → ℤ → Bool) (sc : Scope) → Stands range roles whole sc → IsRange range → AreFit range es → HearSuch range sc.roles such es → HaveCallers range sc.roles such new

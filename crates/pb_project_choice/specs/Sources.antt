@@ -1,5 +1,5 @@
 -- From whom the ranks hear of a choice.
-use Rattle.std.specs.Prelude.{◌≡◌, ℕ, ℤ, pos, Bool, true, false, ◌&&◌, not, nat_eq, List, [], ◌∷◌}
+use Rattle.std.specs.Prelude.{◌≡◌, ℕ, ℤ, pos, Bool, true, false, ◌&&◌, nat_eq, List, []}
 use Rattle.std.specs.List.{list_any}
 use Rattle.std.specs.Ordering.{int_eq}
 use Rattle.pb_part_areas.specs.Areas.{has}
@@ -38,11 +38,6 @@ is_from s Again = false
 
 abbrev pub is_listed : Source → List Source → Bool
 is_listed s list = list_any (same_source s) list
-
--- no source is twice in the list
-abbrev pub are_once : List Source → Bool
-are_once [] = true
-are_once (s ∷ list) = not (is_listed s list) && are_once list
 
 -- the rank may receive first from this source
 abbrev pub hears : Source → List Entry → ℤ → ℕ → ℤ → Bool

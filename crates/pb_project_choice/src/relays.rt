@@ -1,4 +1,4 @@
-ghost use Rattle.std.specs.Prelude.{◌≡◌, ◌≤◌, ◌++◌, ℕ, ℤ, pos, Bool, length, List, [], ◌∷◌, true, IfOk, OnOk, IfSome};
+ghost use Rattle.std.specs.Prelude.{◌≡◌, ◌≤◌, ◌++◌, ℕ, ℤ, pos, Bool, length, List, [], true, IfOk, OnOk, IfSome};
 ghost use Rattle.std.specs.List.{All, list_any};
 ghost use Rattle.pb_choice.specs.Clashes.{same_base};
 ghost use Rattle.pb_core_language.specs.Sound.{is_small};
@@ -13,8 +13,8 @@ ghost use Rattle.pb_shape.specs.Loops.{Around};
 ghost use Rattle.pb_shape.specs.Choices.{Tests, Relays, is_told};
 ghost use Rattle.pb_project_choice.specs.Found.{IsFoundIn, all_entries};
 ghost use Rattle.pb_project_choice.specs.Sayable.{IsPlainLin, IsSayable};
-ghost use Rattle.pb_project_choice.specs.Sources.{OneSource, same_source, source_at, is_from, is_listed, are_once};
-ghost use Rattle.pb_project_choice.specs.Heard.{IsCutOut, AreOthers, AreStrangers, AddsHeard, IsHeard};
+ghost use Rattle.pb_project_choice.specs.Sources.{OneSource, same_source, is_from, is_listed};
+ghost use Rattle.pb_project_choice.specs.Heard.{IsCutOut, AreOthers, AddsHeard, IsHeard};
 ghost use Rattle.pb_project_choice.specs.Relayed.{HaveCallers, IsRelayed, AreRelayed};
 
 use crate::entries::Branch;
@@ -78,11 +78,9 @@ fn is_there(list: &[Source], source: Source) -> bool
     false
 }
 
-#[tactic(auto, using(crate::proofs::Hearing::once_pushed))]
 fn add_source(list: &mut Vec<Source>, source: Source) -> Result<(), NoMemory>
     ensures kept { OnOk result ((s : Source) → is_listed s list.old.items ≡ true → is_listed s list.new.items ≡ true) }
     ensures there { OnOk result (is_listed source list.new.items ≡ true) }
-    ensures once { OnOk result (are_once list.old.items ≡ true → are_once list.new.items ≡ true) }
 {
     if !is_there(list, source) {
         list.push(source)?;
@@ -93,7 +91,6 @@ fn add_source(list: &mut Vec<Source>, source: Source) -> Result<(), NoMemory>
 fn add_source_of(list: &mut Vec<Source>, entry: Entry) -> Result<(), NoMemory>
     ensures kept { OnOk result ((s : Source) → is_listed s list.old.items ≡ true → is_listed s list.new.items ≡ true) }
     ensures there { OnOk result ((s : Source) → is_from s entry.kind ≡ true → is_listed s list.new.items ≡ true) }
-    ensures once { OnOk result (are_once list.old.items ≡ true → are_once list.new.items ≡ true) }
 {
     match entry.kind {
         Kind::Receive { from, .. } => add_source(list, from),
@@ -104,8 +101,7 @@ fn add_source_of(list: &mut Vec<Source>, entry: Entry) -> Result<(), NoMemory>
 
 /// The sources of the receives, each once.
 fn sources_of(alloc: Global, entries: &[Entry]) -> Result<Vec<Source>, NoMemory>
-    ensures there { IfOk result (λ v. (s : Source) → list_any (λ e. is_from s e.kind) entries.now ≡ true → is_listed s v.items ≡ true) }
-    ensures once { IfOk result (λ v. are_once v.items ≡ true) }
+    ensures { IfOk result (λ v. (s : Source) → list_any (λ e. is_from s e.kind) entries.now ≡ true → is_listed s v.items ≡ true) }
 {
     let mut list = Vec::new(alloc);
     for entry in entries {
@@ -165,16 +161,7 @@ fn cut_out(alloc: Global, list: Vec<Area>, area: Area) -> Result<Vec<Area>, NoMe
     }
 }
 
-fn source_at(chooser: CoreEnd) -> Source
-    ensures { result ≡ source_at chooser }
-{
-    Source {
-        role: chooser.role,
-        at: chooser.at,
-    }
-}
-
-/// The ranks of the area, but the chooser and those for which the source is the chooser, as far as guards can say that.
+/// The ranks of the area, but the chooser and those for which the source is the chooser.
 fn others(
     alloc: Global,
     chooser: CoreEnd,
@@ -183,7 +170,10 @@ fn others(
 ) -> Result<Vec<Area>, NoMemory>
     ensures { IfOk result (λ v. AreOthers chooser area source v.items) }
 {
-    let from = source_at(chooser);
+    let from = Source {
+        role: chooser.role,
+        at: chooser.at,
+    };
     let all = one(alloc, area)?;
     let left = cut_out(alloc, all, agreement(area, source, from))?;
     let rest = cut_out(alloc, left, end_area(chooser))?;
@@ -233,40 +223,7 @@ fn heard_from(
     Ok(areas)
 }
 
-/// The ranks of the area, but the chooser and those for which the source is the chooser, be there guards for them or not.
-fn strangers_of(
-    alloc: Global,
-    chooser: CoreEnd,
-    area: Area,
-    source: Source,
-) -> Result<Vec<Area>, NoMemory>
-    ensures { IfOk result (λ v. AreStrangers chooser source (area ∷ []) v.items) }
-{
-    let from = source_at(chooser);
-    let all = one(alloc, area)?;
-    let left = without(alloc, all, &[agreement(area, source, from)])?;
-    let rest = without(alloc, left, &[end_area(chooser)])?;
-    Ok(rest)
-}
-
-/// Those of all the areas.
-fn strangers(
-    alloc: Global,
-    chooser: CoreEnd,
-    areas: &[Area],
-    source: Source,
-) -> Result<Vec<Area>, NoMemory>
-    ensures { IfOk result (λ v. AreStrangers chooser source areas.now v.items) }
-{
-    let mut list = Vec::new(alloc);
-    for area in areas {
-        let more = strangers_of(alloc, chooser, *area, source)?;
-        absorb(alloc, &mut list, &more)?;
-    }
-    Ok(list)
-}
-
-/// Adds the relay of a source, unless the source is the chooser for each rank of which it would hold.
+/// Adds the relay of a source, unless it would hold of nobody.
 fn put_relay(
     alloc: Global,
     setting: &Setting,
@@ -278,8 +235,7 @@ fn put_relay(
     ensures { OnOk result (IsRelayed setting.now.range setting.now.roles setting.now.whole.now chooser entries.now source relays.old.items relays.new.items) }
 {
     let areas = heard_from(alloc, chooser, entries, source)?;
-    let others = strangers(alloc, chooser, &areas, source)?;
-    let there = is_somebody(alloc, setting, &others)?;
+    let there = is_somebody(alloc, setting, &areas)?;
     if there {
         let guards = guards_in(alloc, &areas, setting.range, setting.roles)?;
         let from = Peer {
@@ -309,8 +265,7 @@ fn put_relays(
 }
 
 /// The relays of a choice with these tests, by what the ranks find first in each branch: who hears of it first from another
-/// rank than the chooser. Each holds of somebody who is told and for whom it doesn't name the chooser. Where there are no tests,
-/// nobody is told, and there are none.
+/// rank than the chooser. Each holds of somebody who is told. Where there are no tests, nobody is told, and there are none.
 pub fn relays_of(
     alloc: Global,
     setting: &Setting,
@@ -324,8 +279,8 @@ pub fn relays_of(
         is_small chooser.at.off ≡ true → IsFoundIn sc a bs branches.now → OneSource sc a chooser bs → length p.roles ≡ setting.now.roles → All (IsRelay p) v.items) }
     ensures told { IfOk result (λ v. tests.now ≡ [] → v.items ≡ []) }
     ensures called { IfOk result (λ v. (sc : Scope) (a : Around) (bs : BranchTrees) (such : ℤ → ℕ → ℤ → Bool) → Stands setting.now.range setting.now.roles setting.now.whole.now sc → IsRange setting.now.range →
-        is_small chooser.at.off ≡ true → IsFoundIn sc a bs branches.now → OneSource sc a chooser bs →
-        ((k l : ℕ) (n : ℤ) (role : ℕ) (x : ℤ) → IsIn sc.range n → is_rank sc.roles n role x ≡ true → is_told sc a bs k l n (pos 0) role x ≡ true → such n role x ≡ true) → HaveCallers setting.now.range sc.roles such chooser v.items) }
+        IsFoundIn sc a bs branches.now → OneSource sc a chooser bs →
+        ((k l : ℕ) (n : ℤ) (role : ℕ) (x : ℤ) → IsIn sc.range n → is_rank sc.roles n role x ≡ true → is_told sc a bs k l n (pos 0) role x ≡ true → such n role x ≡ true) → HaveCallers setting.now.range sc.roles such v.items) }
 {
     if tests.is_empty() {
         return Ok(Vec::new(alloc));

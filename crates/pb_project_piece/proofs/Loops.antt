@@ -16,8 +16,9 @@ use Rattle.pb_core_language.specs.Sound.{Rows, rows_of, is_block}
 use Rattle.pb_core_language.specs.Tree as T
 use Rattle.pb_core_language.specs.Tree.{StmtTree, BlockTree}
 use Rattle.pb_core_language.specs.declared.tree.Bounds.{Bounds}
-use Rattle.pb_core_flat.specs.Seated.{is_at}
 use Rattle.pb_core_flat.specs.Meets.{is_var, is_met, meets, meet}
+use Rattle.pb_part_takers.specs.declared.held.Held.{Held}
+use Rattle.pb_part_takers.specs.Pieces.{IsAdded, items_piece}
 use Rattle.pb_local.specs.declared.stmt.Stmt.{Stmt}
 use Rattle.pb_local.specs.Tree as L
 use Rattle.std.specs.List.{All}
@@ -38,7 +39,7 @@ use Rattle.pb_project_piece.specs.Ranked.{IsThere}
 use Rattle.pb_project_piece.specs.Comers.{AreBounds}
 use Rattle.pb_project_piece.specs.Standing.{Stands, Come, meeting, IsOpen, IsEach}
 use Rattle.pb_project_piece.specs.Ones.{end_guard, AreItemsOf}
-use Rattle.pb_project_piece.specs.Fixed.{some_of, at_some, AreFairEnds, AreFixed, AreAreas, AreMetAreas}
+use Rattle.pb_project_piece.specs.Fixed.{at_some, AreFairEnds, AreFixed, AreAreas}
 use Rattle.pb_project_piece.specs.Segments.{IsApart, AreSegments}
 use Rattle.pb_project_piece.specs.Looping.{AreStill, Runner, Runs, IsRounds, IsBoth, IsForEach}
 use Rattle.pb_project_piece.proofs.Added.{onto_nothing, added_one, added_as}
@@ -89,13 +90,11 @@ module _ (low high n : ℤ) (role : ℕ) (x : ℤ) (some : int_le low high ≡ t
       or_one (is_fixed_at s n role x) (fixed_in rest n role x) (meets s low high n role x || meet rest low high n role x)
       (λ a. or_left _ _ (item_meets s a)) (λ a. or_right _ _ (fixed_meets rest a)) h
 
-  some_meets : (es : List CoreEnd) → at_some es n low role x ≡ true → some_of (λ e. is_met e low high n role x) es ≡ true
-  some_meets [] h = absurd (false≢true h)
-  some_meets (e ∷ es) h =
-      or_one (is_at e n low role x) (at_some es n low role x) (is_met e low high n role x || some_of (λ o. is_met o low high n role x) es)
-      (λ a. or_left _ _ (met_at e low high n low role x (le_itself low high some) a)) (λ a. or_right _ _ (some_meets es a)) h
-
 -- ---- who runs the loop
+
+right_of : (a b : Bool) → a ≡ false → a || b ≡ true → b ≡ true
+right_of true b e h = absurd (false≢true (sym e))
+right_of false b e h = h
 
 -- whoever is at an end for some value of the variable, for the variable has a value
 between_ends : (a : Bool) (low high c x : ℤ) → a && (int_le (low +ℤ c) x && int_le x (high +ℤ c)) ≡ true → int_le low high ≡ true
@@ -111,28 +110,47 @@ module _ (low high n : ℤ) (role : ℕ) (x : ℤ) where
   one_valued : (e : CoreEnd) → is_met e low high n role x ≡ true → int_le low high ≡ true
   one_valued e h = end_valued low high n role x e.role e.at.base e.at.off h
 
-  some_valued : (es : List CoreEnd) → some_of (λ e. is_met e low high n role x) es ≡ true → int_le low high ≡ true
-  some_valued [] h = absurd (false≢true h)
-  some_valued (e ∷ es) h = or_one (is_met e low high n role x) (some_of (λ o. is_met o low high n role x) es) (int_le low high) (one_valued e) (some_valued es) h
+  item_valued : (s : StmtTree) → meets s low high n role x ≡ true → int_le low high ≡ true
+  item_valued (T.message l f t) h = or_one (is_met f low high n role x) (is_met t low high n role x) (int_le low high) (one_valued f) (one_valued t) h
+  item_valued (T.foreach b m items) h = absurd (false≢true h)
+  item_valued (T.loop id m body) h = absurd (false≢true h)
+  item_valued (T.again id) h = absurd (false≢true h)
+  item_valued (T.choice k at bs) h = absurd (false≢true h)
+  item_valued (T.run k e) h = one_valued e h
+  item_valued T.barrier h = absurd (false≢true h)
+  item_valued (T.broadcast l root) h = absurd (false≢true h)
+  item_valued (T.reduce l op root) h = absurd (false≢true h)
+  item_valued (T.allreduce l op) h = absurd (false≢true h)
 
-pub runs_is : (range : NRange) (whole : List Area) (over : Bounds) (ends : List CoreEnd) (fixed met runners : List Area) (b : BlockTree) (t : Bool) → AreFixed b ends → AreMetAreas over ends met →
+  met_valued : (b : BlockTree) → meet b low high n role x ≡ true → int_le low high ≡ true
+  met_valued T.nothing h = absurd (false≢true h)
+  met_valued (T.more m s rest) h = or_one (meets s low high n role x) (meet rest low high n role x) (int_le low high) (item_valued s) (met_valued rest) h
+
+pub runs_is : (range : NRange) (whole : List Area) (over : Bounds) (fixed none met runners : List Area) (b : BlockTree) (t : Bool) → none ≡ [] →
+    ((rest : List Area) (held : List Held) (ids : List ℕ) → IsAdded rest held (items_piece over ids b) none met) →
     ((n : ℤ) (role : ℕ) (x : ℤ) → have runners n role x ≡ have fixed n role x && have met n role x) → IsThere range whole runners t → Runs range whole over fixed b t
-runs_is range whole over ends fixed met runners b true found are common there =
+runs_is range whole over fixed none met runners b true empty added common there =
     let both = and_parts (have fixed there.n there.role there.index) (have met there.n there.role there.index) (sym (common there.n there.role there.index) ∙ there.there) in
     record {
       rank = record { n = there.n; role = there.role; index = there.index; within = there.within; rank = there.rank; there = both.0 };
       valued = λ rows ids roles bounds sound rank.
-          some_valued (value over.low there.n (pos 0)) (value over.high there.n (pos 0)) there.n there.role there.index ends
-          (sym (are.is rows there.n there.role there.index (found.sound rows (fair_items rows ids b sound)) bounds (from_zero range there.n there.within)) ∙ both.1);
+          let is = (added whole [] ids).is rows roles there.n there.role there.index (and_from _ _ bounds.0 (and_from _ _ bounds.1 sound)) rank there.rank in
+          met_valued (value over.low there.n (pos 0)) (value over.high there.n (pos 0)) there.n there.role there.index b
+          (right_of (have none there.n there.role there.index) _ (ap (λ l. have l there.n there.role there.index) empty) (sym is ∙ both.1));
     }
-runs_is range whole over ends fixed met runners b false found are common there = λ rows ids roles n role x bounds sound still within rank is_whole at_end some.
-    let low = value over.low n (pos 0) in
+runs_is range whole over fixed none met runners b false empty added common there = λ rows ids roles n role x bounds sound still within rank is_whole at_end some.
     let zero = from_zero range n within in
-    let fair = fair_items rows ids b sound in
-    let here : have fixed n role x ≡ true = still.is rows n role x fair zero ∙ at_end in
+    let here : have fixed n role x ≡ true = still.is rows n role x (fair_items rows ids b sound) zero ∙ at_end in
     let meets_it : have met n role x ≡ true =
-    are.is rows n role x (found.sound rows fair) bounds zero ∙ some_meets low (value over.high n (pos 0)) n role x some ends (found.is n low role x ∙ at_end) in
+    (added whole [] ids).is rows roles n role x (and_from _ _ bounds.0 (and_from _ _ bounds.1 sound)) rank is_whole
+    ∙ or_right _ _ (fixed_meets (value over.low n (pos 0)) (value over.high n (pos 0)) n role x some b at_end) in
     false≢true (sym (there n role x within is_whole) ∙ common n role x ∙ and_from _ _ here meets_it)
+
+-- where no rank is at such an end, none runs the loop
+pub none_runs : (range : NRange) (whole : List Area) (over : Bounds) (fixed : List Area) (b : BlockTree) (t : Bool) → t ≡ false → IsThere range whole fixed t → Runs range whole over fixed b false
+none_runs range whole over fixed b true e there = absurd (false≢true (sym e))
+none_runs range whole over fixed b false e there = λ rows ids roles n role x bounds sound still within rank is_whole at_end some.
+    false≢true (sym (there n role x within is_whole) ∙ still.is rows n role x (fair_items rows ids b sound) (from_zero range n within) ∙ at_end)
 
 -- ---- how large it is, and that it is made
 

@@ -19,9 +19,10 @@ use Rattle.pb_core_language.specs.Tree as T
 use Rattle.pb_core_language.specs.Tree.{StmtTree, BlockTree}
 use Rattle.pb_core_flat.specs.Seated.{is_at}
 use Rattle.pb_core_flat.specs.Meets.{is_moving}
+use Rattle.pb_part_takers.specs.Ends.{IsEndArea}
 use Rattle.pb_core_language.proofs.Plains.{plain_list}
 use Rattle.pb_shape.specs.Pieces.{is_fixed, is_fixed_at, fixed_in}
-use Rattle.pb_project_piece.specs.Fixed.{some_of, at_some, is_fair_item, are_fair_items, AreFairEnds, AddsEnds, Knows, AreFixed}
+use Rattle.pb_project_piece.specs.Fixed.{at_some, is_fair_item, are_fair_items, AreFairEnds, AddsEnds, Knows, AreFixed, AreAreas}
 use Rattle.pb_project_piece.specs.Ones.{end_guard}
 use Rattle.pb_project_piece.proofs.Items.{drop_is}
 use Rattle.pb_project_piece.proofs.Ones.{guard_holds}
@@ -137,37 +138,33 @@ pub guards_hold : (ends : List CoreEnd) (n i : ℤ) (role : ℕ) (x : ℤ) → h
 guards_hold [] n i role x = refl
 guards_hold (e ∷ es) n i role x = ap (λ z. z || hold (map end_guard es) n i role x) (sym (or-false (holds (end_guard e) n i role x)) ∙ guard_holds e n i role x) ∙ ap (λ z. is_at e n i role x || z) (guards_hold es n i role x)
 
--- the areas are of the ranks of whom the test holds at one of the first k ends
-pub record AreasSoFar (fine : Type 0) (test : CoreEnd → ℤ → ℕ → ℤ → Bool) (ends : List CoreEnd) (k : ℕ) (areas : List Area) : Type 0 where
-  pub is : (rows : Rows) (n : ℤ) (role : ℕ) (x : ℤ) → AreFairEnds rows ends → fine → pos 0 ≤ℤ n →
-      have areas n role x || some_of (λ e. test e n role x) (drop k ends) ≡ some_of (λ e. test e n role x) ends
+pub record AreasSoFar (ends : List CoreEnd) (k : ℕ) (areas : List Area) : Type 0 where
+  pub is : (rows : Rows) (n : ℤ) (role : ℕ) (x : ℤ) → AreFairEnds rows ends → pos 0 ≤ℤ n → have areas n role x || at_some (drop k ends) n (pos 0) role x ≡ at_some ends n (pos 0) role x
   pub sound : (rows : Rows) → AreFairEnds rows ends → AreFairEnds rows (drop k ends)
 
-module _ (fine : Type 0) (test : CoreEnd → ℤ → ℕ → ℤ → Bool) where
-  pub areas_start : (ends : List CoreEnd) (areas : List Area) → areas ≡ [] → AreasSoFar fine test ends 0 areas
-  areas_start ends areas is = record { is = λ rows n role x fair f h. ap (λ l. have l n role x || some_of (λ e. test e n role x) ends) is; sound = λ rows fair. fair }
+pub areas_start : (ends : List CoreEnd) (areas : List Area) → areas ≡ [] → AreasSoFar ends 0 areas
+areas_start ends areas is = record { is = λ rows n role x fair h. ap (λ l. have l n role x || at_some ends n (pos 0) role x) is; sound = λ rows fair. fair }
 
-  pub areas_step : (ends : List CoreEnd) (k : ℕ) (d : CoreEnd) (a : Area) (old new : List Area) → k < length ends →
-      ((n : ℤ) (role : ℕ) (x : ℤ) → fine → pos 0 ≤ℤ n → is_small (get_or ends k d).at.off ≡ true → has a n role x ≡ test (get_or ends k d) n role x) →
-      ((n : ℤ) (role : ℕ) (x : ℤ) → have new n role x ≡ have old n role x || has a n role x) → AreasSoFar fine test ends k old → AreasSoFar fine test ends (k + 1) new
-  areas_step ends k d a old new lt area added so_far =
-      let e : CoreEnd = get_or ends k d in
-      let next : drop k ends ≡ e ∷ drop (k + 1) ends = at_drop_more (λ l. l) ends k d lt in
-      record {
-        is = λ rows n role x fair f h.
-            let here : (is_end rows true e ≡ true) × AreFairEnds rows (drop (k + 1) ends) = subst (AreFairEnds rows) next (so_far.sound rows fair) in
-            let small = (and_parts (nat_lt e.role rows.roles) (is_small e.at.off) here.0).1 in
-            let rest = some_of (λ o. test o n role x) (drop (k + 1) ends) in
-            ap (λ z. z || rest) (added n role x ∙ ap (λ z. have old n role x || z) (area n role x f h small))
-            ∙ or_assoc (have old n role x) (test e n role x) rest
-            ∙ ap (λ l. have old n role x || some_of (λ o. test o n role x) l) (sym next) ∙ so_far.is rows n role x fair f h;
-        sound = λ rows fair. let here : (is_end rows true e ≡ true) × AreFairEnds rows (drop (k + 1) ends) = subst (AreFairEnds rows) next (so_far.sound rows fair) in here.1;
-      }
+pub areas_step : (ends : List CoreEnd) (k : ℕ) (d : CoreEnd) (a : Area) (old new : List Area) → k < length ends → IsEndArea (get_or ends k d) a →
+    ((n : ℤ) (role : ℕ) (x : ℤ) → have new n role x ≡ have old n role x || has a n role x) → AreasSoFar ends k old → AreasSoFar ends (k + 1) new
+areas_step ends k d a old new lt area added so_far =
+    let e : CoreEnd = get_or ends k d in
+    let next : drop k ends ≡ e ∷ drop (k + 1) ends = at_drop_more (λ l. l) ends k d lt in
+    record {
+      is = λ rows n role x fair h.
+          let here : (is_end rows true e ≡ true) × AreFairEnds rows (drop (k + 1) ends) = subst (AreFairEnds rows) next (so_far.sound rows fair) in
+          let small = (and_parts (nat_lt e.role rows.roles) (is_small e.at.off) here.0).1 in
+          ap (λ z. z || at_some (drop (k + 1) ends) n (pos 0) role x) (added n role x ∙ ap (λ z. have old n role x || z) (area.is n role x h small))
+          ∙ or_assoc (have old n role x) (is_at e n (pos 0) role x) (at_some (drop (k + 1) ends) n (pos 0) role x)
+          ∙ ap (λ l. have old n role x || at_some l n (pos 0) role x) (sym next) ∙ so_far.is rows n role x fair h;
+      sound = λ rows fair. let here : (is_end rows true e ≡ true) × AreFairEnds rows (drop (k + 1) ends) = subst (AreFairEnds rows) next (so_far.sound rows fair) in here.1;
+    }
 
-  pub areas_done : (ends : List CoreEnd) (k : ℕ) (areas : List Area) → length ends ≤ k → AreasSoFar fine test ends k areas →
-      (rows : Rows) (n : ℤ) (role : ℕ) (x : ℤ) → AreFairEnds rows ends → fine → pos 0 ≤ℤ n → have areas n role x ≡ some_of (λ e. test e n role x) ends
-  areas_done ends k areas le so_far rows n role x fair f h =
-      sym (or-false (have areas n role x)) ∙ ap (λ l. have areas n role x || some_of (λ e. test e n role x) l) (sym (drop_of_length-le ends le)) ∙ so_far.is rows n role x fair f h
+pub areas_done : (ends : List CoreEnd) (k : ℕ) (areas : List Area) → length ends ≤ k → AreasSoFar ends k areas → AreAreas ends areas
+areas_done ends k areas le so_far = record {
+  is = λ rows n role x fair h.
+      sym (or-false (have areas n role x)) ∙ ap (λ l. have areas n role x || at_some l n (pos 0) role x) (sym (drop_of_length-le ends le)) ∙ so_far.is rows n role x fair h;
+}
 
 -- ---- items of a sound foreach
 

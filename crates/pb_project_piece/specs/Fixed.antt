@@ -2,28 +2,17 @@
 use Rattle.std.specs.Prelude.{◌≡◌, ℕ, ℤ, pos, ◌≤ℤ◌, Bool, true, false, ◌&&◌, ◌||◌, List, [], ◌∷◌}
 use Rattle.pb_part_areas.specs.declared.area.Area.{Area}
 use Rattle.pb_part_areas.specs.Areas.{have}
-use Rattle.pb_affine.specs.Values.{value}
 use Rattle.pb_core_language.specs.declared.tree.CoreEnd.{CoreEnd}
-use Rattle.pb_core_language.specs.declared.tree.Bounds.{Bounds}
 use Rattle.pb_core_language.specs.Sound.{Rows, is_end}
 use Rattle.pb_core_language.specs.Tree.{StmtTree, message, foreach, loop, again, choice, run, barrier, broadcast, reduce, allreduce, BlockTree, nothing, more}
 use Rattle.pb_core_flat.specs.Seated.{is_at}
-use Rattle.pb_core_flat.specs.Meets.{is_moving, is_met}
+use Rattle.pb_core_flat.specs.Meets.{is_moving}
 use Rattle.pb_shape.specs.Pieces.{is_fixed, fixed_in}
-use Rattle.pb_project_piece.specs.Comers.{AreBounds}
-
--- the test holds of one of these ends
-abbrev pub some_of : (CoreEnd → Bool) → List CoreEnd → Bool
-some_of test [] = false
-some_of test (e ∷ es) = test e || some_of test es
 
 -- the rank is at one of these ends
 abbrev pub at_some : List CoreEnd → ℤ → ℤ → ℕ → ℤ → Bool
-at_some ends n i role x = some_of (λ e. is_at e n i role x) ends
-
--- the rank is at one of these ends for some value of a foreach's variable
-abbrev pub met_some : Bounds → List CoreEnd → ℤ → ℕ → ℤ → Bool
-met_some over ends n role x = some_of (λ e. is_met e (value over.low n (pos 0)) (value over.high n (pos 0)) n role x) ends
+at_some [] n i role x = false
+at_some (e ∷ es) n i role x = is_at e n i role x || at_some es n i role x
 
 -- the ends are sound
 abbrev pub is_fair_item : Rows → StmtTree → Bool
@@ -64,7 +53,3 @@ pub record AreFixed (b : BlockTree) (ends : List CoreEnd) : Type 0 where
 -- the areas are of the ranks at these ends
 pub record AreAreas (ends : List CoreEnd) (areas : List Area) : Type 0 where
   pub is : (rows : Rows) (n : ℤ) (role : ℕ) (x : ℤ) → AreFairEnds rows ends → pos 0 ≤ℤ n → have areas n role x ≡ at_some ends n (pos 0) role x
-
--- the areas are of the ranks at these ends for some value of a foreach's variable
-pub record AreMetAreas (over : Bounds) (ends : List CoreEnd) (areas : List Area) : Type 0 where
-  pub is : (rows : Rows) (n : ℤ) (role : ℕ) (x : ℤ) → AreFairEnds rows ends → AreBounds over → pos 0 ≤ℤ n → have areas n role x ≡ met_some over ends n role x

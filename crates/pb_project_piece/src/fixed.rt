@@ -2,15 +2,15 @@ ghost use Rattle.std.specs.Prelude.{◌≡◌, ◌&&◌, ◌||◌, true, map, If
 ghost use Rattle.pb_core_language.specs.Plain.{plain_block, plain_stmt};
 ghost use Rattle.pb_core_language.specs.Sound.{is_end};
 ghost use Rattle.pb_shape.specs.Pieces.{is_fixed, is_fixed_at};
-ghost use Rattle.pb_project_piece.specs.Fixed.{is_fair_item, Knows, AddsEnds, AreFixed, AreAreas, AreMetAreas};
+ghost use Rattle.pb_project_piece.specs.Fixed.{is_fair_item, Knows, AddsEnds, AreFixed, AreAreas};
 ghost use Rattle.pb_project_piece.specs.Ones.{end_guard};
 
 use crate::ends::{guard_at, is_moving};
 use pb_affine::Guards;
-use pb_core_language::{Bounds, CoreBlock, CoreEnd, CoreKind, CoreStmt};
+use pb_core_language::{CoreBlock, CoreEnd, CoreKind, CoreStmt};
 use pb_local::is_same_lin;
 use pb_part_areas::{Area, add_new};
-use pb_part_takers::{end_area, met_area};
+use pb_part_takers::end_area;
 use pb_text::NoMemory;
 use std::alloc::Global;
 
@@ -104,17 +104,6 @@ pub fn areas_at(alloc: Global, ends: &[CoreEnd]) -> Result<Vec<Area>, NoMemory>
     let mut areas = Vec::new(alloc);
     for end in ends {
         add_new(alloc, &mut areas, end_area(*end))?;
-    }
-    Ok(areas)
-}
-
-/// The areas of the ranks that are at the ends for some value from `over.low` to `over.high`.
-pub fn met_areas_at(alloc: Global, ends: &[CoreEnd], over: Bounds) -> Result<Vec<Area>, NoMemory>
-    ensures { IfOk result (λ v. AreMetAreas over ends.now v.items) }
-{
-    let mut areas = Vec::new(alloc);
-    for end in ends {
-        add_new(alloc, &mut areas, met_area(*end, over))?;
     }
     Ok(areas)
 }

@@ -1,13 +1,11 @@
 ghost use Rattle.std.specs.Prelude.{◌≡◌, IfOk, OnOk};
 ghost use Rattle.pb_core_language.specs.Plain.{plain_block};
-ghost use Rattle.pb_core_language.specs.Tree.{BlockTree};
 ghost use Rattle.pb_local.specs.Tree as L;
 ghost use Rattle.pb_local.specs.Tree.{plain, plain_all};
 ghost use Rattle.pb_project_piece.specs.Adding.{Added};
-ghost use Rattle.pb_project_piece.specs.Fixed.{AreFixed};
 ghost use Rattle.pb_project_piece.specs.Looping.{Runs, IsRounds, IsBoth, IsForEach};
 
-use crate::fixed::{areas_at, fixed_ends, guards_at, met_areas_at};
+use crate::fixed::{areas_at, fixed_ends, guards_at};
 use crate::item::items_of;
 use crate::put::put_one;
 use crate::segment::put_segments;
@@ -17,23 +15,43 @@ use pb_affine::Guards;
 use pb_core_language::{Bounds, CoreBlock, CoreEnd};
 use pb_local::Stmt;
 use pb_part_areas::{Area, common};
+use pb_part_takers::takers_each;
 use pb_text::NoMemory;
 use std::alloc::Global;
 
-/// Whether the loop has a value for some rank at an end without the variable. The other ends aren't looked at.
+/// Whether the loop has a value for some rank at an end without the variable.
 fn is_run(
-    ends: &[CoreEnd],
+    items: &CoreBlock,
     alloc: Global,
     setting: &Setting,
     over: Bounds,
     fixed: &[Area],
 ) -> Result<bool, NoMemory>
-    ensures { IfOk result (λ t. (b : BlockTree) → AreFixed b ends.now → Runs setting.now.range setting.now.whole.now over fixed.now b t) }
+    ensures { IfOk result (λ t. Runs setting.now.range setting.now.whole.now over fixed.now (plain_block items.now).block t) }
 {
-    let met = met_areas_at(alloc, ends, over)?;
+    let mut met = Vec::new(alloc);
+    takers_each(items, alloc, over, &mut met)?;
     let runners = common(alloc, fixed, &met)?;
     let there = is_somebody(alloc, setting, &runners)?;
     Ok(there)
+}
+
+/// The same. Where no rank is at an end without the variable, the other ends aren't looked at.
+fn has_runner(
+    items: &CoreBlock,
+    alloc: Global,
+    setting: &Setting,
+    over: Bounds,
+    fixed: &[Area],
+) -> Result<bool, NoMemory>
+    ensures { IfOk result (λ t. Runs setting.now.range setting.now.whole.now over fixed.now (plain_block items.now).block t) }
+{
+    let there = is_somebody(alloc, setting, fixed)?;
+    if there {
+        is_run(items, alloc, setting, over, fixed)
+    } else {
+        Ok(false)
+    }
 }
 
 /// The loop, as a statement.
@@ -98,7 +116,7 @@ pub fn put_foreach(
 {
     let ends = fixed_ends(items, alloc)?;
     let fixed = areas_at(alloc, &ends)?;
-    let runs = is_run(&ends, alloc, setting, over, &fixed)?;
+    let runs = has_runner(items, alloc, setting, over, &fixed)?;
     if runs {
         put_both(items, alloc, setting, over, &ends, &fixed, out)?;
         Ok(())

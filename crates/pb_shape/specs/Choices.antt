@@ -1,8 +1,7 @@
 -- How ranks are told the branch of a choice: the tests and relays of its text.
-use Rattle.std.specs.Prelude.{◌≡◌, ℕ, ℤ, pos, Bool, true, false, ◌&&◌, not, ◌||◌, nat_eq, if◌then◌else◌, List, [], ◌∷◌, ◌++◌}
+use Rattle.std.specs.Prelude.{◌≡◌, ℕ, ℤ, pos, true, false, ◌&&◌, nat_eq, if◌then◌else◌, List, [], ◌∷◌, ◌++◌}
 use Rattle.pb_affine.specs.declared.guard.Guard.{Guard}
 use Rattle.std.specs.List.{All}
-use Rattle.std.specs.Ordering.{int_eq}
 use Rattle.pb_affine.specs.Values.{value, hold}
 use Rattle.pb_core_language.specs.declared.tree.CoreEnd.{CoreEnd}
 use Rattle.pb_core_language.specs.Tree.{BranchTrees}
@@ -13,7 +12,6 @@ use Rattle.pb_core_language.specs.Outcomes.{labels_of, firsts, firsts_among, sou
 use Rattle.pb_core_language.specs.Verdict.{IsIn}
 use Rattle.pb_core_flat.specs.Seated.{rank, is_rank}
 use Rattle.pb_local.specs.declared.stmt.Test.{Test}
-use Rattle.pb_local.specs.declared.stmt.Peer.{Peer}
 use Rattle.pb_local.specs.declared.stmt.Relay.{Relay}
 use Rattle.pb_local.specs.Computed as C
 use Rattle.pb_local.specs.Tree.{Code, Codes, more}
@@ -51,13 +49,9 @@ Relays sc a at bs relays =
 abbrev pub AreHeld : Scope → Here → List Test → Type 0
 AreHeld sc h tests = All (λ t. Somebody sc h (λ n i role x. hold t.guards n i role x)) tests
 
--- the peer is the chooser, with the own index for the variable
-abbrev pub is_chooser : Peer → CoreEnd → ℤ → ℤ → Bool
-is_chooser p at n x = nat_eq p.role at.role && int_eq (value p.at n x) (value at.at n x)
-
--- and so does each relay, with the own index for the variable: of somebody other than the chooser, for whom it doesn't name the chooser
-abbrev pub AreCalled : Scope → Here → CoreEnd → List Relay → Type 0
-AreCalled sc h at relays = All (λ r. Somebody sc h (λ n i role x. hold r.guards n x role x && not (is_chooser r.from at n x || is_end at n (pos 0) role x))) relays
+-- and so does each relay, with the own index for the variable
+abbrev pub AreCalled : Scope → Here → List Relay → Type 0
+AreCalled sc h relays = All (λ r. Somebody sc h (λ n i role x. hold r.guards n x role x)) relays
 
 -- where there are relays, `Own` of 0 stands before
 abbrev pub told_by : List Relay → Code → Codes

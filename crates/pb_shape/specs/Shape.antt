@@ -67,7 +67,7 @@ mutual
     choice : {h : Here} {a : Around} {m : Mark} {k : ℕ} {at : CoreEnd} {bs : BranchTrees} {rest : BlockTree} {parts : Parts} {tail codes : Codes} (who : Guard) (relays : List Relay) (tests : List Test) →
         Somebody sc h everyone → One sc h (takers sc a m (T.choice k at bs)) (told_by relays (L.choice who k relays (peer_of at) tests parts)) tail codes →
         Names sc h (who ∷ []) (is_end at) → Tests sc h a bs tests → AreHeld sc (inside h (takers sc a m (T.choice k at bs))) tests →
-        Relays sc a at bs relays → AreCalled sc (inside h (takers sc a m (T.choice k at bs))) at relays →
+        Relays sc a at bs relays → AreCalled sc (inside h (takers sc a m (T.choice k at bs))) relays →
         Shapes sc (inside h (takers sc a m (T.choice k at bs))) a bs parts → Shape sc h a rest tail → Shape sc h a (T.more m (T.choice k at bs) rest) codes
     -- what nobody comes to isn't there
     unreached : {h : Here} {a : Around} {b : BlockTree} → Nobody sc h everyone → Shape sc h a b nothing

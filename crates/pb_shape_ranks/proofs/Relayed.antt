@@ -1,5 +1,5 @@
 -- A loop, a choice and a relay: the worked text has the shape.
-use Rattle.std.proofs.Common.{not, ◌≡◌, ℕ, zero, suc, ℤ, pos, negsuc, ◌+ℤ◌, ◌≤ℤ◌, Bool, true, false, ◌&&◌, ◌||◌, nat_eq, int_le, if◌then◌else◌, List, [], ◌∷◌, refl, sym, ◌∙◌, subst, arith}
+use Rattle.std.proofs.Common.{◌≡◌, ℕ, zero, suc, ℤ, pos, negsuc, ◌+ℤ◌, ◌≤ℤ◌, Bool, true, false, ◌&&◌, ◌||◌, nat_eq, int_le, if◌then◌else◌, List, [], ◌∷◌, refl, sym, ◌∙◌, subst, arith}
 use Rattle.std.proofs.lemmas.Int.{ints}
 use Rattle.std.proofs.lemmas.Bool.Decides.{nat_tests}
 use Rattle.pb_affine.specs.declared.guard.Guard.{Guard}
@@ -21,7 +21,7 @@ use Rattle.pb_shape.specs.Shape as S
 use Rattle.pb_shape.specs.Places.{Here, Who, everyone, inside, is_end, peer_of, scope_of, everywhere}
 use Rattle.pb_shape.specs.Guards.{Names, Somebody, One}
 use Rattle.pb_shape.specs.Loops.{Around, outermost, in_loop, takers}
-use Rattle.pb_shape.specs.Choices.{AreHeld, is_chooser, AreCalled, is_told, teller, guards_of, Tests, Relays}
+use Rattle.pb_shape.specs.Choices.{AreHeld, AreCalled, is_told, teller, guards_of, Tests, Relays}
 use Rattle.pb_shape.specs.Shape.{Shape, Shapes, HasShape}
 use Rattle.pb_shape_ranks.specs.Worked.{mark_of, w, workers}
 use Rattle.pb_shape_ranks.specs.Rounds.{three, end_at, told_on, both_ways, round, rounds, everybody, just, at_second, on_from_second, at_third, told_text, relays, test_of, tests, round_text, rounds_text}
@@ -164,8 +164,8 @@ held =
     (All-cons (λ (t : Test). Somebody (scope_of rounds) in_choice_here (λ n i role x. hold t.guards n i role x)) (test_of 1 2 1) (test_of 1 3 2 ∷ []) (held_by 1 (test_of 1 2 1) refl refl refl)
     (All-cons (λ (t : Test). Somebody (scope_of rounds) in_choice_here (λ n i role x. hold t.guards n i role x)) (test_of 1 3 2) [] (held_by 2 (test_of 1 3 2) refl refl refl) (All-nil (λ (t : Test). Somebody (scope_of rounds) in_choice_here (λ n i role x. hold t.guards n i role x))))))
 
-called : AreCalled (scope_of rounds) in_choice_here (end_at 0) relays
-called = All-cons (λ (r : Relay). Somebody (scope_of rounds) in_choice_here (λ n i role x. hold r.guards n x role x && not (is_chooser r.from (end_at 0) n x || is_end (end_at 0) n (pos 0) role x))) (record { guards = just 2 ∷ []; from = peer_of (end_at 1) }) [] (somebody in_choice_here _ 2 refl refl refl refl) (All-nil (λ (r : Relay). Somebody (scope_of rounds) in_choice_here (λ n i role x. hold r.guards n x role x && not (is_chooser r.from (end_at 0) n x || is_end (end_at 0) n (pos 0) role x))))
+called : AreCalled (scope_of rounds) in_choice_here relays
+called = All-cons (λ (r : Relay). Somebody (scope_of rounds) in_choice_here (λ n i role x. hold r.guards n x role x)) (record { guards = just 2 ∷ []; from = peer_of (end_at 1) }) [] (somebody in_choice_here _ 2 refl refl refl refl) (All-nil (λ (r : Relay). Somebody (scope_of rounds) in_choice_here (λ n i role x. hold r.guards n x role x)))
 
 round_shape : Shape (scope_of rounds) in_loop_here in_round round round_text
 round_shape =

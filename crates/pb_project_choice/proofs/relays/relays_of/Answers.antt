@@ -1,10 +1,10 @@
-use Rattle.std.proofs.Common.{◌≡◌, true, ◌&&◌, [], List, length, ◌∷◌, refl, sym, subst, ◌∙◌}
+use Rattle.std.proofs.Common.{◌≡◌, true, [], List, length, ◌∷◌, refl, sym, subst, ◌∙◌}
 use Rattle.std.specs.List.{list_any}
 use Rattle.std.proofs.lemmas.Bool.{eqb-true}
 use Rattle.std.proofs.lemmas.List.Elements.{All-nil}
 use Rattle.pb_part_firsts.specs.declared.firsts.Source.{Source}
 use Rattle.pb_local.specs.declared.stmt.Test.{Test}
-use Rattle.pb_project_choice.specs.Relayed.{is_apart, HaveCallers, AreRelayed}
+use Rattle.pb_project_choice.specs.Relayed.{HaveCallers, AreRelayed}
 use Rattle.pb_project_choice.specs.Tested.{HasHolder}
 use Rattle.pb_project_choice.specs.Sources.{is_from, is_listed}
 use Rattle.pb_project_choice.proofs.Relaying.{no_tests, relays_right, relays_each, relays_called}
@@ -22,7 +22,7 @@ pub returns-clause-is : goal.returns-clause-is
 returns-clause-is c = λ sc h a bs st opened range_is small found one tests.
     let s = c.args.setting.now in
     relays_right s.range s.roles s.whole.now sc a c.args.chooser bs c.args.branches.now c.in_ok-entries.entries.items c.in_ok-sources.sources.items c.in_ok-relays.relays.items st range_is small found one c.in_ok-entries.ensures
-    (subst (λ z. (q : Source) → list_any (λ e. is_from q e.kind) z ≡ true → is_listed q c.in_ok-sources.sources.items ≡ true) c.deref.ensures.value c.in_ok-sources.ensures.there)
+    (subst (λ z. (q : Source) → list_any (λ e. is_from q e.kind) z ≡ true → is_listed q c.in_ok-sources.sources.items ≡ true) c.deref.ensures.value c.in_ok-sources.ensures)
     (subst (λ z. AreRelayed s.range s.roles s.whole.now c.args.chooser z c.in_ok-sources.sources.items c.in_ok-relays.relays.items) c.deref-2.ensures.value
     (subst (λ z. AreRelayed s.range s.roles s.whole.now c.args.chooser c.deref-2.result.now z c.in_ok-relays.relays.items) c.deref-3.ensures.value c.in_ok-relays.ensures))
 
@@ -35,14 +35,13 @@ returns-clause-each c = λ p sc a bs st range_is small found one same.
     same
 
 pub returns-then-is_empty-clause-called : goal.returns-then-is_empty-clause-called
-returns-then-is_empty-clause-called c = λ sc a bs such st range_is small found one told.
-    subst (HaveCallers c.args.setting.now.range sc.roles such c.args.chooser) (sym c.new.ensures.items)
-    (All-nil (λ q. HasHolder c.args.setting.now.range sc.roles (λ n role x. such n role x && is_apart q c.args.chooser n role x) q.guards))
+returns-then-is_empty-clause-called c = λ sc a bs such st range_is found one told.
+    subst (HaveCallers c.args.setting.now.range sc.roles such) (sym c.new.ensures.items) (All-nil (λ q. HasHolder c.args.setting.now.range sc.roles such q.guards))
 
 pub returns-clause-called : goal.returns-clause-called
-returns-clause-called c = λ sc a bs such st range_is small found one told.
+returns-clause-called c = λ sc a bs such st range_is found one told.
     let s = c.args.setting.now in
-    relays_called s.range s.roles s.whole.now sc a c.args.chooser bs c.args.branches.now c.in_ok-entries.entries.items c.in_ok-sources.sources.items c.in_ok-relays.relays.items such st range_is small found one c.in_ok-entries.ensures
+    relays_called s.range s.roles s.whole.now sc a c.args.chooser bs c.args.branches.now c.in_ok-entries.entries.items c.in_ok-sources.sources.items c.in_ok-relays.relays.items such st range_is found one c.in_ok-entries.ensures
     (subst (λ z. AreRelayed s.range s.roles s.whole.now c.args.chooser z c.in_ok-sources.sources.items c.in_ok-relays.relays.items) c.deref-2.ensures.value
     (subst (λ z. AreRelayed s.range s.roles s.whole.now c.args.chooser c.deref-2.result.now z c.in_ok-relays.relays.items) c.deref-3.ensures.value c.in_ok-relays.ensures))
     told
