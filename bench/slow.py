@@ -57,6 +57,12 @@ def offsets(rng):
     return 2 * low + 2, [f"foreach (i:{low}..N-{low + 1}) {{", *items, "}"]
 
 
+def offsets_to_one(rng):
+    """The same, with one message at an end without the variable beside."""
+    low, body = offsets(rng)
+    return low, [body[0], "B() from W[i] to W[0];", *body[1:]]
+
+
 def cuts(rng):
     """Many statements over some ends that cross."""
     spread, count = rng.choice([5, 15, 30, 60]), rng.randint(500, STATEMENTS - 1)
@@ -86,7 +92,7 @@ def loops(rng):
     return 2, body + ["}"] * (2 * depth)
 
 
-SHAPES = {it.__name__: it for it in (choice, own_ranks, offsets, cuts, told_in_turn, loops)}
+SHAPES = {it.__name__: it for it in (choice, own_ranks, offsets, offsets_to_one, cuts, told_in_turn, loops)}
 
 
 def made(shape, seed):

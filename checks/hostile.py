@@ -22,7 +22,7 @@ SEEDS = Path(__file__).resolve().parent / "hostile-seeds.txt"
 SECONDS, MEBIBYTES, PROCESSES, SHOWN = 10, 1024, 4, 6
 # the largest files that are made: a protocol file and a kernel file may have no more, the others would take long
 BYTES = 1_048_576
-DONE, REFUSED, LIMIT, NO_MEMORY, KERNEL, TEXT, SCHEDULE, STUCK, TURNS, OUTSIDE = 0, 1, 5, 6, 7, 8, 9, 10, 11, 12
+DONE, REFUSED, LIMIT, NO_MEMORY, KERNEL, TEXT, SCHEDULE, STUCK, TURNS, OUTSIDE, LOOP, DEPARTS, MALFORMED = 0, 1, 5, 6, 7, 8, 9, 10, 11, 12, 16, 17, 18
 PLACE = r"\d+:\d+"
 LINES = {
     REFUSED: rf"pabble: (syntax at {PLACE}|rule \d+ at {PLACE}(, N = \d+(, \w+\[-?\d+\])?)?)",
@@ -33,8 +33,11 @@ LINES = {
     STUCK: r"pabble: stuck, rank \d+ .+",
     TURNS: r"pabble: turns \d+",
     OUTSIDE: r"pabble: N = \d+ outside \d+\.\.(\d+|max)",
+    LOOP: rf"pabble: cost loop at {PLACE}",
+    DEPARTS: r"pabble: log line \d+, rank \d+ (differs|goes beyond)",
+    MALFORMED: r"pabble: log line \d+ is malformed",
 }
-OF_FILE = {"check", "project", "gen"}
+OF_FILE = {"check", "project", "gen", "cost", "judge"}
 STATUSES = {
     "check": {DONE, REFUSED, LIMIT},
     "project": {DONE, REFUSED, LIMIT},
@@ -42,6 +45,8 @@ STATUSES = {
     "run": {DONE, REFUSED, LIMIT, TURNS, OUTSIDE},
     "sim": {DONE, LIMIT, TEXT, STUCK, TURNS, OUTSIDE},
     "replay": {DONE, LIMIT, TEXT, SCHEDULE, STUCK, TURNS, OUTSIDE},
+    "cost": {DONE, REFUSED, LIMIT, LOOP},
+    "judge": {DONE, REFUSED, LIMIT, OUTSIDE, DEPARTS, MALFORMED},
 }
 NUMBERS = [b"0", b"1", b"63", b"64", b"255", b"1023", b"1024", b"1025", b"4000", b"65535", b"65536", b"99999", b"100000", b"999999", b"1000000",
            b"2000000000", b"2147483647", b"2147483648", b"4294967295", b"4294967296", b"18446744073709551616", b"-1", b"007"]
@@ -54,12 +59,13 @@ class Corpus:
     def __init__(self):
         self.protocols = [it.read_bytes() for it in sorted(TOP.glob("examples/**/*.pbl"))]
         self.kernels = [it.read_bytes() for it in sorted(TOP.glob("examples/*/*.kernels"))]
-        self.texts, self.schedules, self.logs = [], [], []
+        self.texts, self.schedules, self.logs, self.runs = [], [], [], []
         for path in sorted(TOP.glob("examples/**/*.pbl")):
             self.texts.append(said("gen", path))
             for n in ("3", "5"):
                 self.schedules.append(said("run", path, "--n", n, "--turns", "300", "--schedule", "--mode", "mixed"))
                 self.logs.append(said("run", path, "--n", n, "--turns", "300"))
+                self.runs.append((path.read_bytes(), n, self.logs[-1]))
 
     def all(self):
         return self.protocols + self.kernels + self.texts + self.schedules + self.logs
@@ -127,9 +133,23 @@ def hostile(rng, data, corpus):
     return data[:BYTES]
 
 
+def judged(rng, corpus):
+    """A case of `judge`: a log of a protocol, mostly changed."""
+    protocol, n, log = rng.choice(corpus.runs)
+    for _ in range(rng.choice([0, 1, 2, 4])):
+        log = bent(rng, log)
+    log = log if rng.random() < 0.7 else hostile(rng, log, corpus)
+    return {"p": protocol, "l": log}, ["judge", "p", "l", "--n", n if rng.random() < 0.9 else rng.choice(["0", "2", "1024", "1025"])]
+
+
 def made(seed, corpus):
-    """The files of a case, by their names, and its words."""
+    """The files of a case, by their names, and its words. Seeds that end with 8 are of `cost`, and those with 9 of `judge`."""
     rng = random.Random(f"hostile {seed}")
+    if seed.endswith("8"):
+        protocol = rng.choice(corpus.protocols) if rng.random() < 0.5 else File(rng).text().encode()
+        return {"p": protocol if rng.random() < 0.5 else hostile(rng, protocol, corpus)}, ["cost", "p"]
+    if seed.endswith("9"):
+        return judged(rng, corpus)
     command = rng.choice(["check", "project", "gen", "kernels", "run", "sim", "sim", "replay", "replay"])
     n = rng.choice(["0", "1", "2", "3", "3", "3", "4", "5", "5", "50", "1024", "2000000000"])
     options = ["--n", n, "--turns", rng.choice(["1", "100", "20000", "200000"]), "--mode", rng.choice(["eager", "waiting", "mixed"])]

@@ -89,8 +89,19 @@ def of_protocols(room):
             room.asks(LIMIT, line, command, past)
         room.asks(LIMIT, line, "gen", past, kernels)
         room.asks(LIMIT, line, "run", past, "--n", "2")
+        room.asks(LIMIT, line, "cost", past)
+        room.asks(LIMIT, line, "judge", past, past, "--n", "2")
         if n:
             room.asks(0, "ended", "run", most, "--n", n)
+
+
+def of_logs(room):
+    """A log's last line may be long."""
+    protocol, line = room.file(MESSAGE), "pabble: "
+    room.asks(0, "covered", "judge", protocol, room.file(line.ljust(TEXT_BYTES - 1) + "\n"), "--n", 2)
+    room.asks(LIMIT, "pabble: limit file bytes", "judge", protocol, room.file(line.ljust(TEXT_BYTES) + "\n"), "--n", 2)
+    room.asks(0, "covered", "judge", protocol, room.file(""), "--n", 1024)
+    room.asks(LIMIT, "pabble: limit ranks", "judge", protocol, room.file(""), "--n", 1025)
 
 
 def of_kernels(room):
@@ -162,7 +173,7 @@ def of_words(room):
 def main(program):
     with tempfile.TemporaryDirectory() as folder, ThreadPoolExecutor(PROCESSES) as pool:
         room = Room(program, Path(folder))
-        for add in (of_protocols, of_kernels, of_texts, of_ranks, of_schedules, of_words):
+        for add in (of_protocols, of_logs, of_kernels, of_texts, of_ranks, of_schedules, of_words):
             add(room)
         found = list(filter(None, pool.map(room.failure, room.cases)))
     print(*found[:SHOWN], f"{len(room.cases) - len(found)} passed, {len(found)} failed", sep="\n")

@@ -1,7 +1,7 @@
 #!/usr/bin/env python3
 """Refuses each allocation of each command in turn, alone and with all behind it: `memory.py [PROGRAM]`, by default the
 one that `pabble` runs. With a number refused a run must end as without, byte for byte, or with `pabble: no memory`
-behind some first lines of what it writes else; `check`, `project` and `gen` write nothing in front of it. Needs a C
+behind some first lines of what it writes else; `check`, `project`, `gen`, `cost` and `judge` write nothing in front of it. Needs a C
 compiler and the GNU C library. The last line is 'N passed, N failed'.
 """
 import os
@@ -18,7 +18,7 @@ EXAMPLES = TOP / "examples"
 NO_MEMORY = (6, b"pabble: no memory\n")
 SHOWN, PROCESSES, SECONDS = 5, 4, 60
 # the commands that write one line or all
-WHOLE = ("check", "project", "gen")
+WHOLE = ("check", "project", "gen", "cost")
 # a protocol that breaks rule 10, and one that ends early
 BROKEN = "const N = 4..max;\nglobal protocol P(role W[0..N-1]) {\n  choice K at W[0] {\n    A() from W[0] to W[1];\n  } or {\n  }\n}\n"
 CUT = "const N = 2..max;\nglobal protocol P(role W[0..N-1]) {\n  foreach (i:0..N-2) {\n"
@@ -42,7 +42,7 @@ class Run:
         if (code, out) == self.whole:
             return "the same"
         before = out.removesuffix(NO_MEMORY[1])
-        is_front = before == b"" or (before.endswith(b"\n") and self.words[1] not in WHOLE)
+        is_front = before == b"" or (before.endswith(b"\n") and self.words[1] not in (*WHOLE, "judge"))
         if code == NO_MEMORY[0] and out != before and is_front and self.whole[1].startswith(before):
             return "no memory"
         return None
@@ -61,6 +61,7 @@ def commands(program, folder):
         yield command, EXAMPLES / "jacobi.pbl"
         yield command, broken
         yield command, cut
+    yield "cost", EXAMPLES / "halves.pbl"
     yield "gen", ring / "ring.pbl", ring / "ring.kernels"
     yield "gen", EXAMPLES / "jacobi.pbl", ring / "ring.kernels"
     yield "run", EXAMPLES / "ring.pbl", "--n", "3"
@@ -72,6 +73,10 @@ def commands(program, folder):
         text, schedule, protocol = folder / f"{name}.c", folder / f"{name}.schedule", EXAMPLES / f"{name}.pbl"
         text.write_bytes(subprocess.run([program, "gen", protocol], capture_output=True).stdout)
         schedule.write_bytes(subprocess.run([program, "run", protocol, "--n", "3", "--schedule"], capture_output=True).stdout)
+        log = folder / f"{name}.log"
+        log.write_bytes(subprocess.run([program, "run", protocol, "--n", "3", "--turns", "60"], capture_output=True).stdout)
+        yield "judge", protocol, log, "--n", "3"
+        yield "judge", protocol, schedule, "--n", "3"
         yield "sim", text, "--n", "3", "--mode", "mixed", "--turns", "60"
         yield "sim", schedule, "--n", "3"
         yield "replay", text, schedule, "--n", "3"

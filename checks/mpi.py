@@ -1,10 +1,12 @@
 #!/usr/bin/env python3
 """Compiles printed texts with mpicc, runs them on 2 to 8 ranks, and compares what each rank did with the sequential run.
 
-usage: checks/mpi.py [--pabble PROGRAM] [--plain PROGRAM] [FILE.pbl ..]
+usage: checks/mpi.py [--pabble PROGRAM] [--plain PROGRAM] [--logs FOLDER] [FILE.pbl ..]
 
 Without files, those of examples/ are taken. Kernel bodies are filled in here: they take the words that a run with seed 0 has, so each
 rank's calls must be its part of the actions that `plain` shows. Each N is run with buffered sends and with sends that wait.
+The logs of a run's ranks, one behind the other, are judged by `pabble judge`, which must say `whole`, or `covered` where the run was
+broken off. They are written to FOLDER, as NAME-N-buffered.log and NAME-N-waiting.log, where one is named.
 Where no MPI is installed, the script says so and passes nothing.
 """
 import os
@@ -55,7 +57,8 @@ def filled(text):
             return None
     bodies = {"prelude": "extern uint32_t mpi_log_word(void);\nextern void mpi_log_line(const char *);\n"}
     for name, count in counts.items():
-        bodies[f"make_{name}"] = f"  for (int k = 0; k < {count}; k++) v[k] = mpi_log_word();\n"
+        bodies[f"make_{name}"] = f'  for (int k = 0; k < {count}; k++) v[k] = mpi_log_word();\n  mpi_log_line("made {name}");\n'
+        bodies[f"take_{name}"] = f'  mpi_log_line("took {name}");\n'
     for name, number in branches.items():
         said = "".join(f'  if (x == {k}) mpi_log_line("choose {name} {k}");\n' for k in range(number))
         bodies[f"c_{name}"] = f"  int x = mpi_log_word() % {number};\n{said}  return x;\n"
@@ -96,11 +99,48 @@ def done(path, labels):
             words = line.split(" ")
             if words[0] in ("send", "recv"):
                 words[2] = labels[int(words[2])]
-            found.append(" ".join(words))
+            if words[0] not in ("made", "took"):
+                found.append(" ".join(words))
     return found
 
 
-def run(pabble, plain, file, room):
+def judgeable(path, rank, labels, signed):
+    """The lines of a rank in the form of a log. A collective's label is that of the words that were made before or taken behind it."""
+    with open(path) as it:
+        text = it.read()
+    lines = [it.split(" ") for it in text.split("\n")[:-1]]
+    found = []
+    for at, words in enumerate(lines):
+        what, rest = words[0], words[1:]
+        if what in ("made", "took", "ended"):
+            continue
+        if what in ("send", "recv"):
+            label, head, values = labels[int(rest[1])], [rest[0], labels[int(rest[1])]], rest[2:]
+        elif what in ("enter", "leave") and rest[0] == "?":
+            beside = lines[at - (1 if what == "enter" else 2)] if at > (what == "leave") else [""]
+            behind = lines[at + (2 if what == "enter" else 1) :][:1]
+            label = beside[1] if beside[0] == "made" else behind[0][1] if behind and behind[0][0] == "took" else None
+            if label is None:
+                break
+            head, values = [label], rest[1:]
+        else:
+            label, head, values = None, rest, []
+        values = [str(int(it) - 2**32 if label in signed and int(it) >= 2**31 else int(it)) for it in values]
+        found.append(" ".join([str(rank), what, *head, *values]) + "\n")
+    return found
+
+
+def ruling(pabble, file, n, size, log, labels, signed, path):
+    """What `judge` says of the logs of all ranks, one behind the other."""
+    with open(path, "w") as out:
+        for rank in range(size):
+            out.writelines(judgeable(f"{log}.{rank}", rank, labels, signed))
+    if os.path.getsize(path) > 67108864:
+        return None
+    return subprocess.run([pabble, "judge", file, path, "--n", str(n)], capture_output=True, text=True).stdout.strip()
+
+
+def run(pabble, plain, file, room, logs):
     """Returns how many runs agreed and what differed."""
     text = subprocess.run([pabble, "gen", file], capture_output=True, text=True)
     if text.returncode:
@@ -109,6 +149,7 @@ def run(pabble, plain, file, room):
     if source is None:
         return 0, ["a choice kernel is used with different numbers of branches"]
     labels = re.findall(r"/\* label (\w+) ", source)
+    signed = set(re.findall(r"/\* label (\w+) int32", source))
     coefficient, offset = [int(it) for it in re.search(r"(-?\d+) \* N \+ (-?\d+) != size", source).groups()]
     only = re.search(r"^  N = (\d+);$", source, re.M)
     with open(f"{room}/text.c", "w") as it:
@@ -154,6 +195,11 @@ def run(pabble, plain, file, room):
                     at = next((k for k in range(min(len(got), len(want))) if got[k] != want[k]), min(len(got), len(want)))
                     differences.append(f"{name}, rank {rank}, action {at}: {got[at:at+1]} for {want[at:at+1]}")
                     break
+            kept = f"{logs or room}/{os.path.basename(file)[:-4]}-{n}-{'waiting' if waiting else 'buffered'}.log"
+            told = ruling(pabble, file, n, size, log, labels, signed, kept)
+            if told not in (None, "whole" if over else "covered"):
+                good = False
+                differences.append(f"{name}: judge says {told}")
             agreed += good
     return agreed, differences
 
@@ -162,6 +208,7 @@ def main():
     words = sys.argv[1:]
     pabble = option(words, "--pabble", None) or subprocess.check_output([f"{TOP}/scripts/program.sh"], text=True).strip()
     plain = option(words, "--plain", f"{TOP}/crates/plain/out/plain")
+    logs = option(words, "--logs", None)
     if not shutil.which("mpicc") or not shutil.which("mpiexec"):
         print("no MPI is installed here (mpicc, mpiexec): nothing was run, and nothing has passed")
         return 1
@@ -169,7 +216,7 @@ def main():
     passed = failed = 0
     for file in files:
         with tempfile.TemporaryDirectory() as room:
-            agreed, differences = run(pabble, plain, file, room)
+            agreed, differences = run(pabble, plain, file, room, logs)
         passed, failed = passed + agreed, failed + len(differences)
         print(f"{os.path.basename(file)}: {agreed} runs agreed", *[f"  {it}" for it in differences[:4]], sep="\n", flush=True)
     print(f"{passed} passed, {failed} failed")

@@ -5,9 +5,11 @@ seed 0, whose words `plain` takes too:
 - `run` of the file and `sim` of the text that `gen` prints of it give the same bytes and status;
 - `replay` of the schedule that `run` writes, on that text, gives the log again;
 - what a rank does begins its part of the actions that `plain` shows, and is all of it where the run has ended. It is
-  never stuck.
+  never stuck;
+- `judge` says of the log that it is whole where the run has ended, and else that it is covered.
 Then the tags of two receives of the text are exchanged, each of a label that no other receive has. Where the sequential
-run has such a receive and ends, the changed text must be told from it. The last line is 'N passed, N failed'.
+run has such a receive and ends, the changed text must be told from it; and `judge` says of its log that it departs exactly
+where a rank does what its part doesn't have. The last line is 'N passed, N failed'.
 """
 import random
 import re
@@ -22,7 +24,7 @@ from definitions import PABBLE, PLAIN, File
 
 MODES = ("eager", "waiting", "mixed")
 TURNS, ACTIONS, MOST_ACTIONS = 1500, 8000, 1_000_000
-DONE, STUCK, TURNS_MADE = 0, 10, 11
+DONE, STUCK, TURNS_MADE, DEPARTS = 0, 10, 11, 17
 RECEIVE = re.compile(r"MPI_Recv\(\w+, \d+, \w+, .*, (\d+), MPI_COMM_WORLD, MPI_STATUS_IGNORE\);")
 LABEL = re.compile(r"/\* label (\w+) ")
 # A text whose receives have the wrong order: it must be told apart in each mode.
@@ -89,6 +91,13 @@ def replayed(path, printed, options):
     return called(PABBLE, "replay", printed, file, "--n", options[1])
 
 
+def judged(path, log, options):
+    """What `judge` answers to a log of a protocol."""
+    file = path.with_suffix(".log")
+    file.write_text(log)
+    return called(PABBLE, "judge", path, file, "--n", options[1])
+
+
 def mistake(path, printed, options, sequence, ends):
     """What is wrong with one run, or None."""
     code, log = called(PABBLE, "run", path, *options)
@@ -97,6 +106,8 @@ def mistake(path, printed, options, sequence, ends):
         return "run and sim differ"
     if replayed(path, printed, options) != (code, log):
         return "run and the replay of its schedule differ"
+    if judged(path, log, options) != (DONE, "whole\n" if code == DONE else "covered\n"):
+        return "judge doesn't say of the run's log what it is"
     return difference(log, code, sequence)
 
 
@@ -114,11 +125,16 @@ def exchanged(text, rng):
 
 
 def slips(path, change, options, sequence, ends):
-    """What is wrong where a changed text isn't told from the sequential run, or None."""
+    """What is wrong where a changed text of a file isn't told from the sequential run, or None."""
     changed, labels = change
-    path.write_text(changed)
-    code, log = called(PABBLE, "sim", path, *options)
-    is_told = difference(log, code, sequence) is not None
+    text = path.with_suffix(".changed.c")
+    text.write_text(changed)
+    code, log = called(PABBLE, "sim", text, *options)
+    why = difference(log, code, sequence)
+    is_told = why is not None
+    departs = judged(path, log, options)[0] == DEPARTS
+    if code in (DONE, TURNS_MADE) and departs != (is_told and why.startswith("rank")):
+        return "judge doesn't say of the log of the changed text what it is"
     ends["told" if is_told else "not told"] += 1
     if not is_told and sequence.ended and any(map(sequence.has, labels)):
         return f"the tags of {' and '.join(labels)} are exchanged, and it isn't told"
@@ -138,7 +154,7 @@ def compare(path, low, rng, ends):
             options = ["--n", str(n), "--mode", mode, "--turns", str(TURNS)]
             wrong = [mistake(path, printed, options, sequence, ends)]
             if change:
-                wrong.append(slips(path.with_suffix(".changed.c"), change, options, sequence, ends))
+                wrong.append(slips(path, change, options, sequence, ends))
             found += [why and f"N = {n}, {mode}: {why}" for why in wrong]
     return found
 

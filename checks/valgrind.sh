@@ -25,7 +25,7 @@ tries() {
 
 # of_file NAME: the commands on a protocol file
 of_file() {
-    for command in check project gen; do tries "$command" "$1"; done
+    for command in check project gen cost; do tries "$command" "$1"; done
     tries run "$1" --n 3 --turns 200
 }
 
@@ -37,6 +37,8 @@ for name in jacobi token reduction; do
     "$program" run "$work/$name" --n 3 --turns 200 --schedule | grep -v '^pabble: ' >"$work/$name.s"
     tries sim "$name.c" --n 3 --turns 200 --mode mixed
     tries replay "$name.c" "$name.s" --n 3
+    "$program" run "$work/$name" --n 3 --turns 200 >"$work/$name.log"
+    tries judge "$name" "$name.log" --n 3
 done
 cp "$top/examples/ring/ring.pbl" "$top/examples/ring/ring.kernels" "$work/"
 tries gen ring.pbl ring.kernels
@@ -54,6 +56,10 @@ tries sim cut.c --n 3
 tries sim jacobi --n 3
 tries replay jacobi.c cut.s --n 3
 tries replay jacobi.c empty --n 3
+head -c 300 "$work/jacobi.log" >"$work/cut.log"
+tries judge jacobi cut.log --n 3
+tries judge jacobi jacobi.s --n 3
+tries judge jacobi empty --n 3
 tries check nothing
 tries run jacobi --n two
 

@@ -4,7 +4,7 @@ _pabble()
     local word=${COMP_WORDS[COMP_CWORD]} before=${COMP_WORDS[COMP_CWORD-1]} command=${COMP_WORDS[1]}
     COMPREPLY=()
     if [ "$COMP_CWORD" = 1 ]; then
-        mapfile -t COMPREPLY < <(compgen -W 'check project gen run sim replay demo' -- "$word")
+        mapfile -t COMPREPLY < <(compgen -W 'check project gen run sim replay cost judge demo' -- "$word")
         return
     fi
     case $before in
@@ -18,7 +18,7 @@ _pabble()
     if [ "${word#-}" != "$word" ]; then
         case $command in
         run | sim) mapfile -t COMPREPLY < <(compgen -W '--n --seed --turns --mode --schedule' -- "$word") ;;
-        replay) mapfile -t COMPREPLY < <(compgen -W '--n' -- "$word") ;;
+        replay | judge) mapfile -t COMPREPLY < <(compgen -W '--n' -- "$word") ;;
         esac
         return
     fi

@@ -1,5 +1,5 @@
 -- Each reply is one of those that may come.
-use Rattle.std.proofs.Common.{◌≡◌, ◌≢◌, ℕ, ◌<◌, ◌≤◌, pos, inl, inr, List, [], ◌∷◌, map, length, Option, None, Some, Ok, refl, sym, ap, subst, ◌∙◌, arith}
+use Rattle.std.proofs.Common.{◌≡◌, ◌≢◌, ◌⊎◌, ℕ, ◌<◌, ◌≤◌, pos, inl, inr, List, [], ◌∷◌, map, length, Option, None, Some, Ok, refl, sym, ap, subst, ◌∙◌, arith}
 use Rattle.std.specs.Prelude.{Contains, ◌^◌}
 use Rattle.pb_text.specs.declared.limits.TheConstants.{MOST_TEXT_BYTES}
 use Rattle.pb_io.specs.Files.{File, content_of}
@@ -7,7 +7,7 @@ use Rattle.pb_core_language.specs.Plain.{Protocol}
 use Rattle.pb_local.specs.Tree.{Program, program_of}
 use Rattle.pb_local.specs.Ranks.{total}
 use Rattle.pb_ctree.specs.declared.tree.CTree.{CTree}
-use Rattle.pb_cli_words.specs.Request.{Request, check, gen, gen_with, project, sim, replay, run, demo}
+use Rattle.pb_cli_words.specs.Request.{Request, check, gen, gen_with, project, sim, replay, run, demo, cost, judge}
 use Rattle.pb_cli_words.specs.declared.options.Options.{Options}
 use Rattle.pb_cli_words.specs.declared.options.Shown.{Shown}
 use Rattle.pb_cli_words.specs.declared.options.Shown.TheVariants.{Log}
@@ -34,11 +34,15 @@ use Rattle.pb_cli_verdict.specs.Refusals.{refusal_of}
 use Rattle.pb_ctree.specs.Functions.{functions_of}
 use Rattle.pb_kernels.specs.declared.file.NamedBody.{NamedBody}
 use Rattle.pb_kernels.specs.Files.{kernel_file}
-use Rattle.pb_cli_file.specs.Files.{IsFileReply, Makes, OrUnread, SaysOf, most_bytes}
+use Rattle.pb_cli_file.specs.Files.{IsFileReply, IsMeaningOf, Makes, MayRun, OrUnread, SaysOf, most_bytes}
 use Rattle.pb_cli_file.specs.Kernels.{HasEach, IsKernelsReply, IsMergeReply, functions_in}
 use Rattle.pb_cli_demo.specs.Demo as D
+use Rattle.pb_cli_cost.specs.Cost.{HasCost, IsCostAnswer, IsCostReply}
+use Rattle.pb_cli_cost.proofs.Complete.{cost_comes}
+use Rattle.pb_cli_judge.specs.Judge.{IsJudgeAnswer, IsJudgeReply, IsKeptLog}
+use Rattle.pb_cli_judge.proofs.Complete.{judge_comes}
 use Rattle.pb_cli.specs.Reply.{IsUsage}
-use Rattle.pb_cli.specs.Run.{MayRun, IsRunReply, SaysRun, SaysRunReply}
+use Rattle.pb_cli_run.specs.Run.{IsRunReply, SaysRun, SaysRunReply}
 use Rattle.pb_cli.specs.Program.{SaysReply}
 use Rattle.pb_cli.specs.Complete.{Comes, Completes, IsComplete}
 use Rattle.pb_cli_file.proofs.Merged.{functions_same, no_fault}
@@ -357,6 +361,70 @@ module _ (post : ℕ → ℕ → ℕ → Type 0) (count : ℕ) where
     said demo_statuses status result text old new (demo_comes status text reply) says,
   )
 
+-- ---- costs
+
+cost_answer_not : (p : Protocol) (status : Status) (text : List ℕ) → IsCostAnswer p status text → NotUsage status
+cost_answer_not p S.Usage text is = absurd is
+cost_answer_not p other text is = tt
+
+done_only : (status : Status) → (status ≡ S.Done) ⊎ (status ≡ S.NoMemory) → Comes (S.Done ∷ []) status
+done_only status (inl e) = subst (Comes (S.Done ∷ [])) (sym e) (first S.Done [])
+done_only status (inr e) = subst (Comes (S.Done ∷ [])) (sym e) (no_memory (S.Done ∷ []))
+
+-- the meaning of the file is that protocol
+meant : (name : List ℕ) (files : List File) (p q : Protocol) → IsAcceptedAs (content_of files name) p → IsMeaningOf name (Some files) q → p ≡ q
+meant name files p q is of = one_meaning of.bytes p q (subst (λ (b : List ℕ). IsAcceptedAs b p) (sym of.content) is) of.accepted
+
+module _ (unread : List ℕ → Type 0) (name : List ℕ) where
+  cost_not : (holds : Option (List File)) (status : Status) (text : List ℕ) → IsCostReply unread name holds status text → NotUsage status
+  cost_not holds status text (inl is) = file_not (λ bytes written. ⊥) name holds status text is.1.1
+  cost_not holds status text (inr (q, of, is)) = cost_answer_not q status text is
+
+  cost_done : (files : List File) (p : Protocol) → length (content_of files name) ≤ most_bytes → IsAcceptedAs (content_of files name) p → HasCost p
+      → (status : Status) (text : List ℕ) → IsCostReply unread name (Some files) status text → Comes (S.Done ∷ []) status
+  cost_done files p few is has status text (inl reply) = file_comes (λ bytes written. ⊥) name files p few is (S.Done ∷ []) (first S.Done []) status text reply.1.1
+  cost_done files p few is has status text (inr (q, of, reply)) = done_only status (cost_comes q (subst HasCost (meant name files p q is of) has) status text reply)
+
+  cost_complete : (result : Status) (old new : Option (List ℕ)) (holds : Option (List File)) → SaysOf (IsCostReply unread name holds) result old new → (result ≢ S.Usage) × Completes (cost name) holds result
+  cost_complete result old new None (status, text, reply, says) = (said_not status result text old new (cost_not None status text reply) says, tt)
+  cost_complete result old new (Some files) (status, text, reply, says) = (
+    said_not status result text old new (cost_not (Some files) status text reply) says,
+    λ p few is has. said (S.Done ∷ []) status result text old new (cost_done files p few is has status text reply) says,
+  )
+
+-- ---- rulings on logs
+
+judge_answer_not : (unread : List ℕ → Type 0) (p : Protocol) (n : ℕ) (log : List ℕ) (holds : Option (List File)) (status : Status) (text : List ℕ)
+    → IsJudgeAnswer unread p n log holds status text → NotUsage status
+judge_answer_not unread p n log holds S.Usage text is = absurd is
+judge_answer_not unread p n log holds other text is = tt
+
+done_or_unread : (status : Status) → (status ≡ S.Done) ⊎ ((status ≡ S.NoMemory) ⊎ (status ≡ S.ReadFault)) → Comes (S.Done ∷ []) status
+done_or_unread status (inl e) = done_only status (inl e)
+done_or_unread status (inr (inl e)) = done_only status (inr e)
+done_or_unread status (inr (inr e)) = subst (Comes (S.Done ∷ [])) (sym e) (read_fault (S.Done ∷ []))
+
+module _ (unread : List ℕ → Type 0) (name log : List ℕ) (n : ℕ) where
+  judge_not : (holds : Option (List File)) (status : Status) (text : List ℕ) → IsJudgeReply unread name log n holds status text → NotUsage status
+  judge_not holds status text (inl is) = file_not (λ bytes written. ⊥) name holds status text is.1.1
+  judge_not holds status text (inr (q, of, is)) = judge_answer_not unread q n log holds status text is
+
+  judge_done : (files : List File) (p : Protocol) → length (content_of files name) ≤ most_bytes → IsAcceptedAs (content_of files name) p → MayRun p n
+      → length (content_of files log) ≤ MOST_TEXT_BYTES → IsKeptLog p n (content_of files log)
+      → (status : Status) (text : List ℕ) → IsJudgeReply unread name log n (Some files) status text → Comes (S.Done ∷ []) status
+  judge_done files p few is may short kept status text (inl reply) = file_comes (λ bytes written. ⊥) name files p few is (S.Done ∷ []) (first S.Done []) status text reply.1.1
+  judge_done files p few is may short kept status text (inr (q, of, reply)) =
+      let own = meant name files p q is of in
+      done_or_unread status (judge_comes unread of.bytes q of.accepted n (subst (λ (x : Protocol). MayRun x n) own may) log files short
+      (subst (λ (x : Protocol). IsKeptLog x n (content_of files log)) own kept) status text reply)
+
+  judge_complete : (result : Status) (old new : Option (List ℕ)) (holds : Option (List File)) → SaysOf (IsJudgeReply unread name log n holds) result old new → (result ≢ S.Usage) × Completes (judge name log n) holds result
+  judge_complete result old new None (status, text, reply, says) = (said_not status result text old new (judge_not None status text reply) says, tt)
+  judge_complete result old new (Some files) (status, text, reply, says) = (
+    said_not status result text old new (judge_not (Some files) status text reply) says,
+    λ p few is may short kept. said (S.Done ∷ []) status result text old new (judge_done files p few is may short kept status text reply) says,
+  )
+
 -- ---- words in no form
 
 usage_comes : (status : Status) (text : List ℕ) → IsUsage status text → Contains (S.Usage ∷ S.NoMemory ∷ S.WriteFault ∷ []) status
@@ -381,3 +449,5 @@ complete post unread (Some (sim name options)) holds result old new said = sim_c
 complete post unread (Some (replay name schedule n)) holds result old new said = replay_complete post unread name schedule n result old new holds said
 complete post unread (Some (run name options)) holds result old new said = run_complete post unread name options holds result old new said
 complete post unread (Some (demo count)) holds result old new said = demo_complete (post count) count holds result old new said
+complete post unread (Some (cost name)) holds result old new said = cost_complete unread name result old new holds said
+complete post unread (Some (judge name log n)) holds result old new said = judge_complete unread name log n result old new holds said

@@ -1,11 +1,12 @@
 -- What comes where the words are in a form and the files keep the rules and the limits: all is done, or else memory is wanting or
--- a fault rose. A simulation may be stuck, make all its events, or pass the limit on words in flight.
+-- a fault rose. A simulation may be stuck, make all its events, or pass the limit on words in flight. A protocol whose costs are
+-- asked for has no loop and few pieces, and a log that is judged is one of its protocol's.
 use Rattle.std.specs.Prelude.{◌≡◌, ◌≢◌, ℕ, ◌≤◌, List, [], ◌∷◌, length, Contains, Option, Some, None, Ok}
 use Rattle.pb_text.specs.declared.limits.TheConstants.{MOST_TEXT_BYTES}
 use Rattle.pb_io.specs.Files.{File}
 use Rattle.pb_core_language.specs.Plain.{Protocol}
 use Rattle.pb_ctree.specs.declared.tree.CTree.{CTree}
-use Rattle.pb_cli_words.specs.Request.{Request, check, gen, gen_with, project, sim, replay, run, demo}
+use Rattle.pb_cli_words.specs.Request.{Request, check, gen, gen_with, project, sim, replay, run, demo, cost, judge}
 use Rattle.pb_cli_status.specs.declared.status.Status.{Status}
 use Rattle.pb_cli_status.specs.declared.status.Status.TheVariants as S
 use Rattle.pb_compile.specs.Verdict.{IsAcceptedAs}
@@ -15,9 +16,10 @@ use Rattle.pb_cli_simulate.specs.Sources.{IsTextOf}
 use Rattle.pb_cli_simulate.specs.Replies.{Starts}
 use Rattle.pb_kernels.specs.declared.file.NamedBody.{NamedBody}
 use Rattle.pb_kernels.specs.Files.{kernel_file}
-use Rattle.pb_cli_file.specs.Files.{OnFile, most_bytes}
+use Rattle.pb_cli_cost.specs.Cost.{HasCost}
+use Rattle.pb_cli_judge.specs.Judge.{IsKeptLog}
+use Rattle.pb_cli_file.specs.Files.{MayRun, OnFile, most_bytes}
 use Rattle.pb_cli_file.specs.Kernels.{HasEach, functions_in}
-use Rattle.pb_cli.specs.Run.{MayRun}
 
 -- one of these, or memory is wanting, or a fault rose
 abbrev pub Comes : List Status → Status → Type 0
@@ -40,6 +42,10 @@ abbrev pub OnKernels : List ℕ → Protocol → Option (List File) → Type 0 �
 OnKernels name p holds P =
     OnFile name holds (λ bytes. (file : List NamedBody) → length bytes ≤ most_bytes → kernel_file bytes ≡ Ok file → HasEach (functions_in p) file → P)
 
+-- that it is a log that is whole or covered, of a protocol at N = n
+abbrev pub OnKeptLog : List ℕ → Protocol → ℕ → Option (List File) → Type 0 → Type 0
+OnKeptLog name p n holds P = OnFile name holds (λ bytes. length bytes ≤ MOST_TEXT_BYTES → IsKeptLog p n bytes → P)
+
 -- what comes where the files are such; of `demo`, which names none, nothing else comes
 abbrev pub Completes : Request → Option (List File) → Status → Type 0
 Completes (check name) holds result = OnAccepted name holds (λ p. Comes (S.Done ∷ []) result)
@@ -48,6 +54,8 @@ Completes (gen_with name kernels) holds result = OnAccepted name holds (λ p. On
 Completes (project name) holds result = OnAccepted name holds (λ p. Comes (S.Done ∷ []) result)
 Completes (run name options) holds result = OnAccepted name holds (λ p. MayRun p options.n → Comes (S.Done ∷ S.Turns ∷ S.Limit ∷ []) result)
 Completes (demo count) holds result = Comes (S.Done ∷ S.Refused ∷ S.Limit ∷ S.Turns ∷ []) result
+Completes (cost name) holds result = OnAccepted name holds (λ p. HasCost p → Comes (S.Done ∷ []) result)
+Completes (judge name log n) holds result = OnAccepted name holds (λ p. MayRun p n → OnKeptLog log p n holds (Comes (S.Done ∷ []) result))
 Completes (sim name options) holds result = OnText name options.n holds (Comes (S.Done ∷ S.Stuck ∷ S.Turns ∷ S.Limit ∷ []) result)
 Completes (replay name schedule n) holds result =
     OnText name n holds (OnSchedule schedule holds (Comes (S.Done ∷ S.Stuck ∷ S.Turns ∷ S.Limit ∷ S.Schedule ∷ []) result))

@@ -7,9 +7,11 @@ ghost use Rattle.pb_cli.specs.Complete.{IsComplete};
 ghost use Rattle.pb_cli.specs.Program.{ReadsOn, SaysReply};
 ghost use Rattle.pb_cli.specs.Reply.{IsSureOfForm};
 
-use crate::running::run;
+use pb_cli_cost::cost;
 use pb_cli_demo::demo;
 use pb_cli_file::{Wanted, tell, tell_merged};
+use pb_cli_judge::judge;
+use pb_cli_run::run;
 use pb_cli_simulate::{replay, sim};
 use pb_cli_status::{Refusal, Status, refuse};
 use pb_cli_words::{Command, NoMemory, command_in};
@@ -54,6 +56,20 @@ use std::alloc::Global;
 /// K, eager events and at most 1,000,000 of them. It writes how many actions of each kind were done, and the words of all sends
 /// and entries, where the run has come to its end, and else the line of the status alone. It never answers `Stuck` or `OutOfRange`.
 ///
+/// `cost FILE` writes how much the protocol sends at least and at most: four counts, of messages and of their words, over the
+/// sequential runs under all answers, as the fewest lines `A * N + B`, each with the numbers N that it holds for. Where the file
+/// isn't accepted it writes the line that `check` writes. It answers `CostFault` exactly where the protocol has a loop, with the
+/// place of the first, and else `Limit` exactly where of the first statements of some block, or of the first branches of some
+/// choice, one of the four has more than 4,096 such lines.
+///
+/// `judge FILE LOG --n A` rules on a log of at most 67,108,864 bytes of the protocol at N = A, beside the sequential run under the
+/// answers that the log itself shows. It writes the line `whole` where the run comes to its end and each rank of the log has done
+/// its part of it, and else the line `covered` where each rank has done some first actions of its part. It answers `NotCovered`
+/// where the log departs from the run: by the first action of the run that isn't that of the log at its place of its rank's list,
+/// or else by the least rank that does more than the run ever has for it. It answers `Log` where a line is malformed, with the
+/// first, and `OutOfRange` and `Limit` as `run` does for N and its ranks, or where the log has more bytes. The log is read only
+/// where the protocol is accepted, and N is one of its range with at most 1,024 ranks.
+///
 /// `Usage` comes only where the words are in no form. `ReadFault` comes only where the folder's count of faults rose in this
 /// call, and never where a steady folder holds the files; `WriteFault` only where the sink's did, and then some first bytes of
 /// what belongs there were written. Want of memory, `NoMemory`, may come in place of each of the others.
@@ -61,7 +77,8 @@ use std::alloc::Global;
 /// Where the words are in a form, the files keep the rules and the limits, and N is one of the range with at most 1,024 ranks,
 /// it answers `Done`, or want of memory, or a fault that rose; or, of a simulation, `Stuck`, `Turns` or `Limit`, and of a
 /// schedule `Schedule`. `demo`, which names no file, answers `Done`, `Refused`, `Limit` or `Turns`, or want of memory, or a write
-/// that failed.
+/// that failed. So it is of `cost` where the protocol has no loop and no count too many lines, and of `judge` where the log is
+/// whole or covered.
 ///
 /// `answers` gives word number `count` of a rank, from 0, by a seed, the rank and that number.
 ///
@@ -136,5 +153,7 @@ fn perform<F: Folder, O: Sink, A: Fn(u64, u32, u64) -> u32 + Drop>(
         }
         Command::Run(file, options) => run(alloc, file, options, answers, folder, out),
         Command::Demo(count) => demo(alloc, count, answers, out),
+        Command::Cost(file) => cost(alloc, file, folder, out),
+        Command::Judge(file, log, n) => judge(alloc, file, log, n, folder, out),
     }
 }

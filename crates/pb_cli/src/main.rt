@@ -13,10 +13,13 @@ ghost use Rattle.pb_cli.specs.Words.{word};
 
 mod call;
 #[cfg(test)]
+mod cost_tests;
+#[cfg(test)]
 mod demo_tests;
 #[cfg(test)]
+mod judge_tests;
+#[cfg(test)]
 mod kernel_tests;
-mod running;
 #[cfg(test)]
 mod tests;
 

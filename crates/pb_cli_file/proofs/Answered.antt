@@ -16,7 +16,7 @@ use Rattle.pb_compile.specs.Verdict.{IsAcceptedAs, IsVerdict, IsKept, OnTree}
 use Rattle.pb_compile.specs.declared.verdict.Verdict.{Verdict}
 use Rattle.pb_compile.specs.declared.verdict.Verdict.TheVariants as verdict
 use Rattle.pb_cli_verdict.specs.Refusals.{refusal_of}
-use Rattle.pb_cli_file.specs.Files.{IsFileRefusal, IsFileReply, IsTold, IsTreeOf, OnShort, most_bytes}
+use Rattle.pb_cli_file.specs.Files.{IsFileRefusal, IsFileReply, IsMeaningOf, IsTold, IsTreeOf, OnShort, most_bytes}
 
 -- an accepted file keeps its rules
 pub checked : (bytes : List ℕ) (p : Protocol) → IsAcceptedAs bytes p → OnTree bytes IsKept
@@ -69,6 +69,11 @@ never_done (refusal.OutOfRange n range) e = absurd cc
 never_done refusal.Ranks e = absurd cc
 never_done refusal.WordsInFlight e = absurd cc
 never_done (refusal.Turns turns) e = absurd cc
+never_done refusal.Pieces e = absurd cc
+never_done (refusal.CostLoop place) e = absurd cc
+never_done (refusal.LogDiffers line rank) e = absurd cc
+never_done (refusal.LogBeyond line rank) e = absurd cc
+never_done (refusal.LogMalformed line) e = absurd cc
 
 -- and one alone says that a file couldn't be read
 pub fault_is : (why : Refusal) → status_of why ≡ ReadFault → why ≡ refusal.ReadFault
@@ -89,6 +94,11 @@ fault_is (refusal.OutOfRange n range) e = absurd cc
 fault_is refusal.Ranks e = absurd cc
 fault_is refusal.WordsInFlight e = absurd cc
 fault_is (refusal.Turns turns) e = absurd cc
+fault_is refusal.Pieces e = absurd cc
+fault_is (refusal.CostLoop place) e = absurd cc
+fault_is (refusal.LogDiffers line rank) e = absurd cc
+fault_is (refusal.LogBeyond line rank) e = absurd cc
+fault_is (refusal.LogMalformed line) e = absurd cc
 
 no_file : (IsText : List ℕ → List ℕ → Type 0) (name : List ℕ) (holds : Option (List File)) → OnShort name holds (λ bytes. ⊥) → (text : List ℕ) → IsFileReply IsText name holds Done text
 no_file IsText name None is text = tt
@@ -111,7 +121,10 @@ pub refused : (name : List ℕ) (holds : Option (List File)) (bytes : List ℕ) 
     → IsFileRefusal name holds (status_of (refusal_of v)) (line_of (refusal_of v))
 refused name holds bytes read short v is = (never_done (refusal_of v), told (λ bytes written. ⊥) name holds bytes read short v is)
 
--- ---- a tree that is simulated
+-- ---- what the file means, and a tree that is simulated
+
+pub meaning : (name : List ℕ) (holds : Option (List File)) (bytes : List ℕ) (p : Protocol) → IsContent holds name bytes → length bytes ≤ most_bytes → IsAcceptedAs bytes p → IsMeaningOf name holds p
+meaning name holds bytes p read short is = record { bytes = bytes; content = read; short = short; accepted = is }
 
 pub compiled : (name : List ℕ) (holds : Option (List File)) (bytes : List ℕ) (p : Protocol) (tree : CTree) → IsContent holds name bytes → length bytes ≤ most_bytes → IsCompiled bytes p tree → IsTreeOf name holds tree
 compiled name holds bytes p tree read short is = record { bytes = bytes; protocol = p; content = read; short = short; compiled = is }

@@ -1,7 +1,9 @@
 -- What is answered of a protocol file: a status, and the bytes that are written.
-use Rattle.std.specs.Prelude.{◌≡◌, ◌≢◌, ℕ, ◌<◌, ◌≤◌, ◌⊎◌, List, length, Option, IfSome, Result, Ok, Err}
+use Rattle.std.specs.Prelude.{◌≡◌, ◌≢◌, ℕ, ◌<◌, ◌≤◌, ◌⊎◌, pos, List, length, Option, IfSome, Result, Ok, Err}
 use Rattle.pb_io.specs.Files.{File, IsContent, content_of}
 use Rattle.pb_core_language.specs.Plain.{Protocol}
+use Rattle.pb_core_language.specs.Ranks.{total}
+use Rattle.pb_core_language.specs.Verdict.{IsIn}
 use Rattle.pb_ctree.specs.declared.tree.CTree.{CTree}
 use Rattle.pb_cli_status.specs.Lines.{accepted_line, line_of, status_of}
 use Rattle.pb_cli_status.specs.Written.{Says}
@@ -10,7 +12,7 @@ use Rattle.pb_cli_status.specs.declared.refusal.Refusal.TheVariants as refusal
 use Rattle.pb_cli_status.specs.declared.status.Status.{Status}
 use Rattle.pb_cli_status.specs.declared.status.Status.TheVariants as S
 use Rattle.pb_compile.specs.Compiled.{IsCompiled, IsGenerated, IsLaidOut}
-use Rattle.pb_compile.specs.Verdict.{IsKept, IsVerdict, OnTree}
+use Rattle.pb_compile.specs.Verdict.{IsAcceptedAs, IsKept, IsVerdict, OnTree}
 use Rattle.pb_compile.specs.declared.verdict.Verdict.{Verdict}
 use Rattle.pb_cli_verdict.specs.Refusals.{refusal_of}
 use Rattle.pb_cli_file.specs.declared.answer.Answer.{Answer}
@@ -52,7 +54,7 @@ IsFileReply IsText name holds S.ReadFault text = text ≡ line_of refusal.ReadFa
 IsFileReply IsText name holds S.NoMemory text = text ≡ line_of refusal.NoMemory
 IsFileReply IsText name holds other text = ⊥
 
--- ---- a file that isn't accepted, and the tree of one that is
+-- ---- a file that isn't accepted, and the tree and the meaning of one that is
 
 -- why a protocol file isn't compiled: what `check` answers where it doesn't accept it
 abbrev pub IsFileRefusal : List ℕ → Option (List File) → Status → List ℕ → Type 0
@@ -72,6 +74,18 @@ pub record IsTreeOf (name : List ℕ) (holds : Option (List File)) (tree : CTree
   pub content : IsContent holds name bytes
   pub short : length bytes ≤ most_bytes
   pub compiled : IsCompiled bytes protocol tree
+
+-- the file is accepted and short enough, and this is its meaning
+pub record IsMeaningOf (name : List ℕ) (holds : Option (List File)) (p : Protocol) : Type 0 where
+  pub bytes : List ℕ
+  pub content : IsContent holds name bytes
+  pub short : length bytes ≤ most_bytes
+  pub accepted : IsAcceptedAs bytes p
+
+-- the protocol can be simulated for this N: a number of its range, with at most 1,024 ranks
+pub record MayRun (p : Protocol) (n : ℕ) : Type 0 where
+  pub within : IsIn p.range (pos n)
+  pub few : total p.roles (pos n) ≤ 1024
 
 -- the file is short enough and accepted
 abbrev pub IsAcceptedFile : List ℕ → Option (List File) → Type 0

@@ -7,12 +7,14 @@
 mod answer;
 mod file;
 mod kernels;
+mod meaning;
 mod saying;
 mod telling;
 mod tree;
 
 pub use answer::Wanted;
+pub use meaning::core_in;
 pub use pb_cli_status::{Refusal, Status};
-pub use pb_compile::CTree;
+pub use pb_compile::{CTree, Core};
 pub use telling::{tell, tell_merged};
 pub use tree::tree_in;

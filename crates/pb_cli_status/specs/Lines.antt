@@ -32,6 +32,11 @@ status_of (refusal.OutOfRange n range) = status.OutOfRange
 status_of refusal.Ranks = status.Limit
 status_of refusal.WordsInFlight = status.Limit
 status_of (refusal.Turns turns) = status.Turns
+status_of refusal.Pieces = status.Limit
+status_of (refusal.CostLoop place) = status.CostFault
+status_of (refusal.LogDiffers line rank) = status.NotCovered
+status_of (refusal.LogBeyond line rank) = status.NotCovered
+status_of (refusal.LogMalformed line) = status.Log
 
 -- the line's words for a limit
 abbrev pub limit_words : Quantity → List ℕ
@@ -117,6 +122,14 @@ low_words n low = codes "pabble: N = " ++ decimal n ++ codes " outside " ++ deci
 abbrev pub outside_line : ℕ → NRange → List ℕ
 outside_line n range = low_words n range.low ++ high_words range.high
 
+-- a line that tells a malformed line of a log
+abbrev pub malformed_line : ℕ → List ℕ
+malformed_line line = codes "pabble: log line " ++ decimal line ++ codes " is malformed\n"
+
+-- a line that tells how a rank departs from a protocol, first at a line of its log
+unfoldable pub ruling_line : ℕ → ℕ → List ℕ → List ℕ
+ruling_line line rank what = codes "pabble: log line " ++ decimal line ++ codes ", rank " ++ decimal rank ++ what
+
 abbrev pub line_of : Refusal → List ℕ
 line_of refusal.Usage = codes "pabble: usage\n"
 line_of refusal.ReadFault = codes "pabble: read fault\n"
@@ -135,6 +148,11 @@ line_of (refusal.OutOfRange n range) = outside_line n range
 line_of refusal.Ranks = codes "pabble: limit ranks\n"
 line_of refusal.WordsInFlight = codes "pabble: limit words in flight\n"
 line_of (refusal.Turns turns) = number_line (codes "pabble: turns ") turns
+line_of refusal.Pieces = codes "pabble: limit pieces\n"
+line_of (refusal.CostLoop place) = line_at (codes "pabble: cost loop") place
+line_of (refusal.LogDiffers line rank) = ruling_line line rank (codes " differs\n")
+line_of (refusal.LogBeyond line rank) = ruling_line line rank (codes " goes beyond\n")
+line_of (refusal.LogMalformed line) = malformed_line line
 
 -- the line of a file that is accepted
 abbrev pub accepted_line : List ℕ

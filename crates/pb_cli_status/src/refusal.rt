@@ -8,7 +8,7 @@ use crate::broken::write_broken;
 use crate::kernel::{KernelKind, KernelWrong, write_kernel};
 use crate::parts::write_parts;
 use crate::status::Status;
-use crate::told::{write_number, write_outside};
+use crate::told::{write_malformed, write_number, write_outside, write_ruling};
 use itoa::Buffer;
 use pb_affine::NRange;
 use pb_io::{OutFault, Sink, write_all};
@@ -83,6 +83,27 @@ pub enum Refusal {
     /// So many events were made, and some rank has a step.
     #[error("Turns")]
     Turns(u32),
+    /// A count of what the protocol sends has more than 4,096 pieces.
+    #[error("Pieces")]
+    Pieces,
+    /// The protocol has a loop, first at this place.
+    #[error("CostLoop")]
+    CostLoop(Place),
+    /// The protocol has another action for this rank in the place of that in this line of a log.
+    #[error("LogDiffers")]
+    LogDiffers {
+        line: u32,
+        rank: u32,
+    },
+    /// This rank does more than the protocol has for it, from this line of a log on.
+    #[error("LogBeyond")]
+    LogBeyond {
+        line: u32,
+        rank: u32,
+    },
+    /// This line of a log is malformed.
+    #[error("LogMalformed")]
+    LogMalformed(u32),
 }
 
 impl Refusal {
@@ -110,6 +131,11 @@ impl Refusal {
             Refusal::Ranks => Status::Limit,
             Refusal::WordsInFlight => Status::Limit,
             Refusal::Turns(_) => Status::Turns,
+            Refusal::Pieces => Status::Limit,
+            Refusal::CostLoop(_) => Status::CostFault,
+            Refusal::LogDiffers { .. } => Status::NotCovered,
+            Refusal::LogBeyond { .. } => Status::NotCovered,
+            Refusal::LogMalformed(_) => Status::Log,
         }
     }
 
@@ -142,6 +168,11 @@ impl Refusal {
             Refusal::Ranks => write_all(out, b"pabble: limit ranks\n"),
             Refusal::WordsInFlight => write_all(out, b"pabble: limit words in flight\n"),
             Refusal::Turns(turns) => write_number(out, b"pabble: turns ", *turns),
+            Refusal::Pieces => write_all(out, b"pabble: limit pieces\n"),
+            Refusal::CostLoop(place) => write_at(out, b"pabble: cost loop", *place),
+            Refusal::LogDiffers { line, rank } => write_ruling(out, *line, *rank, b" differs\n"),
+            Refusal::LogBeyond { line, rank } => write_ruling(out, *line, *rank, b" goes beyond\n"),
+            Refusal::LogMalformed(line) => write_malformed(out, *line),
         }
     }
 }

@@ -29,12 +29,18 @@ pub enum Status {
     Turns,
     /// 12: N is outside the protocol's range.
     OutOfRange,
+    /// 16: the protocol has a loop, so what it sends isn't bounded.
+    CostFault = 16,
+    /// 17: the log isn't one of the protocol's.
+    NotCovered = 17,
+    /// 18: the log is malformed.
+    Log = 18,
 }
 
 impl Status {
     ghost use Rattle.pb_cli_status.specs.Codes.{code_of};
 
-    /// The number from 0 to 12 with which the program ends. Takes no memory.
+    /// The number with which the program ends: from 0 to 12, or from 16 to 18. Takes no memory.
     pub fn code(self) -> u8
         ensures { result ≡ code_of self }
     {

@@ -4,7 +4,7 @@ ghost use Rattle.std.specs.Prelude.{◌≤◌, OnOk, OnErr};
 ghost use Rattle.std.specs.Io.KnownBytes.{Appends};
 ghost use Rattle.pb_io.specs.Faults.{Rose};
 ghost use Rattle.pb_io.specs.Sinks.{AppendsFront};
-ghost use Rattle.pb_cli_status.specs.Lines.{high_words, low_words, number_line, outside_line};
+ghost use Rattle.pb_cli_status.specs.Lines.{high_words, low_words, malformed_line, number_line, outside_line, ruling_line};
 
 use crate::parts::write_parts;
 use itoa::Buffer;
@@ -21,6 +21,32 @@ pub fn write_number<O: Sink>(out: &mut O, what: &[u8], n: u32) -> Result<(), Out
     let mut number = Buffer::new();
     let number = number.format(n).as_bytes();
     write_parts(out, &[what, number, b"\n"])
+}
+
+/// Appends the line of a rank that departs from a protocol, first at a line of its log.
+pub fn write_ruling<O: Sink>(out: &mut O, line: u32, rank: u32, what: &[u8]) -> Result<(), OutFault>
+    ensures whole { OnOk result (Appends (O.taken out.old) (O.taken out.new) (ruling_line line rank what.now)) }
+    ensures front { OnErr result (AppendsFront (O.taken out.old) (O.taken out.new) (ruling_line line rank what.now)) }
+    ensures fault { OnErr result (Rose (O.faults out.old) (O.faults out.new)) }
+    ensures later { O.faults out.old ≤ O.faults out.new }
+{
+    let mut line_number = Buffer::new();
+    let mut rank_number = Buffer::new();
+    let line = line_number.format(line).as_bytes();
+    let rank = rank_number.format(rank).as_bytes();
+    write_parts(out, &[b"pabble: log line ", line, b", rank ", rank, what])
+}
+
+/// Appends the line of a log that is malformed at a line.
+pub fn write_malformed<O: Sink>(out: &mut O, line: u32) -> Result<(), OutFault>
+    ensures whole { OnOk result (Appends (O.taken out.old) (O.taken out.new) (malformed_line line)) }
+    ensures front { OnErr result (AppendsFront (O.taken out.old) (O.taken out.new) (malformed_line line)) }
+    ensures fault { OnErr result (Rose (O.faults out.old) (O.faults out.new)) }
+    ensures later { O.faults out.old ≤ O.faults out.new }
+{
+    let mut number = Buffer::new();
+    let number = number.format(line).as_bytes();
+    write_parts(out, &[b"pabble: log line ", number, b" is malformed\n"])
 }
 
 /// Appends the upper end of a range, and the line's end.

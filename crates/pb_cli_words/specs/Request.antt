@@ -25,6 +25,8 @@ pub data Request : Type 0 where
   replay : (text schedule : List ℕ) (n : ℕ) → Request  -- and one by a schedule
   run : (file : List ℕ) (options : Options) → Request  -- a simulation of a protocol
   demo : (count : ℕ) → Request  -- a simulation of a protocol of so many statements that the program makes itself
+  cost : (file : List ℕ) → Request  -- how much a protocol sends
+  judge : (file log : List ℕ) (n : ℕ) → Request  -- the ruling on a log of a protocol
 
 -- ---- the values of options
 
@@ -147,6 +149,9 @@ replay_in files options = two_files files >>= λ both. only_n options >>= λ n. 
 abbrev pub demo_in : List (List ℕ) → List Given → Option Request
 demo_in files options = plain_file files options >>= λ word. number_in 1 4000 word >>= λ count. Some (demo count)
 
+abbrev pub judge_in : List (List ℕ) → List Given → Option Request
+judge_in files options = two_files files >>= λ both. only_n options >>= λ n. Some (judge both.0 both.1 n)
+
 -- a command by its name, with its files and options
 abbrev pub asked : List ℕ → List (List ℕ) → List Given → Option Request
 asked command files options =
@@ -157,6 +162,8 @@ asked command files options =
     else if pointwise nat_eq command (codes "replay") then replay_in files options
     else if pointwise nat_eq command (codes "run") then run_in files options
     else if pointwise nat_eq command (codes "demo") then demo_in files options
+    else if pointwise nat_eq command (codes "cost") then (plain_file files options >>= λ file. Some (cost file))
+    else if pointwise nat_eq command (codes "judge") then judge_in files options
     else None
 
 -- the first word is the command, and the others are its files
@@ -182,6 +189,8 @@ request_of (C.Sim text options) = sim text.now options
 request_of (C.Replay text schedule n) = replay text.now schedule.now n
 request_of (C.Run file options) = run file.now options
 request_of (C.Demo count) = demo count
+request_of (C.Cost file) = cost file.now
+request_of (C.Judge file log n) = judge file.now log.now n
 
 abbrev pub request_if : Option Command → Option Request
 request_if None = None
@@ -201,3 +210,5 @@ AsksForFew (C.Sim text options) = HasFewTurns options
 AsksForFew (C.Replay text schedule n) = Unit {0}
 AsksForFew (C.Run file options) = HasFewTurns options
 AsksForFew (C.Demo count) = Unit {0}
+AsksForFew (C.Cost file) = Unit {0}
+AsksForFew (C.Judge file log n) = Unit {0}

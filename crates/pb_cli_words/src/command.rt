@@ -2,7 +2,7 @@
 
 ghost use Rattle.std.specs.Prelude.{◌≡◌, Bool, Some, map, IfOk, IfSome, option_copied, option_map};
 ghost use Rattle.std.specs.String.{string_bytes};
-ghost use Rattle.pb_cli_words.specs.Request.{AsksForFew, asked, demo_in, gen_in, gen_of, one_file, plain_file, replay_in, request, request_if, run_in, sim_in, two_files};
+ghost use Rattle.pb_cli_words.specs.Request.{AsksForFew, asked, demo_in, gen_in, gen_of, judge_in, one_file, plain_file, replay_in, request, request_if, run_in, sim_in, two_files};
 ghost use Rattle.clap.specs.Words.{found_of, rows_of};
 ghost use Rattle.pb_cli_words.specs.Reader.{IsFlag, asked_by, asked_for};
 ghost use Rattle.pb_cli_words.specs.Shown.{options_of};
@@ -35,6 +35,10 @@ pub enum Command<'a> {
     Run(&'a str, Options),
     /// `demo K`: a simulation of a protocol of K statements, from 1 to 4,000, that the program makes itself.
     Demo(u32),
+    /// `cost FILE`: how much the protocol in FILE sends at least and at most.
+    Cost(&'a str),
+    /// `judge FILE LOG --n A`: the ruling on the log in LOG of the protocol in FILE, with N from 0 to 2,000,000,000.
+    Judge(&'a str, &'a str, u32),
 }
 
 /// The most statements of a demo.
@@ -129,6 +133,14 @@ fn demo_in<'a>(files: &[&'a str], given: &Given) -> Option<Command<'a>>
     Some(Command::Demo(count as u32))
 }
 
+fn judge_in<'a>(files: &[&'a str], given: &Given) -> Option<Command<'a>>
+    ensures { request_if result ≡ judge_in (map (λ f. f.now) files.now) (options_of given.now) }
+{
+    let (file, log) = two_files(files)?;
+    let n = only_n(given)?;
+    Some(Command::Judge(file, log, n))
+}
+
 /// The command of this name.
 fn asked<'a>(command: &str, files: &[&'a str], given: &Given) -> Option<Command<'a>>
     ensures asked { request_if result ≡ asked command.now (map (λ f. f.now) files.now) (options_of given.now) }
@@ -148,6 +160,10 @@ fn asked<'a>(command: &str, files: &[&'a str], given: &Given) -> Option<Command<
         run_in(files, given)
     } else if command == "demo" {
         demo_in(files, given)
+    } else if command == "cost" {
+        Some(Command::Cost(plain_file(files, given)?))
+    } else if command == "judge" {
+        judge_in(files, given)
     } else {
         None
     }

@@ -79,6 +79,18 @@ fn letters(alloc: Global, line: &str) -> Result<Vec<u8>, AllocError> {
                 out.push(b'M')?;
             }
         }
+        Ok(Some(Command::Cost(file))) => {
+            out.push(b'o')?;
+            out.extend_from_slice(file.as_bytes())?;
+        }
+        Ok(Some(Command::Judge(file, log, n))) => {
+            out.push(b'j')?;
+            if n == 2 {
+                out.push(b'2')?;
+            }
+            out.extend_from_slice(file.as_bytes())?;
+            out.extend_from_slice(log.as_bytes())?;
+        }
     }
     Ok(out)
 }
@@ -111,6 +123,11 @@ fn reads_commands(rt: HostRuntime) -> Result<(), Fail> {
         ("demo 04", "d4"),
         ("demo -- 4", "d4"),
         ("demo 4000", "dM"),
+        ("cost p", "op"),
+        ("cost -- p", "op"),
+        ("judge p l --n 2", "j2pl"),
+        ("judge p --n=02 -- l", "j2pl"),
+        ("--n 2 judge p l", "j2pl"),
     ] {
         let got = letters(rt.alloc(), line)?;
         assert_eq!(rt; got.as_slice(), asked.as_bytes());
@@ -172,6 +189,18 @@ fn refuses_words_in_no_form(rt: HostRuntime) -> Result<(), Fail> {
         "demo --n 2 4",
         "demo 4 --schedule",
         "-- demo 4",
+        "cost",
+        "cost p q",
+        "cost p --n 2",
+        "cost p --schedule",
+        "-- cost p",
+        "judge p --n 2",
+        "judge p l",
+        "judge p l m --n 2",
+        "judge p l --n 2 --n 2",
+        "judge p l --n 2 --seed 7",
+        "judge p l --n 2 --schedule",
+        "judge p l --n 2000000001",
     ] {
         let got = letters(rt.alloc(), line)?;
         assert_eq!(rt; got.as_slice(), b"-".as_slice());

@@ -14,6 +14,7 @@ use Rattle.pb_ctree.specs.Trees.{IsTree}
 use Rattle.pb_shape.specs.Shape.{HasShape}
 use Rattle.pb_shape.specs.Sizes.{braces_all}
 use Rattle.pb_shape.specs.Theorem.{DoesRun}
+use Rattle.pb_shape_reached.specs.Reached.{AreReached}
 use Rattle.pb_compile.specs.Verdict.{IsAcceptedAs}
 
 -- a well-made tree whose endpoint program has the shape of the protocol's projection
@@ -30,12 +31,17 @@ pub record IsSmall (tree : CTree) : Type 0 where
 abbrev pub DoesProtocol : Protocol → CTree → Type 0
 DoesProtocol p tree = (n : ℤ) → IsIn p.range n → total p.roles n ≤ MOST_NUMBER → DoesRun p (program_of tree.local) n
 
--- the bytes are an accepted file with this meaning, and the tree is one of its projection, which does the protocol
+-- each statement is reached by some rank, and each part of an `If` that isn't empty is taken by some, at an N with at most 2,000,000,000 ranks
+abbrev pub HasNoDeadBranch : Protocol → CTree → Type 0
+HasNoDeadBranch p tree = AreReached p (program_of tree.local) 0 (program_of tree.local).body
+
+-- the bytes are an accepted file with this meaning, and the tree is one of its projection, which does the protocol and has no dead branch
 pub record IsCompiled (bytes : List ℕ) (p : Protocol) (tree : CTree) : Type 0 where
   pub accepted : IsAcceptedAs bytes p
   pub projected : IsProjected p tree
   pub small : IsSmall tree
   pub does : DoesProtocol p tree
+  pub reached : HasNoDeadBranch p tree
 
 -- the bytes spell the tree with default bodies
 pub record IsTextOf (tree : CTree) (text : List ℕ) : Type 0 where

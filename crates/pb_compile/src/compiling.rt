@@ -19,6 +19,7 @@ use pb_ctree::{CTree, emit};
 use pb_local::NoMemory;
 use pb_project::project;
 use pb_shape_ranks::text_ranks;
+use pb_shape_reached::text_is_reached;
 use std::alloc::Global;
 
 /// An accepted protocol with its C tree.
@@ -38,6 +39,7 @@ pub fn compile(alloc: Global, bytes: &[u8]) -> Result<Compiled, Verdict>
     ensures verdict { IfErr result (IsVerdict bytes.now) }
 {
     text_ranks();
+    text_is_reached();
     file_is_proper();
     file_is_small();
     file_is_tabled();

@@ -9,6 +9,7 @@ mod Statements
 mod Header
 mod Words
 mod Small
+pub mod Messages
 mod Distinct
 mod Labels
 mod Kernels
@@ -16,4 +17,4 @@ mod Payloads
 mod OneKind
 mod Goes
 mod Roles
-mod Tabled
+pub mod Tabled

@@ -7,4 +7,4 @@ mod Fits
 mod PartsKept
 mod Told
 mod All
-mod Unique
+pub mod Unique

@@ -52,7 +52,10 @@ fn page_of<F: Folder, A: Fn(u64, u32, u64) -> u32 + Drop>(
         | Status::Schedule
         | Status::Stuck
         | Status::Turns
-        | Status::OutOfRange => {
+        | Status::OutOfRange
+        | Status::CostFault
+        | Status::NotCovered
+        | Status::Log => {
             tell_call(alloc, &mut page, words, status, folder, answers)?;
         }
     }

@@ -1,6 +1,8 @@
 //! The files of each command.
 
 use crate::again::{Again, MOST_FILE_BYTES, read_again, tell_once, tell_unread};
+use crate::costs::tell_cost;
+use crate::judged::{Judged, tell_judged};
 use crate::kernels::tell_merge;
 use crate::protocol::{Ask, tell_protocol};
 use crate::schedule::{Replay, tell_replay};
@@ -20,7 +22,7 @@ pub fn tell_long(page: &mut Page, file: &str) -> Result<(), NoMemory> {
 }
 
 /// Explains the answer to a protocol file.
-fn tell_file<F: Folder>(
+pub fn tell_file<F: Folder>(
     alloc: Global,
     page: &mut Page,
     folder: &mut F,
@@ -41,8 +43,12 @@ fn tell_file<F: Folder>(
 fn is_warned(command: Command) -> bool {
     match command {
         Command::Check(_) | Command::Gen(_) | Command::GenWith(_, _) | Command::Run(_, _) => true,
-        Command::Project(_) | Command::Sim(_, _) | Command::Replay(_, _, _) | Command::Demo(_) =>
-            false,
+        Command::Project(_)
+        | Command::Sim(_, _)
+        | Command::Replay(_, _, _)
+        | Command::Demo(_)
+        | Command::Cost(_)
+        | Command::Judge(_, _, _) => false,
     }
 }
 
@@ -79,6 +85,11 @@ pub fn tell_files<F: Folder, A: Fn(u64, u32, u64) -> u32 + Drop>(
         }
         // a demo reads no file
         Command::Demo(_) => Ok(()),
+        Command::Cost(file) => tell_cost(alloc, page, folder, file, status),
+        Command::Judge(file, log, n) => {
+            let asked = Judged { file, log, n };
+            tell_judged(alloc, page, folder, &asked, status)
+        }
     }
 }
 
@@ -117,11 +128,13 @@ pub fn tell_read_fault<F: Folder>(
         | Command::Gen(file)
         | Command::Project(file)
         | Command::Run(file, _)
-        | Command::Sim(file, _) => tell_unread(page, file),
+        | Command::Sim(file, _)
+        | Command::Cost(file) => tell_unread(page, file),
         Command::GenWith(file, kernels) => tell_unread_of(alloc, page, folder, file, kernels),
         Command::Replay(text, schedule, _) => {
             tell_unread_of(alloc, page, folder, text, schedule)
         }
+        Command::Judge(file, log, _) => tell_unread_of(alloc, page, folder, file, log),
         Command::Demo(_) => Ok(()),
     }
 }

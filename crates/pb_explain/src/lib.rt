@@ -6,8 +6,10 @@
 #![tactic(auto)]
 
 mod again;
+mod costs;
 mod entry;
 mod files;
+mod judged;
 mod kernels;
 mod played;
 mod protocol;

@@ -16,6 +16,8 @@ pub enum Ask {
     Verdict,
     /// A simulation.
     Run(Options),
+    /// The ruling on a log at this N.
+    Judge(u32),
 }
 
 /// Writes the warnings on an accepted protocol.
@@ -35,7 +37,16 @@ fn tell_limits(alloc: Global, page: &mut Page, source: &Source, ask: Ask) -> Res
         (Ask::Run(options), Some(file)) => {
             tell_many(alloc, page, source, &file, i64::from(options.n))
         }
+        (Ask::Judge(n), Some(file)) => tell_many(alloc, page, source, &file, i64::from(n)),
         _ => Ok(()),
+    }
+}
+
+/// Explains that N isn't in the protocol's range.
+fn tell_range(alloc: Global, page: &mut Page, source: &Source, n: u32) -> Result<(), NoMemory> {
+    match tree_of(alloc, source.bytes)? {
+        Some(file) => tell_values(alloc, page, source, &file, i64::from(n)),
+        None => Ok(()),
     }
 }
 
@@ -50,32 +61,42 @@ fn tell_run(
     if status == Status::Turns {
         return tell_turns(page, source.file, u64::from(options.turns));
     }
-    match tree_of(alloc, source.bytes)? {
-        Some(file) => tell_values(alloc, page, source, &file, i64::from(options.n)),
-        None => Ok(()),
+    tell_range(alloc, page, source, options.n)
+}
+
+/// Explains what came of an accepted protocol at the N that was asked for.
+fn tell_at(
+    alloc: Global,
+    page: &mut Page,
+    source: &Source,
+    status: Status,
+    ask: Ask,
+) -> Result<(), NoMemory> {
+    match ask {
+        Ask::Verdict => Ok(()),
+        Ask::Run(options) => tell_run(alloc, page, source, status, options),
+        Ask::Judge(n) => tell_range(alloc, page, source, n),
     }
 }
 
 /// Explains the answer to a protocol of these bytes.
-pub fn tell_protocol(
+pub fn tell_protocol<'x>(
     alloc: Global,
     page: &mut Page,
-    file: &str,
-    bytes: &[u8],
+    file: &'x str,
+    bytes: &'x [u8],
     status: Status,
     ask: Ask,
 ) -> Result<(), NoMemory> {
     let source = Source { file, bytes };
-    match (status, ask) {
-        (Status::Done, _) => warn(alloc, page, &source),
-        (Status::Refused, _) => {
+    match status {
+        Status::Done => warn(alloc, page, &source),
+        Status::Refused => {
             let _refused = tell_refused(alloc, page, &source, status)?;
             Ok(())
         }
-        (Status::Limit, _) => tell_limits(alloc, page, &source, ask),
-        (Status::Turns | Status::OutOfRange, Ask::Run(options)) => {
-            tell_run(alloc, page, &source, status, options)
-        }
+        Status::Limit => tell_limits(alloc, page, &source, ask),
+        Status::Turns | Status::OutOfRange => tell_at(alloc, page, &source, status, ask),
         _ => Ok(()),
     }
 }

@@ -62,7 +62,10 @@ fn tell_simulation<A: Fn(u64, u32, u64) -> u32 + Drop>(
         | Status::NoMemory
         | Status::Kernel
         | Status::Text
-        | Status::Schedule => Ok(()),
+        | Status::Schedule
+        | Status::CostFault
+        | Status::NotCovered
+        | Status::Log => Ok(()),
     }
 }
 

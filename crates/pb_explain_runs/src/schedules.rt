@@ -19,7 +19,7 @@ fn wanted(source: &Source, line: u32) -> &'static str {
 }
 
 /// Whether the line with this number is the last, and has no line feed.
-fn is_open(source: &Source, line: u32) -> bool {
+pub fn is_open(source: &Source, line: u32) -> bool {
     let mut feeds = 0u32;
     for byte in source.bytes {
         if *byte == b'\n' {

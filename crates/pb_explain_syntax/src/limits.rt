@@ -7,7 +7,7 @@ use pb_text::{NoMemory, Place, Quantity};
 fn reason(limit: Quantity) -> &'static str {
     match limit {
         Quantity::FileBytes => {
-            "the file has too many bytes: a protocol and a kernel file have at most 1,048,576, a C text and a schedule 67,108,864"
+            "the file has too many bytes: a protocol and a kernel file have at most 1,048,576, a C text, a schedule and a log 67,108,864"
         }
         Quantity::NumberSize => "this number is too large: numbers go up to 2,000,000,000",
         Quantity::NameLength => "this name is too long: names have at most 64 bytes",
@@ -29,7 +29,8 @@ fn reason(limit: Quantity) -> &'static str {
         Quantity::TextStatements =>
             "this would be statement 50,001 of the text: there are at most 50,000",
         Quantity::Events => "the schedule has too many events: at most 1,000,000",
-        Quantity::Pieces => "the count has too many pieces: at most 4,096",
+        Quantity::Pieces =>
+            "a count of what is sent has too many pieces, each a line in N: at most 4,096",
     }
 }
 
@@ -48,6 +49,7 @@ fn remedy(limit: Quantity) -> Option<&'static str> {
         Quantity::Breakpoints => Some("use fewer different offsets beside N and in the ranges"),
         Quantity::Ranks => Some("take a smaller N"),
         Quantity::Branches => Some("choose in two steps: a choice may stand in a branch"),
+        Quantity::Pieces => Some("use fewer different offsets beside N in ranges and choices"),
         Quantity::Nesting => Some("end a loop or a choice before the next begins"),
         Quantity::FileBytes
         | Quantity::NumberSize
@@ -56,8 +58,7 @@ fn remedy(limit: Quantity) -> Option<&'static str> {
         | Quantity::WordsInFlight
         | Quantity::TextNesting
         | Quantity::TextStatements
-        | Quantity::Events
-        | Quantity::Pieces => None,
+        | Quantity::Events => None,
     }
 }
 

@@ -7,6 +7,8 @@ pub enum Verb {
     Run,
     Sim,
     Replay,
+    Cost,
+    Judge,
     Demo,
 }
 
@@ -20,6 +22,8 @@ impl Verb {
             Verb::Run,
             Verb::Sim,
             Verb::Replay,
+            Verb::Cost,
+            Verb::Judge,
             Verb::Demo,
         ]
     }
@@ -33,6 +37,8 @@ impl Verb {
             Verb::Run => "run",
             Verb::Sim => "sim",
             Verb::Replay => "replay",
+            Verb::Cost => "cost",
+            Verb::Judge => "judge",
             Verb::Demo => "demo",
         }
     }
@@ -46,6 +52,8 @@ impl Verb {
             Verb::Run => "pabble run FILE --n A [--seed B] [--turns C] [--mode M] [--schedule]",
             Verb::Sim => "pabble sim TEXT --n A [--seed B] [--turns C] [--mode M] [--schedule]",
             Verb::Replay => "pabble replay TEXT SCHEDULE --n A",
+            Verb::Cost => "pabble cost FILE",
+            Verb::Judge => "pabble judge FILE LOG --n A",
             Verb::Demo => "pabble demo K",
         }
     }
@@ -59,6 +67,8 @@ impl Verb {
             Verb::Run => "simulates the protocol at N = A",
             Verb::Sim => "simulates a C text that `gen` wrote",
             Verb::Replay => "simulates it by a schedule that `--schedule` wrote",
+            Verb::Cost => "counts the least and the most that the protocol sends, for every N",
+            Verb::Judge => "says whether a log kept the protocol at N = A, and else where not",
             Verb::Demo => "makes, compiles and simulates a protocol of K statements",
         }
     }
@@ -66,9 +76,10 @@ impl Verb {
     /// What its words are, from the first to the last that there must be.
     pub fn files(self) -> &'static [&'static str] {
         match self {
-            Verb::Check | Verb::Project | Verb::Gen | Verb::Run => &["FILE"],
+            Verb::Check | Verb::Project | Verb::Gen | Verb::Run | Verb::Cost => &["FILE"],
             Verb::Sim => &["TEXT"],
             Verb::Replay => &["TEXT", "SCHEDULE"],
+            Verb::Judge => &["FILE", "LOG"],
             Verb::Demo => &["K"],
         }
     }
@@ -76,8 +87,8 @@ impl Verb {
     /// How many words it takes at most.
     pub fn most(self) -> usize {
         match self {
-            Verb::Gen | Verb::Replay => 2,
-            Verb::Check | Verb::Project | Verb::Run | Verb::Sim | Verb::Demo => 1,
+            Verb::Gen | Verb::Replay | Verb::Judge => 2,
+            Verb::Check | Verb::Project | Verb::Run | Verb::Sim | Verb::Cost | Verb::Demo => 1,
         }
     }
 

@@ -43,8 +43,8 @@ impl Choice {
     pub fn goes_with(self, verb: Verb) -> bool {
         match verb {
             Verb::Run | Verb::Sim => true,
-            Verb::Replay => self == Choice::N,
-            Verb::Check | Verb::Project | Verb::Gen | Verb::Demo => false,
+            Verb::Replay | Verb::Judge => self == Choice::N,
+            Verb::Check | Verb::Project | Verb::Gen | Verb::Cost | Verb::Demo => false,
         }
     }
 

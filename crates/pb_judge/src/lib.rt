@@ -10,6 +10,6 @@ mod laws;
 pub use judging::judge;
 pub use laws::read_logs_have_ranks;
 pub use pb_core_language::Core;
-pub use pb_judge_log::Log;
+pub use pb_judge_log::{Log, has_few_ranks};
 pub use pb_judge_ruling::Ruling;
 pub use pb_text::NoMemory;

@@ -19,5 +19,5 @@ pub use fault::LogFault;
 pub use log::Log;
 pub use pb_core_language::Core;
 pub use pb_text::{Action, Joint, NoMemory, Words};
-pub use ranks::total;
+pub use ranks::{has_few_ranks, total};
 pub use reading::read_log;

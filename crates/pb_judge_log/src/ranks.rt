@@ -1,11 +1,15 @@
 //! How many ranks there are.
 
-ghost use Rattle.std.specs.Prelude.{◌≡◌, ◌≤◌, true, length, pos};
+ghost use Rattle.std.specs.Prelude.{◌≡◌, ◌≤◌, true, length, nat_le, pos};
 ghost use Rattle.pb_affine.specs.Values.{IsNear, value, range, count_of};
+ghost use Rattle.pb_core_language.specs.Plain.{plain};
 ghost use Rattle.pb_core_language.specs.Ranks.{total};
-ghost use Rattle.pb_core_language.specs.Sound.{is_bound, are_roles};
+ghost use Rattle.pb_core_language.specs.Sound.{is_bound, is_sound, are_roles};
 
-use pb_core_language::CoreRole;
+use pb_core_language::{Core, CoreRole};
+
+/// The most ranks of a log.
+const MOST_RANKS: u64 = 1024;
 
 /// The number, or 0 where it is negative.
 fn count_of(many: i64) -> u64
@@ -38,4 +42,30 @@ pub fn total(roles: &[CoreRole], n: i64) -> u32
         count += indices(role, n);
     }
     count as u32
+}
+
+/// Whether the roles have at most 1,024 ranks at N = n, within 2^40 of zero.
+fn are_few(roles: &[CoreRole], n: i64) -> bool
+    requires roles { are_roles roles.now ≡ true }
+    requires near { IsNear n }
+    ensures { result ≡ nat_le (total roles.now n) 1024 }
+{
+    let mut room = MOST_RANKS;
+    for role in roles {
+        let more = indices(role, n);
+        if more > room {
+            return false;
+        }
+        room -= more;
+    }
+    true
+}
+
+/// Whether a sound protocol has at most 1,024 ranks at N = n, within 2^40 of zero. Takes no memory.
+pub fn has_few_ranks(core: &Core, n: i64) -> bool
+    requires sound { is_sound (plain core.now) ≡ true }
+    requires near { IsNear n }
+    ensures { result ≡ nat_le (total core.now.roles.items n) 1024 }
+{
+    are_few(&core.roles, n)
 }

@@ -20,6 +20,7 @@ use Rattle.pb_core_language.specs.Plain.{Protocol}
 use Rattle.pb_core_language.specs.Sound.{rows_of, is_end, is_over_n, is_small, are_branches}
 use Rattle.pb_core_language.specs.Tree as T
 use Rattle.pb_core_language.specs.Tree.{Mark, StmtTree, BlockTree, BranchTrees}
+use Rattle.pb_core_language.specs.Ranks.{total}
 use Rattle.pb_core_language.specs.Verdict.{IsIn}
 use Rattle.pb_part_firsts.specs.Takers.{IsWhole}
 use Rattle.pb_core_flat.specs.Seated.{rank, is_rank, is_at}
@@ -37,7 +38,7 @@ use Rattle.pb_project_piece.proofs.Ones.{guard_holds}
 use Rattle.pb_shape.specs.Guards as G
 use Rattle.pb_shape.specs.Shape as S
 use Rattle.pb_shape.specs.Places.{Scope, Who, Here, everyone, scope_of, inside, peer_of}
-use Rattle.pb_shape.specs.Guards.{Somebody, Nobody, alone}
+use Rattle.pb_shape.specs.Guards.{Someone, Somebody, Nobody, alone}
 use Rattle.pb_shape.specs.Loops.{Around, takers}
 use Rattle.pb_shape.specs.Choices.{Tests, AreHeld, Relays, is_chooser, AreCalled, is_told, told_by}
 use Rattle.pb_shape.specs.Shape.{Shapes}
@@ -48,7 +49,7 @@ use Rattle.pb_syntax.specs.declared.core_label.KernelKind.{KernelKind}
 use Rattle.pb_syntax.specs.declared.core_label.KernelKind.TheVariants.{Compute}
 use Rattle.pb_project_choice.specs.Found.{IsFoundIn}
 use Rattle.pb_project_choice.specs.Tested.{HasHolder}
-use Rattle.pb_project_choice.specs.Relayed.{is_apart}
+use Rattle.pb_project_choice.specs.Relayed.{HasCaller}
 use Rattle.pb_project.specs.Learning.{Told}
 use Rattle.pb_project.specs.Blocks.{behind, IsStmtOf, IsChoiceOf}
 use Rattle.pb_project.specs.Places.{Known, IsPlace, IsGoodStmt, IsReached}
@@ -175,39 +176,27 @@ module _ (k : Known) (before after : ℕ) (m : Mark) (kernel : ℕ) (at : CoreEn
         made.relays_are.is (scope_of p) h a bs place.stands free place.range_is end_is.low found_is (one_source p cuts a m kernel at bs fair) (tests_are h free)
 
     -- a rank of which guards hold comes to the choice
-    holder_comes : (h : Here) → IsReached (scope_of p) h (takers (scope_of p) a m (T.choice kernel at bs)) → (gs : List Guard) (such : ℤ → ℕ → ℤ → Bool) →
-        ((n : ℤ) (role : ℕ) (x : ℤ) → such n role x ≡ true → part_in (scope_of p) a bs n role x ≡ true) → HasHolder k.range p.roles such gs →
-        (who : Who) → ((n : ℤ) (role : ℕ) (x : ℤ) → such n role x ≡ true → ((i : ℤ) → hold gs n i role x ≡ true) → who n (pos 0) role x ≡ true) →
-        Somebody (scope_of p) (inside h (takers (scope_of p) a m (T.choice kernel at bs))) who
-    holder_comes h reached gs such in_part s who is =
-        let within = of_range k p l cuts a place s.n s.within in
-        let takes : takers (scope_of p) a m (T.choice kernel at bs) s.n (pos 0) s.role s.index ≡ true = or_left _ _ (or_right _ _ (in_part s.n s.role s.index s.is)) in
-        record {
-          n = s.n;
-          i = pos 0;
-          role = s.role;
-          index = s.index;
-          within = within;
-          rank = s.rank;
-          at = reached.free.at s.n (pos 0);
-          comes = and_from _ _ takes (reached.come.come s.n (pos 0) s.role s.index within s.rank takes);
-          is = is s.n s.role s.index s.is s.holds;
-        }
+    holder_comes : (h : Here) → IsReached (scope_of p) h (takers (scope_of p) a m (T.choice kernel at bs)) → (n : ℤ) (role : ℕ) (x : ℤ) → IsIn k.range n → is_rank p.roles n role x ≡ true → part_in (scope_of p) a bs n role x ≡ true →
+        (h.at n (pos 0) ≡ true) × ((inside h (takers (scope_of p) a m (T.choice kernel at bs))).comes n (pos 0) role x ≡ true)
+    holder_comes h reached n role x within is in_part =
+        let takes : takers (scope_of p) a m (T.choice kernel at bs) n (pos 0) role x ≡ true = or_left _ _ (or_right _ _ in_part) in
+        (reached.free.at n (pos 0), and_from _ _ takes (reached.come.come n (pos 0) role x (of_range k p l cuts a place n within) is takes))
 
     pub tests_held : (h : Here) → IsReached (scope_of p) h (takers (scope_of p) a m (T.choice kernel at bs)) → AreHeld (scope_of p) (inside h (takers (scope_of p) a m (T.choice kernel at bs))) made.tests
     tests_held h reached =
         All-weaker (λ t. HasHolder k.range p.roles (part_in (scope_of p) a bs) t.guards) (λ t. Somebody (scope_of p) (inside h (takers (scope_of p) a m (T.choice kernel at bs))) (λ n i role x. hold t.guards n i role x))
-        (λ t s. holder_comes h reached t.guards (part_in (scope_of p) a bs) (λ n role x y. y) s (λ n i role x. hold t.guards n i role x) (λ n role x y holds. holds (pos 0))) made.tests
+        (λ t s.
+        let c = holder_comes h reached s.n s.role s.index s.within s.rank s.is in
+        record { n = s.n; i = pos 0; role = s.role; index = s.index; within = of_range k p l cuts a place s.n s.within; few = s.few; rank = s.rank; at = c.0; comes = c.1; is = s.holds (pos 0) }) made.tests
         (made.tests_are.held (scope_of p) a bs (part_in (scope_of p) a bs) place.stands place.range_is few found_is (part_told (scope_of p) a bs))
 
     pub relays_called : (h : Here) → IsReached (scope_of p) h (takers (scope_of p) a m (T.choice kernel at bs)) → AreCalled (scope_of p) (inside h (takers (scope_of p) a m (T.choice kernel at bs))) at made.relays
     relays_called h reached =
-        All-weaker (λ r. HasHolder k.range p.roles (λ n role x. part_in (scope_of p) a bs n role x && is_apart r at n role x) r.guards)
-        (λ r. Somebody (scope_of p) (inside h (takers (scope_of p) a m (T.choice kernel at bs))) (λ n i role x. hold r.guards n x role x && not (is_chooser r.from at n x || is_at at n (pos 0) role x)))
+        All-weaker (λ r. HasCaller k.range p.roles (part_in (scope_of p) a bs) at r)
+        (λ r. Someone (scope_of p) (inside h (takers (scope_of p) a m (T.choice kernel at bs))) (λ n i role x. hold r.guards n x role x && not (is_chooser r.from at n x || is_at at n (pos 0) role x)))
         (λ r s.
-        holder_comes h reached r.guards (λ n role x. part_in (scope_of p) a bs n role x && is_apart r at n role x) (λ n role x y. (and_parts (part_in (scope_of p) a bs n role x) (is_apart r at n role x) y).0) s
-        (λ n i role x. hold r.guards n x role x && not (is_chooser r.from at n x || is_at at n (pos 0) role x))
-        (λ n role x y holds. and_from _ _ (holds x) (and_parts (part_in (scope_of p) a bs n role x) (is_apart r at n role x) y).1)) made.relays
+        let c = holder_comes h reached s.n s.role s.index s.within s.rank s.is in
+        record { n = s.n; i = pos 0; role = s.role; index = s.index; within = of_range k p l cuts a place s.n s.within; rank = s.rank; at = c.0; comes = c.1; is = and_from _ _ (s.holds s.index) s.apart }) made.relays
         (made.relays_are.called (scope_of p) a bs (part_in (scope_of p) a bs) place.stands place.range_is end_is.low found_is (one_source p cuts a m kernel at bs fair) (part_told (scope_of p) a bs))
 
     told_if : (ts : List Test) → (ts ≡ [] → made.relays ≡ []) → IsToldIf (end_guard at) made.relays (peer_of at) ts
@@ -292,7 +281,7 @@ choice_gone k before m kernel at bs areas none taken = record {
       (λ j lab n i role x within r here. sym (nobody_told (scope_of p) a m kernel at bs n i role x j lab (takes n i role x within r)))
       (All-nil (λ (t : Test). Somebody (scope_of p) (inside h (takers (scope_of p) a m s)) (λ n i role x. hold t.guards n i role x)))
       (λ n role x j lab within r other told. absurd (false≢true (sym (nobody_told (scope_of p) a m kernel at bs n (pos 0) role x j lab (takes n (pos 0) role x within r)) ∙ told)))
-      (All-nil (λ (q : Relay). Somebody (scope_of p) (inside h (takers (scope_of p) a m s)) (λ n i role x. hold q.guards n x role x && not (is_chooser q.from at n x || is_at at n (pos 0) role x))))
+      (All-nil (λ (q : Relay). Someone (scope_of p) (inside h (takers (scope_of p) a m s)) (λ n i role x. hold q.guards n x role x && not (is_chooser q.from at n x || is_at at n (pos 0) role x))))
       (unreached (scope_of p) (inside h (takers (scope_of p) a m s)) a (nobody_inside k p l cuts a place m s fair areas taken none h) bs) others;
   made = λ p l cuts a place fair tail others. others;
   loops = λ tail. refl;

@@ -21,6 +21,7 @@ use Rattle.pb_local.specs.WellMade.{AreGuards, IsGuard, IsRange}
 use Rattle.pb_affine.specs.declared.range.NRange.{NRange}
 use Rattle.pb_part_takers.specs.Loops.{ids_of, held_of}
 use Rattle.pb_project_piece.specs.Ranked.{Ranked, IsThere}
+use Rattle.pb_project_piece.proofs.Nears.{few_fitting}
 use Rattle.pb_shape.specs.Places.{Here, scope_of, inside, everyone}
 use Rattle.pb_shape.specs.Guards.{Names, Somebody, Nobody}
 use Rattle.pb_shape.specs.Loops.{Around, takers}
@@ -84,6 +85,7 @@ module _ (k : Known) (p : Protocol) (l : Program) (cuts : List Lin) (a : Around)
           role = t.role;
           index = t.index;
           within = within;
+          few = few_fitting k.range k.roles k.whole (scope_of p) place.stands areas t (record { cuts = cuts; small = place.small; fits = areas_fit });
           rank = r;
           at = reached.free.at t.n (pos 0);
           comes = reached.come.come t.n (pos 0) t.role t.index within r is;

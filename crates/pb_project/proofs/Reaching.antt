@@ -89,7 +89,7 @@ module _ (sc : Scope) (a : Around) (h : Here) where
 within_it : (sc : Scope) (h : Here) (who some : Who) → ((n i : ℤ) (role : ℕ) (x : ℤ) → some n i role x ≡ true → who n i role x ≡ true) → IsReached sc h who → Somebody sc h who → IsReached sc (inside h who) some
 within_it sc h who some among reached s = record {
   free = record { at = reached.free.at };
-  some = record { n = s.n; i = s.i; role = s.role; index = s.index; within = s.within; rank = s.rank; at = s.at; comes = and_from _ _ s.is s.comes; is = refl };
+  some = record { n = s.n; i = s.i; role = s.role; index = s.index; within = s.within; few = s.few; rank = s.rank; at = s.at; comes = and_from _ _ s.is s.comes; is = refl };
   come = record { come = λ n i role x within is t. let w = among n i role x t in and_from _ _ w (reached.come.come n i role x within is w) };
 }
 

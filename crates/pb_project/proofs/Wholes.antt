@@ -1,5 +1,5 @@
 -- A whole program.
-use Rattle.std.proofs.Common.{◌≡◌, ◌≤◌, ℕ, ℤ, pos, ◌≤ℤ◌, Bool, true, false, ◌&&◌, ◌||◌, nat_eq, nat_le, int_le, List, [], ◌∷◌, length, map, inl, Option, Some, None, refl, sym, ap, ◌∙◌, subst, arith}
+use Rattle.std.proofs.Common.{◌≡◌, ◌≤◌, ℕ, ℤ, pos, ◌≤ℤ◌, Bool, true, false, ◌&&◌, ◌||◌, nat_eq, nat_le, nat_lt, int_le, List, [], ◌∷◌, length, map, inl, Option, Some, None, refl, sym, ap, ◌∙◌, subst, arith}
 use Rattle.std.specs.List.{All}
 use Rattle.std.proofs.lemmas.Int.{ints}
 use Rattle.std.proofs.lemmas.Bool.Decides.{nat_tests}
@@ -27,6 +27,8 @@ use Rattle.pb_local.specs.WellMade as W
 use Rattle.pb_local.specs.WellMade.{IsWellMade, AreMade, AreRoles, IsRole, IsRange, AreLabels, AreKernels}
 use Rattle.pb_part_takers.proofs.Among.{among_left, among_right}
 use Rattle.pb_part_takers.proofs.Finds.{among_itself}
+use Rattle.pb_project_piece.proofs.Brought.{rank_brought}
+use Rattle.pb_project_piece.proofs.Fews.{few_early}
 use Rattle.pb_rules.proofs.CutSets.{nothing_listed}
 use Rattle.pb_rules.proofs.CutsSound.{are_all}
 use Rattle.pb_rules.proofs.Lists.{Has, contains}
@@ -57,9 +59,9 @@ first_seat : (low high : ℤ) (b : Bool) → low ≤ℤ high → (nat_eq 0 0 && 
 first_seat low high b h = grind (arith, ints, nat_tests)
 
 -- the first rank at the least N
-some_rank : (range : NRange) (roles : List CoreRole) → IsRange range → 1 ≤ length (map role_of roles) → All (IsRole range) (map role_of roles) → Somebody (record { roles = roles; range = range }) everywhere everyone
-some_rank range [] r some each = absurd (omega (arith, some))
-some_rank range (c ∷ cs) r some each =
+some_rank : (range : NRange) (roles : List CoreRole) → range.low ≤ 100000 → are_roles roles ≡ true → length roles ≤ 64 → IsRange range → 1 ≤ length (map role_of roles) → All (IsRole range) (map role_of roles) → Somebody (record { roles = roles; range = range }) everywhere everyone
+some_rank range [] early sound few r some each = absurd (omega (arith, some))
+some_rank range (c ∷ cs) early sound few r some each =
     let role : IsRole range (role_of c) = each 0 (role_of c) (omega arith) in
     record {
       n = pos range.low;
@@ -67,6 +69,7 @@ some_rank range (c ∷ cs) r some each =
       role = 0;
       index = value c.low (pos range.low) (pos 0);
       within = record { low = omega (arith, ints); high = least_in range.low range.high r.high };
+      few = few_early (c ∷ cs) (pos range.low) sound few (omega (arith, ints)) (omega (arith, ints));
       rank = seat_in_role 0 c cs (pos range.low) 0 (value c.low (pos range.low) (pos 0))
           ∙ first_seat (value c.low (pos range.low) (pos 0)) (value c.high (pos range.low) (pos 0)) _ (role.some range.low (record { low = omega arith; high = least_up_to range.low range.high r.high }));
       at = refl;
@@ -77,6 +80,12 @@ some_rank range (c ∷ cs) r some each =
 module _ (p : Protocol) (sound : is_sound p ≡ true) (tabled : IsTabled p) (keeps : KeepsAll p) where
   roles_sound : are_roles p.roles ≡ true
   roles_sound = (and_parts (are_roles p.roles) _ (and_parts (nat_le (length p.roles) 64) _ (and_parts (is_range p.range) _ sound).1).1).0
+
+  few_roles : length p.roles ≤ 64
+  few_roles = grind (arith, nat_tests, (and_parts (nat_le (length p.roles) 64) _ (and_parts (is_range p.range) _ sound).1).0)
+
+  early_range : p.range.low ≤ 100000
+  early_range = grind (arith, nat_tests, (and_parts (nat_le p.range.low 100000) _ (and_parts (nat_lt 0 p.range.low) _ (and_parts (is_range p.range) _ sound).0).1).0)
 
   body_sound : is_block (rows_of p) false [] p.body.block ≡ true
   body_sound = (and_parts (are_roles p.roles) _ (and_parts (nat_le (length p.roles) 64) _ (and_parts (is_range p.range) _ sound).1).1).1
@@ -97,7 +106,19 @@ module _ (p : Protocol) (sound : is_sound p ≡ true) (tabled : IsTabled p) (kee
   module _ (codes : Codes) (body : IsBodyOf p codes) (l : Program) (local : IsLocalOf p codes l) where
     place : IsPlace (known p.range (length p.roles) body.whole [] []) p l (cuts p) outermost
     place = record {
-      stands = record { range_is = refl; roles_is = refl; whole_is = record { is = λ n role x within. body.is n role x roles_sound (to_range p.range n within) } };
+      stands = record {
+        range_is = refl;
+        roles_is = refl;
+        whole_is = record { is = λ n role x within. body.is n role x roles_sound (to_range p.range n within) };
+        early = early_range;
+        steady = rank_brought p.roles roles_sound;
+        fitting = record {
+          cuts = cuts p;
+          small = are_all p (cuts p) (cuts p) sound refl (nothing_listed (cuts p));
+          fits = body.fits (cuts p) roles_sound (among_left (role_cuts p.roles) (block_cuts None p.body.block) (cuts p) (among_itself (cuts p)));
+        };
+        few = λ n within le. few_early p.roles n roles_sound few_roles (let low = within.low in omega (arith, ints)) le;
+      };
       around = record { opens = refl; within = λ n role x within r. refl };
       numbers_are = refl;
       as_many = refl;
@@ -118,7 +139,7 @@ module _ (p : Protocol) (sound : is_sound p ≡ true) (tabled : IsTabled p) (kee
       body = subst (λ cs. Shape (scope_of p) everywhere outermost p.body.block cs) (sym local.body)
           (body.block.shape p l (cuts p) outermost everywhere place body_good (record {
             free = record { at = λ n i. refl };
-            some = some_rank p.range p.roles tabled.range tabled.roles.some tabled.roles.each;
+            some = some_rank p.range p.roles early_range roles_sound few_roles tabled.range tabled.roles.some tabled.roles.each;
             come = record { come = λ n i role x within is takes. refl };
           }));
     }

@@ -2,6 +2,7 @@ ghost use Rattle.std.specs.Prelude.{◌≡◌, ◌≤◌, ◌+◌, ◌*◌, true
 ghost use Rattle.pb_core_language.specs.Plain.{plain};
 ghost use Rattle.pb_core_language.specs.Sound.{is_sound};
 ghost use Rattle.pb_core_language.specs.Verdict.{KeepsAll};
+ghost use Rattle.pb_core_endpoint.specs.Core.{IsProper};
 ghost use Rattle.pb_local.specs.Tree.{plain_all, program_of, size_all};
 ghost use Rattle.pb_local.specs.WellMade.{IsWellMade};
 ghost use Rattle.pb_shape.specs.Places.{role_of};
@@ -9,6 +10,7 @@ ghost use Rattle.pb_shape.specs.Shape.{HasShape};
 ghost use Rattle.pb_shape.specs.Sizes.{room_all, depth_all, braces_all};
 ghost use Rattle.pb_shape.specs.Tabled.{IsTabled};
 ghost use Rattle.pb_shape_filled.specs.Filled.{AreFilled};
+ghost use Rattle.pb_shape_reached.specs.Reached.{AreReached};
 ghost use Rattle.pb_project.specs.Wholes.{IsBodyOf, IsLocalOf};
 
 use crate::around::Around;
@@ -17,6 +19,7 @@ use pb_core_language::{Core, CoreRole};
 use pb_local::{Local, Role, Stmt};
 use pb_part_takers::areas_of_roles;
 use pb_project_piece::Setting;
+use pb_shape_reached::text_is_reached;
 use pb_text::NoMemory;
 use std::alloc::Global;
 
@@ -85,8 +88,9 @@ pub(crate) fn local_of(alloc: Global, core: &Core, body: Vec<Stmt>) -> Result<Lo
 }
 
 /// The endpoint program of a protocol that keeps its rules: one list of statements for all ranks and every N of its range, in
-/// which no statement stands for what nobody takes part in, no `If` has two empty parts, and no `For` an empty body. Loops are
-/// numbered from 0 in text order.
+/// which no statement stands for what nobody takes part in, no `If` has two empty parts, and no `For` an empty body. Each
+/// statement is reached by some rank at some N with at most 2,000,000,000 ranks, and each part of an `If` that isn't empty is
+/// taken by some. Loops are numbered from 0 in text order.
 pub fn project(alloc: Global, core: &Core) -> Result<Local, NoMemory>
     requires sound { is_sound (plain core.now) ≡ true }
     requires tabled { IsTabled (plain core.now) }
@@ -94,9 +98,11 @@ pub fn project(alloc: Global, core: &Core) -> Result<Local, NoMemory>
     ensures shape { IfOk result (λ l. HasShape (plain core.now) (program_of l)) }
     ensures filled { IfOk result (λ l. AreFilled (program_of l).body) }
     ensures made { IfOk result (λ l. IsWellMade (program_of l)) }
+    ensures reached { IfOk result (λ l. IsProper (plain core.now) → AreReached (plain core.now) (program_of l) 0 (program_of l).body) }
     ensures size { IfOk result (λ l. size_all (program_of l).body ≤ room_all (plain core.now).body.block) }
     ensures braces { IfOk result (λ l. braces_all (program_of l).body ≤ 2 * depth_all (plain core.now).body.block + 1) }
 {
+    text_is_reached();
     let body = body_of(alloc, core)?;
     let local = local_of(alloc, core, body)?;
     Ok(local)

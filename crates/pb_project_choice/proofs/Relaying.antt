@@ -53,8 +53,7 @@ use Rattle.pb_shape.specs.Choices.{Tests, Relays, is_told, teller}
 use Rattle.pb_project_choice.specs.declared.entries.Branch.{Branch}
 use Rattle.pb_project_choice.specs.Found.{entries_at, all_entries, IsFoundIn}
 use Rattle.pb_project_choice.specs.Heard.{IsOther, IsHeard, AreStrangers}
-use Rattle.pb_project_choice.specs.Relayed.{relayed, is_apart, IsRight, AreOfRoles, AreFit, HaveCallers, HearSuch, IsRelayed, AreRelayed}
-use Rattle.pb_project_choice.specs.Tested.{HasHolder}
+use Rattle.pb_project_choice.specs.Relayed.{relayed, HasCaller, IsRight, AreOfRoles, AreFit, HaveCallers, HearSuch, IsRelayed, AreRelayed}
 use Rattle.pb_project_choice.specs.Sayable.{AreSayable}
 use Rattle.pb_project_choice.specs.Sources.{OneSource, same_source, is_from, is_listed, hears, source_at}
 use Rattle.pb_project_choice.proofs.Hearing.{source_is, source_self, any_next, any_none}
@@ -119,14 +118,15 @@ relay_there range roles whole areas strangers chooser es s old new gs it apart t
           let is_one = rank_there range roles whole sc there.n there.role there.index st there.within there.rank in
           let other : agrees s (source_at chooser) there.n there.index ≡ false = apart.apart there.n there.role there.index (from_zero range there.n there.within) small (heard_small s es there.n there.role there.index fit.small heard) there.there in
           let else_where = apart.else_where there.n there.role there.index (from_zero range there.n there.within) small there.there in
-          subst (HaveCallers range sc.roles such chooser) (sym e) (All-push (λ q. HasHolder range sc.roles (λ n role x. such n role x && is_apart q chooser n role x) q.guards) old r all (record {
+          subst (HaveCallers range sc.roles such chooser) (sym e) (All-push (HasCaller range sc.roles such chooser) old r all (record {
             n = there.n;
             role = there.role;
             index = there.index;
             within = there.within;
             rank = is_one;
-            is = and_from _ _ (hear s there.n there.role there.index there.within is_one heard) (neither _ _ other else_where);
+            is = hear s there.n there.role there.index there.within is_one heard;
             holds = λ i. says sc.roles there.n i there.role there.index (sym st.roles_is) range_is (sayable_of range chooser s es areas it fit) there.within is_one ∙ in_areas;
+            apart = neither _ _ other else_where;
           }));
     }
 
@@ -155,7 +155,7 @@ relayed_start range roles whole chooser es sources rs e = subst (RelayedSoFar ra
   rest = λ sc st range_is fit s listed n role x within is other h. inr listed;
   right = λ sc st range_is fit. All-nil (IsRight range sc.roles es);
   each = λ p sc st range_is fit known same. All-nil (IsRelay p);
-  called = λ such sc st range_is small fit hear. All-nil (λ q. HasHolder range sc.roles (λ n role x. such n role x && is_apart q chooser n role x) q.guards);
+  called = λ such sc st range_is small fit hear. All-nil (HasCaller range sc.roles such chooser);
 })
 
 pub relayed_step : (range : NRange) (roles : ℕ) (whole : List Area) (chooser : CoreEnd) (es : List Entry) (sources : List Source) (i : ℕ) (d : Source) (old new : List Relay) → i < length sources →

@@ -36,6 +36,7 @@ use Rattle.pb_local.specs.declared.stmt.Test.{Test}
 use Rattle.pb_local.specs.Tree.{Program}
 use Rattle.pb_local.specs.WellMade.{IsRange, IsGuard, IsTest, Ascend, ComesAfter}
 use Rattle.pb_project_piece.specs.Ranked.{Ranked}
+use Rattle.pb_project_piece.proofs.Nears.{few_fitting}
 use Rattle.pb_project_piece.specs.Standing.{Stands}
 use Rattle.pb_shape.specs.Places.{Scope}
 use Rattle.pb_shape.specs.Loops.{Around}
@@ -227,6 +228,7 @@ test_there range roles whole areas k m es old new gs is fits there says guards e
         role = there.role;
         index = there.index;
         within = there.within;
+        few = few_fitting range roles whole sc st areas there (record { cuts = cuts; small = h; fits = fits cuts f });
         rank = is_one;
         is = tell m there.n there.role there.index there.within is_one (sym (is there.n there.role there.index) ∙ there.there);
         holds = λ i. says sc.roles there.n i there.role there.index (sym st.roles_is) r (sayable range cuts areas h (fits cuts f)) there.within is_one ∙ there.there;

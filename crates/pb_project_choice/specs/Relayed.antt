@@ -23,7 +23,6 @@ use Rattle.pb_project_piece.specs.Standing.{Stands}
 use Rattle.pb_shape.specs.Places.{Scope}
 use Rattle.pb_project_choice.specs.Heard.{IsOther}
 use Rattle.pb_project_choice.specs.Sources.{is_listed, hears, source_at}
-use Rattle.pb_project_choice.specs.Tested.{HasHolder}
 
 -- the guards of some relay hold of the rank, with its own index for the variable
 abbrev pub relayed : List Relay → ℤ → ℕ → ℤ → Bool
@@ -48,9 +47,19 @@ pub record AreFit (range : NRange) (es : List Entry) : Type 0 where
 abbrev pub is_apart : Relay → CoreEnd → ℤ → ℕ → ℤ → Bool
 is_apart r chooser n role x = not (agrees (record { role = r.from.role; at = r.from.at }) (source_at chooser) n x || is_at chooser n (pos 0) role x)
 
--- each relay holds of such a rank other than the chooser, for which it doesn't name the chooser
+-- the relay holds of such a rank other than the chooser, for which it doesn't name the chooser, at some N of the range
+pub record HasCaller (range : NRange) (roles : List CoreRole) (such : ℤ → ℕ → ℤ → Bool) (chooser : CoreEnd) (r : Relay) : Type 0 where
+  pub n : ℤ
+  pub role : ℕ
+  pub index : ℤ
+  pub within : IsIn range n
+  pub rank : is_rank roles n role index ≡ true
+  pub is : such n role index ≡ true
+  pub holds : (i : ℤ) → hold r.guards n i role index ≡ true
+  pub apart : is_apart r chooser n role index ≡ true
+
 abbrev pub HaveCallers : NRange → List CoreRole → (ℤ → ℕ → ℤ → Bool) → CoreEnd → List Relay → Type 0
-HaveCallers range roles such chooser relays = All (λ r. HasHolder range roles (λ n role x. such n role x && is_apart r chooser n role x) r.guards) relays
+HaveCallers range roles such chooser relays = All (HasCaller range roles such chooser) relays
 
 -- whoever of these entries hears is such a rank
 abbrev pub HearSuch : NRange → List CoreRole → (ℤ → ℕ → ℤ → Bool) → List Entry → Type 0

@@ -1,6 +1,7 @@
 -- Tests that are added for the labels of a branch.
-use Rattle.std.specs.Prelude.{◌≡◌, ◌<◌, ◌⊎◌, ℕ, ℤ, Bool, true, ◌&&◌, ◌||◌, nat_eq, nat_lt, Option, Some, None, List, length}
+use Rattle.std.specs.Prelude.{◌≡◌, ◌<◌, ◌≤◌, ◌⊎◌, ℕ, ℤ, Bool, true, ◌&&◌, ◌||◌, nat_eq, nat_lt, Option, Some, None, List, length}
 use Rattle.std.specs.List.{All}
+use Rattle.pb_text.specs.declared.limits.TheConstants.{MOST_NUMBER}
 use Rattle.pb_affine.specs.declared.guard.Guard.{Guard}
 use Rattle.pb_affine.specs.declared.lin.Lin.{Lin}
 use Rattle.pb_affine.specs.declared.range.NRange.{NRange}
@@ -8,6 +9,7 @@ use Rattle.pb_affine.specs.Values.{hold}
 use Rattle.pb_part_areas.specs.declared.area.Area.{Area}
 use Rattle.pb_cases.specs.Breakpoints.{IsCut}
 use Rattle.pb_core_language.specs.declared.protocol.CoreRole.{CoreRole}
+use Rattle.pb_core_language.specs.Ranks.{total}
 use Rattle.pb_core_language.specs.Verdict.{IsIn}
 use Rattle.pb_part_firsts.specs.declared.firsts.Entry.{Entry}
 use Rattle.pb_part_firsts.specs.Fitting.{EntriesFit}
@@ -25,12 +27,13 @@ abbrev pub is_under : ℕ → Option ℕ → Bool
 is_under l None = true
 is_under l (Some m) = nat_lt l m
 
--- the guards hold of such a rank, at some N of the range
+-- the guards hold of such a rank, at some N of the range with at most 2,000,000,000 ranks
 pub record HasHolder (range : NRange) (roles : List CoreRole) (such : ℤ → ℕ → ℤ → Bool) (gs : List Guard) : Type 0 where
   pub n : ℤ
   pub role : ℕ
   pub index : ℤ
   pub within : IsIn range n
+  pub few : total roles n ≤ MOST_NUMBER
   pub rank : is_rank roles n role index ≡ true
   pub is : such n role index ≡ true
   pub holds : (i : ℤ) → hold gs n i role index ≡ true

@@ -1,6 +1,9 @@
 pub mod Codes
 pub mod Added
+pub mod Brought
 pub mod Ones
+pub mod Nears
+pub mod Fews
 pub mod Weights
 pub mod Items
 pub mod StillEnds

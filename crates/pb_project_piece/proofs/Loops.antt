@@ -1,5 +1,5 @@
 -- A foreach: the loop, and the `If` around it and the segments.
-use Rattle.std.proofs.Common.{◌≡◌, ℕ, suc, ◌+◌, ◌≤◌, max, length, ℤ, pos, ◌+ℤ◌, int_le, nat_eq, if◌then◌else◌, Bool, true, false, ◌&&◌, ◌||◌, not, List, [], ◌∷◌, ◌++◌, map, refl, sym, ap, ◌∙◌, subst, arith}
+use Rattle.std.proofs.Common.{◌≡◌, ℕ, suc, ◌+◌, ◌≤◌, max, length, ℤ, pos, ◌+ℤ◌, ◌≤ℤ◌, int_le, nat_eq, if◌then◌else◌, Bool, true, false, ◌&&◌, ◌||◌, not, List, [], ◌∷◌, ◌++◌, map, refl, sym, ap, ◌∙◌, subst, arith}
 use Rattle.std.proofs.lemmas.Int.{ints}
 use Rattle.std.proofs.lemmas.Bool.{and_parts, false≢true, not-true, or_right, or_left, and_from}
 use Rattle.pb_affine.specs.declared.guard.Guard.{Guard}
@@ -12,6 +12,7 @@ use Rattle.pb_part_areas.specs.declared.area.Area.{Area}
 use Rattle.pb_part_areas.specs.Areas.{have}
 use Rattle.pb_core_language.specs.declared.tree.CoreEnd.{CoreEnd}
 use Rattle.pb_core_language.specs.Plain.{Protocol}
+use Rattle.pb_core_language.specs.Ranks.{total}
 use Rattle.pb_core_language.specs.Sound.{Rows, rows_of, is_block}
 use Rattle.pb_core_language.specs.Tree as T
 use Rattle.pb_core_language.specs.Tree.{StmtTree, BlockTree}
@@ -33,8 +34,10 @@ use Rattle.pb_shape.specs.Places.{Scope, Here, everyone}
 use Rattle.pb_shape.specs.Guards.{Nobody, Somebody}
 use Rattle.pb_shape.specs.Segments.{Segments}
 use Rattle.pb_shape.specs.Pieces.{is_fixed, is_fixed_at, fixed_in, in_for, but_fixed, ForEach}
+use Rattle.pb_core_flat.specs.Seated.{is_rank}
 use Rattle.pb_project_piece.specs.Adding.{Added}
-use Rattle.pb_project_piece.specs.Ranked.{IsThere}
+use Rattle.pb_project_piece.specs.Ranked.{IsThere, late, brought, IsBrought}
+use Rattle.pb_project_piece.proofs.Brought.{fixed_brought, bounds_brought}
 use Rattle.pb_project_piece.specs.Comers.{AreBounds}
 use Rattle.pb_project_piece.specs.Standing.{Stands, Come, meeting, IsOpen, IsEach}
 use Rattle.pb_project_piece.specs.Ones.{end_guard, AreItemsOf}
@@ -42,7 +45,7 @@ use Rattle.pb_project_piece.specs.Fixed.{some_of, at_some, AreFairEnds, AreFixed
 use Rattle.pb_project_piece.specs.Segments.{IsApart, AreSegments}
 use Rattle.pb_project_piece.specs.Looping.{AreStill, Runner, Runs, IsRounds, IsBoth, IsForEach}
 use Rattle.pb_project_piece.proofs.Added.{onto_nothing, added_one, added_as}
-use Rattle.pb_project_piece.proofs.Ones.{from_zero, inside_range, outside_range, rank_is, met_at}
+use Rattle.pb_project_piece.proofs.Ones.{from_zero, inside_range, outside_range, rank_is, met_at, is_late, not_late, late_in}
 use Rattle.pb_project_piece.proofs.StillEnds.{fixed_at, guards_hold, fair_items}
 
 -- ---- the ranks at ends without the variable
@@ -120,7 +123,20 @@ pub runs_is : (range : NRange) (whole : List Area) (over : Bounds) (ends : List 
 runs_is range whole over ends fixed met runners b true found are common there =
     let both = and_parts (have fixed there.n there.role there.index) (have met there.n there.role there.index) (sym (common there.n there.role there.index) ∙ there.there) in
     record {
-      rank = record { n = there.n; role = there.role; index = there.index; within = there.within; rank = there.rank; there = both.0 };
+      n = there.n;
+      role = there.role;
+      index = there.index;
+      within = there.within;
+      rank = there.rank;
+      there = both.0;
+      least = λ rows ids roles bounds sound still m role x within rank is_whole here some.
+          let fair = fair_items rows ids b sound in
+          let zero = from_zero range m within in
+          let low = value over.low m (pos 0) in
+          let at_end : fixed_in b m role x ≡ true = sym (still.is rows m role x fair zero) ∙ here in
+          let meets_it : have met m role x ≡ true =
+          are.is rows m role x (found.sound rows fair) bounds zero ∙ some_meets low (value over.high m (pos 0)) m role x some ends (found.is m low role x ∙ at_end) in
+          there.least m role x within is_whole (common m role x ∙ and_from _ _ here meets_it);
       valued = λ rows ids roles bounds sound rank.
           some_valued (value over.low there.n (pos 0)) (value over.high there.n (pos 0)) there.n there.role there.index ends
           (sym (are.is rows there.n there.role there.index (found.sound rows (fair_items rows ids b sound)) bounds (from_zero range there.n there.within)) ∙ both.1);
@@ -215,6 +231,11 @@ some_guards : (l : Program) (p : Protocol) (ends : List CoreEnd) (gs : List Guar
 some_guards l p ends gs is tabled fair some = subst (AreGuards l) (sym is) (record { some = some_length ends some; each = all_guards p l ends tabled fair })
 
 module _ (range : NRange) (roles : ℕ) (whole : List Area) (over : Bounds) (fixed : List Area) (b : BlockTree) where
+  still_brought : (rows : Rows) (ids : List ℕ) → is_block rows true ids b ≡ true → AreStill b fixed → IsBrought (λ n role x. have fixed n role x)
+  still_brought rows ids sound still n role x le =
+      let fair = fair_items rows ids b sound in
+      still.is rows n role x fair (omega (arith, ints)) ∙ fixed_brought rows b fair n role x le ∙ sym (still.is rows late role (brought n x) fair (omega (arith, ints)))
+
   pub loop_rounds : (body list : List Stmt) (s : Stmt) → AreItemsOf range roles whole over fixed b (plain_all body) → plain s ≡ L.for_each over.low over.high (plain_all body) → list ≡ s ∷ [] → IsRounds range roles whole over fixed b list
   loop_rounds body list s items made is = record {
     body = plain_all body;
@@ -229,6 +250,7 @@ module _ (range : NRange) (roles : ℕ) (whole : List Area) (over : Bounds) (fix
           come = λ n i role x within rank at is.
               let at_end : fixed_in b n role x ≡ true = sym (still.is rows n role x (fair_items rows ids b sound) (from_zero range n (inside_range range roles whole sc stands n within))) ∙ is in
               and_from _ _ at_end (come.come n i role x within rank (fixed_meets (value over.low n (pos 0)) (value over.high n (pos 0)) n role x (le_over (value over.low n (pos 0)) i (value over.high n (pos 0)) at) b at_end));
+          steady = still_brought rows ids sound still;
         } in
         items.are sc (in_for h over b) rows ids stands here sound;
     weighed = subst (λ l. IsWeighed (1 + each_room 4 b) 2 (map plain l)) (sym is)
@@ -260,12 +282,28 @@ module _ (range : NRange) (roles : ℕ) (whole : List Area) (over : Bounds) (fix
     comes = λ n i role x within rank comes.
         still.is rows n role x (fair_items rows ids b sound) (from_zero range n (inside_range range roles whole sc stands n within))
         ∙ not-true (fixed_in b n role x) (and_parts (not (fixed_in b n role x)) (h.comes n i role x) comes).0;
+    steady = still_brought rows ids sound still;
   }
+
+  -- the first N at which one of them does is early
+  few_run : (sc : Scope) (rows : Rows) (ids : List ℕ) → Stands range roles whole sc → AreBounds over → is_block rows true ids b ≡ true → AreStill b fixed → (r : Runner range whole over fixed b) →
+      int_le (value over.low r.n (pos 0)) (value over.high r.n (pos 0)) ≡ true → total sc.roles r.n ≤ 2000000000
+  few_run sc rows ids stands bounds sound still r some = go (int_le late r.n) refl
+    where
+      go : (t : Bool) → int_le late r.n ≡ t → total sc.roles r.n ≤ 2000000000
+      go false e = stands.few r.n r.within (not_late r.n e)
+      go true e =
+          let le = is_late r.n e in
+          let y = brought r.n r.index in
+          let in_late = late_in range roles whole sc stands r.n r.within le in
+          let rank : is_rank sc.roles late r.role y ≡ true = sym (stands.steady r.n r.role r.index le) ∙ sym (rank_is range roles whole sc stands r.n r.role r.index r.within) ∙ r.rank in
+          stands.few r.n r.within (r.least rows ids sc.roles bounds sound still late r.role y in_late rank (rank_is range roles whole sc stands late r.role y in_late ∙ rank)
+          (sym (still_brought rows ids sound still r.n r.role r.index le) ∙ r.there) (sym (bounds_brought over bounds.0 bounds.1 r.n le) ∙ some))
 
   somebody_runs : (sc : Scope) (h : Here) (rows : Rows) (ids : List ℕ) → Stands range roles whole sc → Come sc h (meeting over b) → AreBounds over → is_block rows true ids b ≡ true → AreStill b fixed → Runner range whole over fixed b →
       Somebody sc (in_for h over b) everyone
   somebody_runs sc h rows ids stands come bounds sound still runner =
-      let r = runner.rank in
+      let r = runner in
       let low = value over.low r.n (pos 0) in
       let high = value over.high r.n (pos 0) in
       let within = outside_range range roles whole sc stands r.n r.within in
@@ -278,6 +316,7 @@ module _ (range : NRange) (roles : ℕ) (whole : List Area) (over : Bounds) (fix
         role = r.role;
         index = r.index;
         within = within;
+        few = few_run sc rows ids stands bounds sound still runner some;
         rank = rank;
         at = le_itself low high some;
         comes = and_from _ _ at_end (come.come r.n low r.role r.index within rank (fixed_meets low high r.n r.role r.index some b at_end));
@@ -297,7 +336,7 @@ module _ (range : NRange) (roles : ℕ) (whole : List Area) (over : Bounds) (fix
             (segments.has.are sc (but_fixed h b) rows ids stands (apart sc h rows ids stands open_here come sound still) bounds sound L.nothing)));
         weighed = both_weighed gs first other (each_room 4 b) (each_room 6 b) rounds.weighed (subst (IsWeighed (each_room 6 b) 1) (sym piece_is) segments.has.weighed);
         made = λ p l ids tabled same bounds sound goes fixed_ends still runner.
-            let r = runner.rank in
+            let r = runner in
             both_flat l gs first other (some_guards l p ends gs gs_is tabled (fixed_ends.sound (rows_of p) (fair_items (rows_of p) ids b sound))
             (some_end ends r.n r.role r.index (fixed_ends.is r.n (pos 0) r.role r.index ∙ sym (still.is (rows_of p) r.n r.role r.index (fair_items (rows_of p) ids b sound) (from_zero range r.n r.within)) ∙ r.there)))
             (rounds.weighed).none (rounds.made p l ids tabled bounds sound goes) (subst (IsWeighed (each_room 6 b) 1) (sym piece_is) segments.has.weighed).none
@@ -327,6 +366,7 @@ module _ (range : NRange) (roles : ℕ) (whole : List Area) (over : Bounds) (fix
               at = open_here.at;
               come = λ n i role x within rank met free. come.come n i role x within rank met;
               comes = λ n i role x within rank comes. ap (λ l. have l n role x) empty;
+              steady = λ n role x le. ap (λ l. have l n role x) empty ∙ sym (ap (λ l. have l late role (brought n x)) empty);
             }) bounds sound tail);
         weighed = weighed_less (each_room 6 b) (2 + room_each b) 1 3 p (six_room (each_room 4 b) (each_room 6 b) (room_each b) (room_is b)) one_three z.weighed;
         made = z.made;

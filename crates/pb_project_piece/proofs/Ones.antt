@@ -1,5 +1,5 @@
 -- An `If` of the rank at an end.
-use Rattle.std.proofs.Common.{◌≡◌, ℕ, ℤ, pos, ◌+ℤ◌, ◌-ℤ◌, ◌≤ℤ◌, int_le, nat_eq, true, false, ◌&&◌, ◌||◌, Option, Some, None, List, [], ◌∷◌, sym, ap, subst, ◌∙◌, arith}
+use Rattle.std.proofs.Common.{◌≡◌, ◌≤◌, Bool, ℕ, ℤ, pos, ◌+ℤ◌, ◌-ℤ◌, ◌≤ℤ◌, int_le, nat_eq, true, false, ◌&&◌, ◌||◌, Option, Some, None, List, [], ◌∷◌, refl, sym, ap, subst, ◌∙◌, arith}
 use Rattle.std.specs.Ordering.{int_eq}
 use Rattle.std.proofs.lemmas.Int.{ints}
 use Rattle.std.proofs.lemmas.Bool.{and_parts, false≢true, and_from, false_from_ne_true}
@@ -13,7 +13,8 @@ use Rattle.pb_part_areas.specs.declared.area.Area.{Area}
 use Rattle.pb_part_areas.specs.Areas.{have}
 use Rattle.pb_core_language.specs.declared.tree.CoreEnd.{CoreEnd}
 use Rattle.pb_core_language.specs.Sound.{is_small, is_over_n}
-use Rattle.pb_core_language.specs.Verdict.{IsIn}
+use Rattle.pb_core_language.specs.Ranks.{total}
+use Rattle.pb_core_language.specs.Verdict.{IsIn, IsUpTo}
 use Rattle.pb_core_flat.specs.Seated.{is_rank, is_at}
 use Rattle.pb_core_flat.specs.Meets.{is_met}
 use Rattle.pb_core_flat.proofs.Sources.{over_n_is}
@@ -21,12 +22,19 @@ use Rattle.pb_core_language.specs.declared.tree.Bounds.{Bounds}
 use Rattle.pb_local.specs.Tree.{Code}
 use Rattle.pb_shape.specs.Places.{Scope, Here, is_end}
 use Rattle.pb_shape.specs.Guards.{Somebody, Nobody, One, alone}
-use Rattle.pb_project_piece.specs.Ranked.{Ranked, IsThere}
+use Rattle.pb_project_piece.specs.Ranked.{Ranked, IsThere, late, brought}
+use Rattle.pb_project_piece.proofs.Brought.{at_brought, met_brought}
 use Rattle.pb_project_piece.specs.Comers.{AreComers}
 use Rattle.pb_project_piece.specs.Standing.{Stands, IsHere, ComeIf, is_end_if}
 use Rattle.pb_project_piece.specs.Ones.{end_guard, only_when, IsOne}
 
 -- ---- numbers
+
+pub is_late : (n : ℤ) → int_le late n ≡ true → late ≤ℤ n
+is_late n h = grind (arith, ints)
+
+pub not_late : (n : ℤ) → int_le late n ≡ false → n ≤ℤ late
+not_late n h = grind (arith, ints)
 
 pub from_zero : (range : NRange) (n : ℤ) → IsIn range n → pos 0 ≤ℤ n
 from_zero range n h = omega (arith, ints, h.low)
@@ -84,6 +92,26 @@ module _ (range : NRange) (roles : ℕ) (whole : List Area) (sc : Scope) (stands
   pub rank_is : (n : ℤ) (role : ℕ) (x : ℤ) → IsIn range n → have whole n role x ≡ is_rank sc.roles n role x
   rank_is n role x h = stands.whole_is.is n role x h
 
+  pub late_in : (n : ℤ) → IsIn range n → late ≤ℤ n → IsIn range late
+  late_in n h le = record { low = omega (arith, ints, stands.early); high = sooner range.high h.high }
+    where
+      sooner : (high : Option ℕ) → IsUpTo n high → IsUpTo late high
+      sooner None h = tt
+      sooner (Some b) h = omega (arith, ints)
+
+  -- a first N is early, where late ranks come early, too
+  pub few_at : (areas : List Area) (r : Ranked range whole areas) → (late ≤ℤ r.n → have areas late r.role (brought r.n r.index) ≡ true) → total sc.roles r.n ≤ 2000000000
+  few_at areas r there = go (int_le late r.n) refl
+    where
+      go : (t : Bool) → int_le late r.n ≡ t → total sc.roles r.n ≤ 2000000000
+      go false e = stands.few r.n r.within (not_late r.n e)
+      go true e =
+          let le = is_late r.n e in
+          let y = brought r.n r.index in
+          let in_late = late_in r.n r.within le in
+          let there_too : have whole late r.role y ≡ true = rank_is late r.role y in_late ∙ sym (stands.steady r.n r.role r.index le) ∙ sym (rank_is r.n r.role r.index r.within) ∙ r.rank in
+          stands.few r.n r.within (r.least late r.role y in_late there_too (there le))
+
   pub somewhere : (over : Option Bounds) (fixed areas : List Area) (h : Here) (e : CoreEnd) → IsHere over fixed sc h → ComeIf over sc h (is_end e) → is_end_if over e ≡ true → AreComers over fixed e areas → Ranked range whole areas → Somebody sc h (is_end e)
   somewhere None fixed areas h e here come fair comers r =
       let k = and_parts (is_over_n e.at.base) (is_small e.at.off) fair in
@@ -96,6 +124,7 @@ module _ (range : NRange) (roles : ℕ) (whole : List Area) (sc : Scope) (stands
         role = r.role;
         index = r.index;
         within = within;
+        few = few_at areas r (λ le. comers.is late r.role (brought r.n r.index) (omega (arith, ints)) k.1 tt ∙ sym (at_brought e k.0 k.1 r.n r.role r.index le) ∙ is);
         rank = rank;
         at = here.at r.n (pos 0);
         comes = come.come r.n (pos 0) r.role r.index within rank is;
@@ -114,6 +143,9 @@ module _ (range : NRange) (roles : ℕ) (whole : List Area) (sc : Scope) (stands
         role = r.role;
         index = r.index;
         within = within;
+        few = few_at areas r (λ le.
+            comers.is late r.role (brought r.n r.index) (omega (arith, ints)) fair here.bounds
+            ∙ and_from _ _ (sym (here.steady r.n r.role r.index le) ∙ both.0) (sym (met_brought over e here.bounds.0 here.bounds.1 fair r.n r.role r.index le) ∙ both.1));
         rank = rank;
         at = at;
         comes = here.come r.n by.i r.role r.index within rank at both.0;

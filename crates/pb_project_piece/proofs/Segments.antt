@@ -43,7 +43,8 @@ use Rattle.pb_shape.specs.Guards.{One}
 use Rattle.pb_shape.specs.Segments.{is_at_offset, put, put_end, put_in, segment_code, segment_codes, in_segment, offsets, offsets_at, OfRole, Segments}
 use Rattle.pb_project_piece.specs.declared.offsets.Off.{Off}
 use Rattle.pb_project_piece.specs.Adding.{onto, Added}
-use Rattle.pb_project_piece.specs.Ranked.{Ranked, IsThere}
+use Rattle.pb_project_piece.specs.Ranked.{Ranked, IsThere, late, brought}
+use Rattle.pb_project_piece.proofs.Brought.{segment_brought}
 use Rattle.pb_project_piece.specs.Comers.{AreBounds}
 use Rattle.pb_project_piece.specs.Standing.{Stands}
 use Rattle.pb_project_piece.specs.Offsets.{off_of}
@@ -51,7 +52,7 @@ use Rattle.pb_project_piece.specs.Ones.{only_when}
 use Rattle.pb_project_piece.specs.Segments.{IsCodes, IsApart, AreOthers, Offers, AllOffer, codes_in, IsCodesOf, IsSegmentOf, IsSegment, IsRoleSegments, AreSegments}
 use Rattle.pb_project_piece.proofs.Added.{onto_append, onto_nothing, added_one, added_none, added_as, added_two}
 use Rattle.pb_project_piece.proofs.Items.{drop_is}
-use Rattle.pb_project_piece.proofs.Ones.{from_zero, inside_range, outside_range, rank_is}
+use Rattle.pb_project_piece.proofs.Ones.{from_zero, inside_range, outside_range, rank_is, few_at}
 use Rattle.pb_project_piece.proofs.Counting.{spots, sum_at_most, low_in, low_next, low_most, codes_size, codes_braces, codes_loops}
 
 -- ---- what an item is to a segment
@@ -259,6 +260,9 @@ module _ (range : NRange) (roles : ℕ) (whole : List Area) (over : Bounds) (les
                     role = r.role;
                     index = r.index;
                     within = within;
+                    few = few_at range roles whole sc stands areas r (λ le.
+                        others.is late r.role (brought r.n r.index) (omega (arith, ints)) bounds small
+                        ∙ and_from _ _ (sym (segment_brought over k c bounds.0 bounds.1 small r.n r.role r.index le) ∙ both.0) (ap not (sym (apart.steady r.n r.role r.index le)) ∙ both.1));
                     rank = rank;
                     at = apart.at r.n (pos 0);
                     comes = apart.come r.n (pos 0) r.role r.index within rank (offers r.n (pos 0) r.role r.index both.0) (not-true (have less r.n r.role r.index) both.1);

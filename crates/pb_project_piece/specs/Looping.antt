@@ -23,7 +23,6 @@ use Rattle.pb_shape.specs.Items.{Items}
 use Rattle.pb_shape.specs.Pieces.{fixed_in, in_for, ForEach}
 use Rattle.pb_project_piece.specs.Adding.{onto}
 use Rattle.pb_project_piece.specs.Weights.{IsWeighed, IsTabledAs, AreFlat, each_room}
-use Rattle.pb_project_piece.specs.Ranked.{Ranked}
 use Rattle.pb_project_piece.specs.Comers.{AreBounds}
 use Rattle.pb_project_piece.specs.Standing.{Stands, Come, meeting, IsOpen}
 use Rattle.pb_project_piece.specs.Fixed.{are_fair_items, AreFixed}
@@ -32,11 +31,18 @@ use Rattle.pb_project_piece.specs.Fixed.{are_fair_items, AreFixed}
 pub record AreStill (b : BlockTree) (fixed : List Area) : Type 0 where
   pub is : (rows : Rows) (n : ℤ) (role : ℕ) (x : ℤ) → are_fair_items rows b ≡ true → pos 0 ≤ℤ n → have fixed n role x ≡ fixed_in b n role x
 
--- a rank at an end without the variable, at an N at which the variable has a value
+-- a rank at an end without the variable, at the first N at which there is one and the variable has a value
 pub record Runner (range : NRange) (whole : List Area) (over : Bounds) (fixed : List Area) (b : BlockTree) : Type 0 where
-  pub rank : Ranked range whole fixed
-  pub valued : (rows : Rows) (ids : List ℕ) (roles : List CoreRole) → AreBounds over → is_block rows true ids b ≡ true → is_rank roles rank.n rank.role rank.index ≡ true →
-      int_le (value over.low rank.n (pos 0)) (value over.high rank.n (pos 0)) ≡ true
+  pub n : ℤ
+  pub role : ℕ
+  pub index : ℤ
+  pub within : IsIn range n
+  pub rank : have whole n role index ≡ true
+  pub there : have fixed n role index ≡ true
+  pub valued : (rows : Rows) (ids : List ℕ) (roles : List CoreRole) → AreBounds over → is_block rows true ids b ≡ true → is_rank roles n role index ≡ true →
+      int_le (value over.low n (pos 0)) (value over.high n (pos 0)) ≡ true
+  pub least : (rows : Rows) (ids : List ℕ) (roles : List CoreRole) → AreBounds over → is_block rows true ids b ≡ true → AreStill b fixed →
+      (m : ℤ) (role : ℕ) (x : ℤ) → IsIn range m → is_rank roles m role x ≡ true → have whole m role x ≡ true → have fixed m role x ≡ true → int_le (value over.low m (pos 0)) (value over.high m (pos 0)) ≡ true → n ≤ℤ m
 
 -- where the answer is yes, one of these ranks runs the loop, and where it is no, none does
 abbrev pub Runs : NRange → List Area → Bounds → List Area → BlockTree → Bool → Type 0

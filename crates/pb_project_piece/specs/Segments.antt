@@ -20,6 +20,7 @@ use Rattle.pb_shape.specs.Segments.{in_segment, segment_codes, offsets, OfRole, 
 use Rattle.pb_project_piece.specs.Adding.{onto}
 use Rattle.pb_project_piece.specs.Weights.{IsWeighed, IsSimple, IsTabledAs, AreFlat, each_room, count_in, segment_sum}
 use Rattle.pb_project_piece.specs.Comers.{AreBounds}
+use Rattle.pb_project_piece.specs.Ranked.{IsBrought}
 use Rattle.pb_project_piece.specs.Standing.{Stands, meeting}
 use Rattle.pb_project_piece.specs.Ones.{IsOne}
 
@@ -32,6 +33,7 @@ pub record IsApart (over : Bounds) (b : BlockTree) (less : List Area) (sc : Scop
   pub at : (n i : ℤ) → h.at n i ≡ true
   pub come : (n i : ℤ) (role : ℕ) (x : ℤ) → IsIn sc.range n → is_rank sc.roles n role x ≡ true → meeting over b n i role x ≡ true → have less n role x ≡ false → h.comes n i role x ≡ true
   pub comes : (n i : ℤ) (role : ℕ) (x : ℤ) → IsIn sc.range n → is_rank sc.roles n role x ≡ true → h.comes n i role x ≡ true → have less n role x ≡ false
+  pub steady : IsBrought (λ n role x. have less n role x)
 
 -- the areas are of the ranks of a segment that aren't among others
 pub record AreOthers (over : Bounds) (k : ℕ) (c : ℤ) (less areas : List Area) : Type 0 where

@@ -19,7 +19,7 @@ use Rattle.pb_local.specs.Computed as C
 use Rattle.pb_local.specs.Tree.{Code, Codes, more}
 use Rattle.pb_local.specs.Tree as L
 use Rattle.pb_shape.specs.Places.{Scope, Who, Here, is_end, peer_of}
-use Rattle.pb_shape.specs.Guards.{alone, Names, Somebody}
+use Rattle.pb_shape.specs.Guards.{alone, Names, Someone, Somebody}
 use Rattle.pb_shape.specs.Loops.{Around}
 
 -- a first outcome of the rank in branch k is a receive of this label
@@ -57,7 +57,7 @@ is_chooser p at n x = nat_eq p.role at.role && int_eq (value p.at n x) (value at
 
 -- and so does each relay, with the own index for the variable: of somebody other than the chooser, for whom it doesn't name the chooser
 abbrev pub AreCalled : Scope → Here → CoreEnd → List Relay → Type 0
-AreCalled sc h at relays = All (λ r. Somebody sc h (λ n i role x. hold r.guards n x role x && not (is_chooser r.from at n x || is_end at n (pos 0) role x))) relays
+AreCalled sc h at relays = All (λ r. Someone sc h (λ n i role x. hold r.guards n x role x && not (is_chooser r.from at n x || is_end at n (pos 0) role x))) relays
 
 -- where there are relays, `Own` of 0 stands before
 abbrev pub told_by : List Relay → Code → Codes

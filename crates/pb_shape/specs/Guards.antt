@@ -1,7 +1,9 @@
 -- Guards that hold of exactly the ranks that are meant, and an `If` of these ranks.
-use Rattle.std.specs.Prelude.{◌≡◌, ℕ, ℤ, true, false, List}
+use Rattle.std.specs.Prelude.{◌≡◌, ◌≤◌, ℕ, ℤ, true, false, List}
+use Rattle.pb_text.specs.declared.limits.TheConstants.{MOST_NUMBER}
 use Rattle.pb_affine.specs.declared.guard.Guard.{Guard}
 use Rattle.pb_affine.specs.Values.{hold}
+use Rattle.pb_core_language.specs.Ranks.{total}
 use Rattle.pb_core_language.specs.Verdict.{IsIn}
 use Rattle.pb_core_flat.specs.Seated.{is_rank}
 use Rattle.pb_local.specs.Tree.{Code, Codes, nothing, more}
@@ -18,12 +20,25 @@ module _ (sc : Scope) (h : Here) where
   Names gs who = (n i : ℤ) (role : ℕ) (x : ℤ) → IsIn sc.range n → is_rank sc.roles n role x ≡ true → h.at n i ≡ true → hold gs n i role x ≡ who n i role x
 
   -- some N of the range has such a rank, which comes here
+  pub record Someone (who : Who) : Type 0 where
+    pub n : ℤ
+    pub i : ℤ
+    pub role : ℕ
+    pub index : ℤ
+    pub within : IsIn sc.range n
+    pub rank : is_rank sc.roles n role index ≡ true
+    pub at : h.at n i ≡ true
+    pub comes : h.comes n i role index ≡ true
+    pub is : who n i role index ≡ true
+
+  -- the same, of an N with at most 2,000,000,000 ranks
   pub record Somebody (who : Who) : Type 0 where
     pub n : ℤ
     pub i : ℤ
     pub role : ℕ
     pub index : ℤ
     pub within : IsIn sc.range n
+    pub few : total sc.roles n ≤ MOST_NUMBER
     pub rank : is_rank sc.roles n role index ≡ true
     pub at : h.at n i ≡ true
     pub comes : h.comes n i role index ≡ true

@@ -102,6 +102,7 @@ pub record Passes (l : Program) (n : ℤ) (me : Seat) (k number : ℕ) (i : ℤ)
   pub near : IsVariable variable
   pub behind : ℕ
   pub left : ℕ
+  pub counts : behind + size_all tail ≡ number + size_all codes  -- the number of what follows
   pub enough : renewed (most_silent l) k kinds + size_all tail ≤ left + size_all codes
   pub way : Way (machine l n) (most_silent l) (at_todo me variable (pushed behind tail rest)) left k (at_todo me i (pushed number codes rest)) kinds
 

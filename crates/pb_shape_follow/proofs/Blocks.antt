@@ -51,7 +51,7 @@ module _ (p : Protocol) (l : Program) (n : ℤ) (me : Seat) (g : Given p l n me)
   pub made_later : (a : Around) (codes tail : Codes) (m : IsMadeIn p l n me a codes) → Left l m.at codes tail → IsMadeIn p l n me a tail
   made_later a codes tail m h = record { at = h.at; made = h.made; below = λ k lt. let x = m.below k lt in let y = h.later in omega arith }
 
-  piece_goes : {h : Here} {s : StmtTree} {tail codes : Codes} → Piece (scope_of p) h tail s codes → is_again s ≡ false
+  pub piece_goes : {h : Here} {s : StmtTree} {tail codes : Codes} → Piece (scope_of p) h tail s codes → is_again s ≡ false
   piece_goes (P.item (I.message a b)) = refl
   piece_goes (P.item (I.run a)) = refl
   piece_goes (P.foreach w) = refl
@@ -72,14 +72,14 @@ module _ (p : Protocol) (l : Program) (n : ℤ) (me : Seat) (g : Given p l n me)
         made = made_later a codes tail x.made left;
       }
 
-  abbrev loop_flat : Around → ℕ → BlockTree → Block
+  abbrev pub loop_flat : Around → ℕ → BlockTree → Block
   loop_flat a id whole = flat_block p.roles n (id ∷ a.opens) (pos 0) whole stop
 
   -- a rank takes part in a loop
-  abbrev in_body : Around → ℕ → BlockTree → Bool
+  abbrev pub in_body : Around → ℕ → BlockTree → Bool
   in_body a id whole = takes_part (false ∷ held p l n me a) (me_rank p l n me) (loop_flat a id whole)
 
-  abbrev loop_in : Around → ℕ → ℕ → BlockTree → Around
+  abbrev pub loop_in : Around → ℕ → ℕ → BlockTree → Around
   loop_in a id x whole = in_loop (scope_of p) a id x whole
 
   around_loop : (a : Around) (id x : ℕ) (whole : BlockTree) → in_body a id whole ≡ true → IsAround p l n me a → IsAround p l n me (loop_in a id x whole)
@@ -107,7 +107,7 @@ module _ (p : Protocol) (l : Program) (n : ℤ) (me : Seat) (g : Given p l n me)
       less zero lt = let e = made.0.0 in omega arith
       less (suc k) lt = let b = below k (omega (arith, lt)) in omega arith
 
-  sits_loop : {h : Here} {a : Around} {m mark : Mark} {id x : ℕ} {whole rest : BlockTree} {inner codes : Codes} (s : W.Scope) → in_body a id whole ≡ true → (z : Sits p l n me h a (T.more m (T.loop id mark whole) rest) codes) →
+  pub sits_loop : {h : Here} {a : Around} {m mark : Mark} {id x : ℕ} {whole rest : BlockTree} {inner codes : Codes} (s : W.Scope) → in_body a id whole ≡ true → (z : Sits p l n me h a (T.more m (T.loop id mark whole) rest) codes) →
       ((k : ℕ) → k < length a.opens → number_at a.numbers k < s.loops) → AreMade l s (alone (L.loop x inner)) →
       Sits p l n me (inside h (takers (scope_of p) a m (T.loop id mark whole))) (loop_in a id x whole) whole inner
   unfolding around_loop

@@ -52,19 +52,19 @@ use Rattle.pb_shape_follow.proofs.Tells.{tested_is, relays_fit, source_made}
 
 module _ (p : Protocol) (l : Program) (n : ℤ) (me : Seat) (g : Given p l n me) where
   module _ (h : Here) (a : Around) (m : Mark) (kern : ℕ) (from : CoreEnd) (bs : BranchTrees) (rest : BlockTree) (who : Guard) (relays : List Relay) (tests : List Test) (parts : Parts) (tail codes : Codes) where
-    abbrev tree : T.StmtTree
+    abbrev pub tree : T.StmtTree
     tree = T.choice kern from bs
 
-    abbrev text : L.Code
+    abbrev pub text : L.Code
     text = L.choice who kern relays (peer_of from) tests parts
 
-    abbrev flats : Branches
+    abbrev pub flats : Branches
     flats = flat_branches p.roles n a.opens (pos 0) bs
 
-    abbrev my_arms : Arms
+    abbrev pub my_arms : Arms
     my_arms = arms (held p l n me a) (me_rank p l n me) flats
 
-    abbrev taken : Here
+    abbrev pub taken : Here
     taken = inside h (takers (scope_of p) a m tree)
 
     -- what the choice is to a rank that comes there
@@ -81,7 +81,7 @@ module _ (p : Protocol) (l : Program) (n : ℤ) (me : Seat) (g : Given p l n me)
 
     -- ---- a branch
 
-    branch_sits : (x : IsThere) (y : ℕ) (s : W.Scope) → x.sits.made.at.loops ≤ s.loops → W.ArePartsMade l s parts → Sits p l n me taken a (tree_at y bs) (part_at y parts)
+    pub branch_sits : (x : IsThere) (y : ℕ) (s : W.Scope) → x.sits.made.at.loops ≤ s.loops → W.ArePartsMade l s parts → Sits p l n me taken a (tree_at y bs) (part_at y parts)
     branch_sits x y s le made =
         let mine = made_at l parts y s made in record {
           fine = fine_at p n bs y x.sits.fine.0.1;
@@ -93,13 +93,13 @@ module _ (p : Protocol) (l : Program) (n : ℤ) (me : Seat) (g : Given p l n me)
         }
 
     -- the choice itself is made, its branches behind what stands before it
-    record TextMade (s : W.Scope) : Type 0 where
-      at : W.Scope
-      later : s.loops ≤ at.loops
-      choice : W.IsChoice l who kern relays (peer_of from) tests (count_parts parts)
-      each : W.ArePartsMade l at parts
+    pub record TextMade (s : W.Scope) : Type 0 where
+      pub at : W.Scope
+      pub later : s.loops ≤ at.loops
+      pub choice : W.IsChoice l who kern relays (peer_of from) tests (count_parts parts)
+      pub each : W.ArePartsMade l at parts
 
-    text_made : (s : W.Scope) (rs : List Relay) → AreMade l s (told_by rs text) → TextMade s
+    pub text_made : (s : W.Scope) (rs : List Relay) → AreMade l s (told_by rs text) → TextMade s
     text_made s [] h = record { at = s; later = omega arith; choice = h.0.0; each = h.0.1 }
     text_made s (r ∷ rs) h = record { at = W.behind s 0; later = omega arith; choice = h.1.0.0; each = h.1.0.1 }
 
@@ -125,7 +125,7 @@ module _ (p : Protocol) (l : Program) (n : ℤ) (me : Seat) (g : Given p l n me)
         go Param h = refl
         go Var h = cc
 
-    chooses_is : (x : IsThere) (j : ℤ) → is_for n me j who ≡ (rank_of p.roles n from (pos 0) == me_rank p l n me)
+    pub chooses_is : (x : IsThere) (j : ℤ) → is_for n me j who ≡ (rank_of p.roles n from (pos 0) == me_rank p l n me)
     chooses_is x j =
         sym (or-false (is_for n me j who)) ∙ x.names n j me.role me.index g.seated.within g.seated.is (x.sits.here.at j)
         ∙ ap (λ v. nat_eq from.role me.role && int_eq v me.index) (steady x.sits.fine.0.0 j)
@@ -174,10 +174,10 @@ module _ (p : Protocol) (l : Program) (n : ℤ) (me : Seat) (g : Given p l n me)
 
     -- ---- a rank that is told
 
-    abbrev teller_at : ℕ
+    abbrev pub teller_at : ℕ
     teller_at = source_of (firsts_among (held p l n me a) (me_rank p l n me) flats)
 
-    source_at : (x : IsThere) (j : ℤ) (lab : ℕ) → (rank_of p.roles n from (pos 0) == me_rank p l n me) ≡ false → is_told (scope_of p) a bs 0 lab n (pos 0) me.role me.index ≡ true → IsFound p l n me g j relays →
+    pub source_at : (x : IsThere) (j : ℤ) (lab : ℕ) → (rank_of p.roles n from (pos 0) == me_rank p l n me) ≡ false → is_told (scope_of p) a bs 0 lab n (pos 0) me.role me.index ≡ true → IsFound p l n me g j relays →
         rank p.roles n (N.source_of n me j relays (peer_of from)).role (value (N.source_of n me j relays (peer_of from)).at n j) ≡ teller_at
     source_at x j lab other is_so found = go relays found (x.relayed n me.role me.index 0 lab g.seated.within g.seated.is (sym (end_is_at p.roles n (pos 0) from me.role me.index g.seated.is) ∙ other) is_so)
       where
@@ -187,7 +187,7 @@ module _ (p : Protocol) (l : Program) (n : ℤ) (me : Seat) (g : Given p l n me)
         go [] plainly h = ap (λ v. rank p.roles n from.role v) (steady x.sits.fine.0.0 j ∙ sym (steady x.sits.fine.0.0 me.index)) ∙ h
         go (r ∷ rs) (by_index e) h = subst (λ v. rank p.roles n (N.source_of n me v (r ∷ rs) (peer_of from)).role (value (N.source_of n me v (r ∷ rs) (peer_of from)).at n v) ≡ teller_at) (sym e) h
 
-    asks_is : (z : Rank) (ts : List Test) (b lab k : ℕ) (t : Todo) → is_for_some n me z.i (guards_of b lab ts) ≡ true →
+    pub asks_is : (z : Rank) (ts : List Test) (b lab k : ℕ) (t : Todo) → is_for_some n me z.i (guards_of b lab ts) ≡ true →
         X.asks l n z relays (peer_of from) ts k parts t ≡ (if all_fit (relay_numbers n z.seat z.i relays) then X.with_peer l n z (N.source_of n z.seat z.i relays (peer_of from)) (λ q. X.probes q (λ lab. X.told z k parts t (branch_for n z.seat z.i ts lab))) else X.undefined)
     asks_is z [] b lab k t h = cc
     asks_is z (x ∷ ts) b lab k t h = refl

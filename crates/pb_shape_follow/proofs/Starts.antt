@@ -78,12 +78,12 @@ module _ (numbered : Numbered) (totalled : Totalled) where
     abbrev pub me_at : ℕ → Seat
     me_at r = LR.seat_at r (LR.seats l.roles n)
 
-    seated : (r : ℕ) → r < total p.roles n → IsSeated p l n r (me_at r)
+    pub seated : (r : ℕ) → r < total p.roles n → IsSeated p l n r (me_at r)
     seated r lt =
         let h = rank_of_seat p.roles n r lt in
         subst (λ me. IsSeated p l n r me) (sym (seat_same p l n shape r)) (record { sound = sound; shape = shape; made = made; within = within; few = few; is = h.0; number = h.1 })
 
-    given : (me : Seat) → IsSeated p l n (me_rank p l n me) me → Given p l n me
+    pub given : (me : Seat) → IsSeated p l n (me_rank p l n me) me → Given p l n me
     given me seat =
         let size = (world numbered totalled p l n sound shape made within few).size in
         record {

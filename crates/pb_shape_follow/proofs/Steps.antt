@@ -33,7 +33,7 @@ use Rattle.pb_shape_straight.proofs.Fits.{fits_is}
 use Rattle.pb_shape_follow.proofs.Stacks.{weight_pushed, me_rank, Sim}
 use Rattle.pb_shape_follow.proofs.Fronts.{AreStraight, laid, after, down, Budget, Rel, moves, Front, acts, later, step}
 
-variable_fits : (x : ℤ) → IsVariable x → fits x ≡ true
+pub variable_fits : (x : ℤ) → IsVariable x → fits x ≡ true
 variable_fits x h = let l = h.low in let u = h.high in fits_is x (omega (arith, ints)) (omega (arith, ints))
 
 -- what is known of a rank: it sits in the world, straight code passes, and what it computes fits

@@ -66,7 +66,7 @@ module _ (p : Protocol) (l : Program) (n : ℤ) (me : Seat) (g : Given p l n me)
   same_next i u v (X.end_of id k body t) = same_next i u v t
   same_next i u v (X.leave joint t) = refl
 
-  past_end : (i : ℤ) (x start : ℕ) (inner : Codes) (t : Todo) → move l n (at_todo me i (X.end_of x start inner t)) ≡ move l n (at_todo me i t)
+  pub past_end : (i : ℤ) (x start : ℕ) (inner : Codes) (t : Todo) → move l n (at_todo me i (X.end_of x start inner t)) ≡ move l n (at_todo me i t)
   past_end i x start inner t = move_is l n (at_todo me i (X.end_of x start inner t)) ∙ same_next i (X.end_of x start inner t) t t ∙ sym (move_is l n (at_todo me i t))
 
   -- ---- a choice
@@ -127,7 +127,7 @@ module _ (p : Protocol) (l : Program) (n : ℤ) (me : Seat) (g : Given p l n me)
           told_front p l n me g first i (pushed behind tail t) k1 relays text near (told_room k1 less fewer) (λ j number' k' near' found le le'.
           ask_front p l n me g h a m kern from bs rest who relays tests parts tail codes (there_is (takes false true e f) made) c k' number' behind j near' found e f over (has_room k1 k' behind less fewer le)))
 
-  sits_behind_choice : {h : Here} {a : Around} {m : Mark} {kern : ℕ} {from : CoreEnd} {bs : BranchTrees} {rest : BlockTree} {tail codes : Codes} → (z : Sits p l n me h a (T.more m (T.choice kern from bs) rest) codes) → Left l z.made.at codes tail → Sits p l n me h a rest tail
+  pub sits_behind_choice : {h : Here} {a : Around} {m : Mark} {kern : ℕ} {from : CoreEnd} {bs : BranchTrees} {rest : BlockTree} {tail codes : Codes} → (z : Sits p l n me h a (T.more m (T.choice kern from bs) rest) codes) → Left l z.made.at codes tail → Sits p l n me h a rest tail
   sits_behind_choice {a = a} {bs = bs} {rest = rest} {tail = tail} {codes = codes} z left = record {
     fine = z.fine.1 refl;
     here = z.here;

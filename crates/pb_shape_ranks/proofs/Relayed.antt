@@ -19,7 +19,7 @@ use Rattle.pb_shape.specs.Items as I
 use Rattle.pb_shape.specs.Pieces as Q
 use Rattle.pb_shape.specs.Shape as S
 use Rattle.pb_shape.specs.Places.{Here, Who, everyone, inside, is_end, peer_of, scope_of, everywhere}
-use Rattle.pb_shape.specs.Guards.{Names, Somebody, One}
+use Rattle.pb_shape.specs.Guards.{Names, Someone, Somebody, One}
 use Rattle.pb_shape.specs.Loops.{Around, outermost, in_loop, takers}
 use Rattle.pb_shape.specs.Choices.{AreHeld, is_chooser, AreCalled, is_told, teller, guards_of, Tests, Relays}
 use Rattle.pb_shape.specs.Shape.{Shape, Shapes, HasShape}
@@ -63,7 +63,7 @@ each_names : (h : Here) (gs : List Guard) (who : Who) → ((i : ℤ) → hold gs
 each_names h gs who a b c n i role x within is at = by_rank (λ n role x. hold gs n i role x ≡ who n i role x) n role x within is (a i) (b i) (c i)
 
 somebody : (h : Here) (who : Who) (k : ℕ) → is_rank workers (pos 3) 0 (pos k) ≡ true → h.at (pos 3) (pos 0) ≡ true → h.comes (pos 3) (pos 0) 0 (pos k) ≡ true → who (pos 3) (pos 0) 0 (pos k) ≡ true → Somebody (scope_of rounds) h who
-somebody h who k is at comes so = record { n = pos 3; i = pos 0; role = 0; index = pos k; within = record { low = omega (arith, ints); high = omega (arith, ints) }; rank = is; at = at; comes = comes; is = so }
+somebody h who k is at comes so = record { n = pos 3; i = pos 0; role = 0; index = pos k; within = record { low = omega (arith, ints); high = omega (arith, ints) }; few = omega arith; rank = is; at = at; comes = comes; is = so }
 
 -- each of the three comes here, where the variable may be 0
 record IsForAll (h : Here) : Type 0 where
@@ -71,6 +71,9 @@ record IsForAll (h : Here) : Type 0 where
   first : h.comes (pos 3) (pos 0) 0 (pos 0) ≡ true
   second : h.comes (pos 3) (pos 0) 0 (pos 1) ≡ true
   third : h.comes (pos 3) (pos 0) 0 (pos 2) ≡ true
+
+someone : (h : Here) (who : Who) → Somebody (scope_of rounds) h who → Someone (scope_of rounds) h who
+someone h who s = record { n = s.n; i = s.i; role = s.role; index = s.index; within = s.within; rank = s.rank; at = s.at; comes = s.comes; is = s.is }
 
 anyone : {h : Here} → IsForAll h → Somebody (scope_of rounds) h everyone
 anyone {h = h} at = somebody h everyone 0 refl at.at at.first refl
@@ -165,7 +168,7 @@ held =
     (All-cons (λ (t : Test). Somebody (scope_of rounds) in_choice_here (λ n i role x. hold t.guards n i role x)) (test_of 1 3 2) [] (held_by 2 (test_of 1 3 2) refl refl refl) (All-nil (λ (t : Test). Somebody (scope_of rounds) in_choice_here (λ n i role x. hold t.guards n i role x))))))
 
 called : AreCalled (scope_of rounds) in_choice_here (end_at 0) relays
-called = All-cons (λ (r : Relay). Somebody (scope_of rounds) in_choice_here (λ n i role x. hold r.guards n x role x && not (is_chooser r.from (end_at 0) n x || is_end (end_at 0) n (pos 0) role x))) (record { guards = just 2 ∷ []; from = peer_of (end_at 1) }) [] (somebody in_choice_here _ 2 refl refl refl refl) (All-nil (λ (r : Relay). Somebody (scope_of rounds) in_choice_here (λ n i role x. hold r.guards n x role x && not (is_chooser r.from (end_at 0) n x || is_end (end_at 0) n (pos 0) role x))))
+called = All-cons (λ (r : Relay). Someone (scope_of rounds) in_choice_here (λ n i role x. hold r.guards n x role x && not (is_chooser r.from (end_at 0) n x || is_end (end_at 0) n (pos 0) role x))) (record { guards = just 2 ∷ []; from = peer_of (end_at 1) }) [] (someone in_choice_here _ (somebody in_choice_here _ 2 refl refl refl refl)) (All-nil (λ (r : Relay). Someone (scope_of rounds) in_choice_here (λ n i role x. hold r.guards n x role x && not (is_chooser r.from (end_at 0) n x || is_end (end_at 0) n (pos 0) role x))))
 
 round_shape : Shape (scope_of rounds) in_loop_here in_round round round_text
 round_shape =

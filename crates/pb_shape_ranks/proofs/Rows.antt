@@ -33,13 +33,13 @@ names x n i role index within is at = one_only role (value x n i) index
 
 -- at N = 2
 first_is : Somebody (scope_of first_to_last) everywhere (is_end (worker (number (pos 0))))
-first_is = record { n = pos 2; i = pos 0; role = 0; index = pos 0; within = record { low = omega (arith, ints); high = tt }; rank = refl; at = refl; comes = refl; is = refl }
+first_is = record { n = pos 2; i = pos 0; role = 0; index = pos 0; within = record { low = omega (arith, ints); high = tt }; few = omega arith; rank = refl; at = refl; comes = refl; is = refl }
 
 last_is : Somebody (scope_of first_to_last) everywhere (is_end (worker (from_n (negsuc 0))))
-last_is = record { n = pos 2; i = pos 0; role = 0; index = pos 1; within = record { low = omega (arith, ints); high = tt }; rank = refl; at = refl; comes = refl; is = refl }
+last_is = record { n = pos 2; i = pos 0; role = 0; index = pos 1; within = record { low = omega (arith, ints); high = tt }; few = omega arith; rank = refl; at = refl; comes = refl; is = refl }
 
 anyone : Somebody (scope_of first_to_last) everywhere everyone
-anyone = record { n = pos 2; i = pos 0; role = 0; index = pos 0; within = record { low = omega (arith, ints); high = tt }; rank = refl; at = refl; comes = refl; is = refl }
+anyone = record { n = pos 2; i = pos 0; role = 0; index = pos 0; within = record { low = omega (arith, ints); high = tt }; few = omega arith; rank = refl; at = refl; comes = refl; is = refl }
 
 pub shape : HasShape first_to_last first_to_last_text
 shape = record {

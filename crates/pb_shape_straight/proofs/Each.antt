@@ -19,8 +19,8 @@ use Rattle.pb_local.specs.Tree.{Code, Codes, nothing, more, size_all, Program}
 use Rattle.pb_local.specs.Tree as L
 use Rattle.pb_local.specs.Computed.{fits, is_for_some}
 use Rattle.pb_local.specs.Machine.{Todo, round_of, pushed, turn, move_from, machine}
-use Rattle.pb_shape.specs.Places.{Here, peer_of, scope_of}
-use Rattle.pb_shape.specs.Guards.{One, alone}
+use Rattle.pb_shape.specs.Places.{Here, everyone, peer_of, scope_of}
+use Rattle.pb_shape.specs.Guards.{Nobody, One, alone}
 use Rattle.pb_shape.specs.Items.{Items}
 use Rattle.pb_shape.specs.Segments.{is_at_offset, put, segment_codes, offsets, in_segment, OfRole, Segments}
 use Rattle.pb_shape.specs.Pieces.{fixed_in, in_for, but_fixed, ForEach}
@@ -45,24 +45,24 @@ same_value l n i j h = at l.base h
     at Param h = refl
     at Var h = cc
 
-none_left : (a : ℤ) → 0 ≡ count_of a → a ≤ℤ pos 0
+pub none_left : (a : ℤ) → 0 ≡ count_of a → a ≤ℤ pos 0
 none_left (pos n) h = omega (arith, ints, h)
 none_left (negsuc n) h = omega (arith, ints)
 
-some_left : (m : ℕ) (a : ℤ) → suc m ≡ count_of a → a ≡ pos (suc m)
+pub some_left : (m : ℕ) (a : ℤ) → suc m ≡ count_of a → a ≡ pos (suc m)
 some_left m (pos n) h = ap pos (sym h)
 some_left m (negsuc n) h = grind arith
 
-one_less : (m : ℕ) (a b : ℤ) → a ≡ pos (suc m) → b ≡ a -ℤ pos 1 → m ≡ count_of b
+pub one_less : (m : ℕ) (a b : ℤ) → a ≡ pos (suc m) → b ≡ a -ℤ pos 1 → m ≡ count_of b
 one_less m a b h e = let h' : b ≡ pos m = omega (arith, ints, h, e) in rw h' refl
 
 int_above : (v hi : ℤ) → hi <ℤ v → int_le v hi ≡ false
 int_above v hi h = grind (arith, ints)
 
-int_upto : (v hi : ℤ) → v ≤ℤ hi → int_le v hi ≡ true
+pub int_upto : (v hi : ℤ) → v ≤ℤ hi → int_le v hi ≡ true
 int_upto v hi h = grind (arith, ints)
 
-is_between : (low high v : ℤ) → low ≤ℤ v → v ≤ℤ high → int_le low v && int_le v high ≡ true
+pub is_between : (low high v : ℤ) → low ≤ℤ v → v ≤ℤ high → int_le low v && int_le v high ≡ true
 is_between low high v l u = and_from (int_le low v) (int_le v high) (int_upto low v l) (int_upto v high u)
 
 variable_fits : (v : ℤ) → IsVariable v → fits v ≡ true
@@ -142,19 +142,19 @@ module _ (p : Protocol) (l : Program) (n : ℤ) (me : Seat) (g : Setting p l n m
       record {
         last = e.last;
         near = e.near;
-        done = record { cost = d.cost + e.done.cost; behind = e.done.behind; small = omega (arith, d.small, e.done.small); go = goes_joined l n bound me d.go e.done.go };
+        done = record { cost = d.cost + e.done.cost; behind = e.done.behind; counts = omega (arith, d.counts, e.done.counts); small = omega (arith, d.small, e.done.small); go = goes_joined l n bound me d.go e.done.go };
       }
 
   -- ---- one segment
 
-  put_go : (b : Bool) (v : ℤ) (code : Code) (a : Kind) (cs : Codes) (s : List Kind) (rest : Todo) →
+  pub put_go : (b : Bool) (v : ℤ) (code : Code) (a : Kind) (cs : Codes) (s : List Kind) (rest : Todo) →
       IsAct p l n me g bound v code a → ((k number : ℕ) → Goes l n bound me k v v (pushed number cs rest) rest 0 s) → (k number : ℕ) → Goes l n bound me k v v (pushed number (put b code cs) rest) rest 0 (if_so b a ++ s)
   put_go true v code a cs s rest act h k number =
       let one = act k number (pushed (number + L.size code) cs rest) in
       goes_joined l n bound me one (h one.left (number + L.size code))
   put_go false v code a cs s rest act h k number = h k number
 
-  segment_go : (items : BlockTree) (v : ℤ) (role : ℕ) (c : ℤ) → AreItems p n true v items → (rest : Todo) (k number : ℕ) →
+  pub segment_go : (items : BlockTree) (v : ℤ) (role : ℕ) (c : ℤ) → AreItems p n true v items → (rest : Todo) (k number : ℕ) →
       Goes l n bound me k v v (pushed number (segment_codes role c items) rest) rest 0 (parts p.roles n (is_at_offset role c) v items)
   segment_go T.nothing v role c good rest k number = stays l n bound me k v rest
   segment_go (T.more m (T.message label f t) items) v role c good rest k number =
@@ -173,7 +173,7 @@ module _ (p : Protocol) (l : Program) (n : ℤ) (me : Seat) (g : Setting p l n m
   segment_go (T.more m (T.reduce label o e) items) v role c good rest k number = absurd good.0
   segment_go (T.more m (T.allreduce label o) items) v role c good rest k number = absurd good.0
 
-  own_go : (items : BlockTree) (i v : ℤ) (role : ℕ) (c : ℤ) → me.index +ℤ (pos 0 -ℤ c) ≡ v → IsVariable v → AreItems p n true v items → (rest : Todo) (k number : ℕ) → 1 ≤ k →
+  pub own_go : (items : BlockTree) (i v : ℤ) (role : ℕ) (c : ℤ) → me.index +ℤ (pos 0 -ℤ c) ≡ v → IsVariable v → AreItems p n true v items → (rest : Todo) (k number : ℕ) → 1 ≤ k →
       Goes l n bound me k i v (pushed number (more (L.own (pos 0 -ℤ c)) (segment_codes role c items)) rest) rest 1 (parts p.roles n (is_at_offset role c) v items)
   own_go items i v role c e near good rest zero number room = absurd (omega (arith, room))
   own_go items i v role c e near good rest (suc k) number room =
@@ -188,19 +188,19 @@ module _ (p : Protocol) (l : Program) (n : ℤ) (me : Seat) (g : Setting p l n m
     abbrev high : ℤ
     high = value b.high n (pos 0)
 
-    near_between : (v : ℤ) → low ≤ℤ v → v ≤ℤ high → IsVariable v
+    pub near_between : (v : ℤ) → low ≤ℤ v → v ≤ℤ high → IsVariable v
     near_between v x y =
         let a = bound_near b.low n g.size.low good.low in
         let c = bound_near b.high n g.size.low good.high in
         record { low = omega (arith, ints, x, a.0); high = omega (arith, ints, y, c.1, g.size.high) }
 
-    here_at : (i : ℤ) → IsVariable i → Comes h n me i
+    pub here_at : (i : ℤ) → IsVariable i → Comes h n me i
     here_at i near = record { near = near; at = open'.at i; comes = open'.comes i }
 
-    in_bounds : (low high x c : ℤ) (a : Bool) → a && (int_le (low +ℤ c) x && int_le x (high +ℤ c)) ≡ true → (low ≤ℤ (x -ℤ c)) × ((x -ℤ c) ≤ℤ high)
+    pub in_bounds : (low high x c : ℤ) (a : Bool) → a && (int_le (low +ℤ c) x && int_le x (high +ℤ c)) ≡ true → (low ≤ℤ (x -ℤ c)) × ((x -ℤ c) ≤ℤ high)
     in_bounds low high x c a e = (grind (arith, ints), grind (arith, ints))
 
-    segment_done : (role : ℕ) (c : ℤ) (middle codes : Codes) (rest : Todo) (k number : ℕ) (i : ℤ) →
+    pub segment_done : (role : ℕ) (c : ℤ) (middle codes : Codes) (rest : Todo) (k number : ℕ) (i : ℤ) →
         One (scope_of p) h (in_segment b role c) (more (L.own (pos 0 -ℤ c)) (segment_codes role c items)) middle codes → IsVariable i → Made l codes → Room p l n me g bound k codes →
         Ends k number i codes middle rest (segment_does p.roles n me b items role c)
     segment_done role c middle codes rest k number i one near made room = at (in_segment b role c n (pos 0) me.role me.index) refl
@@ -218,18 +218,18 @@ module _ (p : Protocol) (l : Program) (n : ℤ) (me : Seat) (g : Setting p l n m
             })
         at false e = rw e (record { last = i; near = near; done = one_no p l n me g bound k number i rest one (here_at i near) e made room })
 
-    of_role_done : (role : ℕ) (tail : Codes) (cs : List ℤ) (codes : Codes) (rest : Todo) (k number : ℕ) (i : ℤ) → OfRole (scope_of p) h b items role tail cs codes → IsVariable i → Made l codes → Room p l n me g bound k codes →
+    pub of_role_done : (role : ℕ) (tail : Codes) (cs : List ℤ) (codes : Codes) (rest : Todo) (k number : ℕ) (i : ℤ) → OfRole (scope_of p) h b items role tail cs codes → IsVariable i → Made l codes → Room p l n me g bound k codes →
         Ends k number i codes tail rest (gathered cs (segment_does p.roles n me b items role))
     of_role_done role tail [] codes rest k number i E.none near made room = record { last = i; near = near; done = nothing_done p l n me g bound k number i tail rest }
     of_role_done role tail (c ∷ cs) codes rest k number i (E.segment {middle = middle} one more') near made room =
         ends_joined room (segment_done role c middle codes rest k number i one near made room)
         (λ k' number' i' near' room'. of_role_done role tail cs middle rest k' number' i' more' near' (one_made p l n me g bound one made) room')
 
-    of_role_made : (role : ℕ) (tail : Codes) (cs : List ℤ) (codes : Codes) → OfRole (scope_of p) h b items role tail cs codes → Made l codes → Made l tail
+    pub of_role_made : (role : ℕ) (tail : Codes) (cs : List ℤ) (codes : Codes) → OfRole (scope_of p) h b items role tail cs codes → Made l codes → Made l tail
     of_role_made role tail [] codes E.none made = made
     of_role_made role tail (c ∷ cs) codes (E.segment {middle = middle} one more') made = of_role_made role tail cs middle more' (one_made p l n me g bound one made)
 
-    segments_done : (role : ℕ) (rs : List CoreRole) (tail codes : Codes) (rest : Todo) (k number : ℕ) (i : ℤ) → Segments (scope_of p) h b items tail role rs codes → IsVariable i → Made l codes → Room p l n me g bound k codes →
+    pub segments_done : (role : ℕ) (rs : List CoreRole) (tail codes : Codes) (rest : Todo) (k number : ℕ) (i : ℤ) → Segments (scope_of p) h b items tail role rs codes → IsVariable i → Made l codes → Room p l n me g bound k codes →
         Ends k number i codes tail rest (roles_do p.roles n me b items role rs)
     segments_done role [] tail codes rest k number i E.none near made room = record { last = i; near = near; done = nothing_done p l n me g bound k number i tail rest }
     segments_done role (r ∷ rs) tail codes rest k number i (E.of_role {middle = middle} one more') near made room =
@@ -288,7 +288,7 @@ module _ (p : Protocol) (l : Program) (n : ℤ) (me : Seat) (g : Setting p l n m
             (record { scope = made.scope; made = made.made.0.2 }) (record { now = room; ever = omega (arith, room') }) in
             costs l n bound me (size_all body) (omega (arith, e.small)) e.go
 
-    last_of : (low high v : ℤ) → low ≤ℤ v → v <ℤ (low +ℤ pos (count_of (high +ℤ pos 1 -ℤ low))) → v ≤ℤ high
+    pub last_of : (low high v : ℤ) → low ≤ℤ v → v <ℤ (low +ℤ pos (count_of (high +ℤ pos 1 -ℤ low))) → v ≤ℤ high
     last_of low high v x y = grind (arith, ints)
 
     none_then : (low high : ℤ) → ((v : ℤ) → low ≤ℤ v → v ≤ℤ high → ⊥) → high <ℤ low
@@ -298,16 +298,13 @@ module _ (p : Protocol) (l : Program) (n : ℤ) (me : Seat) (g : Setting p l n m
         at true e = absurd (none low (omega (arith, ints)) (grind (arith, ints)))
         at false e = grind (arith, ints)
 
-    free_done : fixed_in items n me.role me.index ≡ false → roles_do p.roles n me b items 0 p.roles ≡ all_rounds
+    pub free_done : fixed_in items n me.role me.index ≡ false → roles_do p.roles n me b items 0 p.roles ≡ all_rounds
     free_done free = segments_are p.roles n me b items free g.in_role
 
-    pub each_done : (tail codes : Codes) (rest : Todo) (k number : ℕ) (i : ℤ) → ForEach (scope_of p) h b items tail codes → IsVariable i → Made l codes → size_all codes ≤ k → 2 * size_all codes ≤ bound →
-        Ends k number i codes tail rest all_rounds
-    each_done tail codes rest k number i (P.segments nobody segs) near made room room' = at (fixed_in items n me.role me.index) refl
+    -- where nobody comes into the loop, the segments are all that a rank does
+    pub segments_do : Nobody (scope_of p) (in_for h b items) everyone → roles_do p.roles n me b items 0 p.roles ≡ all_rounds
+    segments_do nobody = at (fixed_in items n me.role me.index) refl
       where
-        done : Ends k number i codes tail rest (roles_do p.roles n me b items 0 p.roles)
-        done = segments_done h b items open' good 0 p.roles tail codes rest k number i segs near made (record { now = room; ever = omega (arith, room') })
-
         -- the variable has no value where a fixed rank comes
         none : fixed_in items n me.role me.index ≡ true → (v : ℤ) → lo ≤ℤ v → v ≤ℤ hi → ⊥
         none e v x y = never (nobody n v me.role me.index g.within g.is (is_between lo hi v x y) (and_from (fixed_in items n me.role me.index) (h.comes n v me.role me.index) e (open'.comes v)))
@@ -315,9 +312,14 @@ module _ (p : Protocol) (l : Program) (n : ℤ) (me : Seat) (g : Setting p l n m
         no_rounds : fixed_in items n me.role me.index ≡ true → all_rounds ≡ []
         no_rounds e = gathered_nothing (count_of (hi +ℤ pos 1 -ℤ lo)) lo (λ v. my_parts p.roles n me v items) (λ v x y. absurd (none e v x (last_of lo hi v x y)))
 
-        at : (t : Bool) → fixed_in items n me.role me.index ≡ t → Ends k number i codes tail rest all_rounds
-        at true e = subst (λ s. Ends k number i codes tail rest s) (no_roles p.roles n me b items 0 p.roles (none_then lo hi (none e)) ∙ sym (no_rounds e)) done
-        at false e = subst (λ s. Ends k number i codes tail rest s) (free_done e) done
+        at : (t : Bool) → fixed_in items n me.role me.index ≡ t → roles_do p.roles n me b items 0 p.roles ≡ all_rounds
+        at true e = no_roles p.roles n me b items 0 p.roles (none_then lo hi (none e)) ∙ sym (no_rounds e)
+        at false e = free_done e
+
+    pub each_done : (tail codes : Codes) (rest : Todo) (k number : ℕ) (i : ℤ) → ForEach (scope_of p) h b items tail codes → IsVariable i → Made l codes → size_all codes ≤ k → 2 * size_all codes ≤ bound →
+        Ends k number i codes tail rest all_rounds
+    each_done tail codes rest k number i (P.segments nobody segs) near made room room' =
+        subst (λ s. Ends k number i codes tail rest s) (segments_do nobody) (segments_done h b items open' good 0 p.roles tail codes rest k number i segs near made (record { now = room; ever = omega (arith, room') }))
     each_done tail codes rest zero number i (P.both {gs = gs} {body = body} {other = other} names some its segs) near made room room' = absurd (omega (arith, room))
     each_done tail codes rest (suc k) number i (P.both {gs = gs} {body = body} {other = other} names some its segs) near made room room' = at (fixed_in items n me.role me.index) refl
       where
@@ -336,6 +338,7 @@ module _ (p : Protocol) (l : Program) (n : ℤ) (me : Seat) (g : Setting p l n m
               done = record {
                 cost = suc (size_all (alone (L.for_each b.low b.high body)));
                 behind = behind;
+                counts = omega arith;
                 small = omega arith;
                 go = when_held l n bound me gs (alone (L.for_each b.low b.high body)) other (pushed behind tail rest) (guards_fit l n me i g.size near gs made.made.0.0) (held ∙ e) d.2;
               };
@@ -349,6 +352,7 @@ module _ (p : Protocol) (l : Program) (n : ℤ) (me : Seat) (g : Setting p l n m
               done = record {
                 cost = suc d.done.cost;
                 behind = behind;
+                counts = omega arith;
                 small = omega (arith, d.done.small);
                 go = when_not l n bound me gs (alone (L.for_each b.low b.high body)) other (pushed behind tail rest) (guards_fit l n me i g.size near gs made.made.0.0) (held ∙ e)
                     (subst (λ s. Goes l n bound me k i d.last (pushed (suc number + size_all (alone (L.for_each b.low b.high body))) other (pushed behind tail rest)) (pushed behind tail rest) d.done.cost s) (free_done e) d.done.go);

@@ -42,7 +42,7 @@ gathered_split (suc m) n a f =
     let e' : suc m + n ≡ suc (m + n) = omega arith in
     rw (e, e') (rw (gathered_split m n (a +ℤ pos 1) f) (sym (append_assoc (f a) _ _)))
 
-count_of_is : (a : ℤ) → pos 0 ≤ℤ a → pos (count_of a) ≡ a
+pub count_of_is : (a : ℤ) → pos 0 ≤ℤ a → pos (count_of a) ≡ a
 count_of_is a h = grind (arith, ints)
 
 below_in : (y b : ℤ) (cs : List ℤ) → IsBelow b cs → is_in y cs → y <ℤ b

@@ -52,6 +52,7 @@ module _ (p : Protocol) (l : Program) (n : ℤ) (me : Seat) (g : Setting p l n m
   pub record Done (k number : ℕ) (i j : ℤ) (codes tail : Codes) (rest : Todo) (kinds : List Kind) : Type 0 where
     pub cost : ℕ
     pub behind : ℕ
+    pub counts : behind + size_all tail ≡ number + size_all codes
     pub small : cost + size_all tail ≤ size_all codes
     pub go : Goes l n bound me k i j (pushed number codes rest) (pushed behind tail rest) cost kinds
 
@@ -67,10 +68,10 @@ module _ (p : Protocol) (l : Program) (n : ℤ) (me : Seat) (g : Setting p l n m
       Room k codes → Done k number i j codes middle rest s → ((k' number' : ℕ) → Room k' middle → Done k' number' j h middle tail rest t) → Done k number i h codes tail rest (s ++ t)
   done_joined {s = s} room a b =
       let c = b a.go.left a.behind (room_left s a.cost room a.small a.go.enough) in
-      record { cost = a.cost + c.cost; behind = c.behind; small = omega (arith, a.small, c.small); go = goes_joined l n bound me a.go c.go }
+      record { cost = a.cost + c.cost; behind = c.behind; counts = omega (arith, a.counts, c.counts); small = omega (arith, a.small, c.small); go = goes_joined l n bound me a.go c.go }
 
   pub nothing_done : (k number : ℕ) (i : ℤ) (codes : Codes) (rest : Todo) → Done k number i i codes codes rest []
-  nothing_done k number i codes rest = record { cost = 0; behind = number; small = omega arith; go = stays l n bound me k i (pushed number codes rest) }
+  nothing_done k number i codes rest = record { cost = 0; behind = number; counts = refl; small = omega arith; go = stays l n bound me k i (pushed number codes rest) }
 
   -- an `If` whose ranks the rank is among
   pub one_yes : (k number : ℕ) (i j : ℤ) (s : List Kind) (rest : Todo) (c : ℕ) {h : Here} {who : Who} {first tail codes : Codes} →
@@ -83,6 +84,7 @@ module _ (p : Protocol) (l : Program) (n : ℤ) (me : Seat) (g : Setting p l n m
       record {
         cost = suc c;
         behind = behind;
+        counts = omega arith;
         small = omega (arith, le);
         go = when_held l n bound me gs first nothing (pushed behind tail rest) (guards_fit l n me i g.size here'.near gs made.made.0.0)
             (names n i me.role me.index g.within g.is here'.at ∙ is)
@@ -99,6 +101,7 @@ module _ (p : Protocol) (l : Program) (n : ℤ) (me : Seat) (g : Setting p l n m
       record {
         cost = 1;
         behind = behind;
+        counts = omega arith;
         small = omega arith;
         go = when_not l n bound me gs first nothing (pushed behind tail rest) (guards_fit l n me i g.size here'.near gs made.made.0.0)
             (names n i me.role me.index g.within g.is here'.at ∙ is) (stays l n bound me k i (pushed behind tail rest));
@@ -126,7 +129,7 @@ module _ (p : Protocol) (l : Program) (n : ℤ) (me : Seat) (g : Setting p l n m
   pub run_act : (i : ℤ) (kernel : ℕ) → IsAct i (L.run kernel) (Runs kernel)
   run_act i kernel k number rest = does_one l n bound me refl
 
-  one_part : (k number : ℕ) (i : ℤ) (rest : Todo) (b : Bool) (a : Kind) {h : Here} {who : Who} {code : Code} {tail codes : Codes} →
+  pub one_part : (k number : ℕ) (i : ℤ) (rest : Todo) (b : Bool) (a : Kind) {h : Here} {who : Who} {code : Code} {tail codes : Codes} →
       One (scope_of p) h who (alone code) tail codes → Comes h n me i → who n i me.role me.index ≡ b → Made l codes → Room k codes → IsAct i code a → Done k number i i codes tail rest (if_so b a)
   one_part k number i rest true a {tail = tail} o here' is made room act =
       one_yes k number i i (a ∷ []) rest 0 o here' is made room (omega arith) (λ k' number' behind x y z. act k' number' (pushed behind tail rest))

@@ -43,10 +43,10 @@ same_operation Sum = refl
 
 module _ (p : Protocol) (l : Program) (n : ℤ) (me : Seat) (g : Setting p l n me) (bound : ℕ) where
   -- outside of a foreach an end is one rank, whatever the variable is
-  end_stays : (e : CoreEnd) (i : ℤ) → IsEnd p n false (pos 0) e → value e.at n (pos 0) ≡ value e.at n i
+  pub end_stays : (e : CoreEnd) (i : ℤ) → IsEnd p n false (pos 0) e → value e.at n (pos 0) ≡ value e.at n i
   end_stays e i h = same_value e.at n (pos 0) i (and_parts (is_over_n e.at.base) (is_small e.at.off) (and_parts _ _ h.sound).1).0
 
-  end_at : (e : CoreEnd) (i : ℤ) → IsEnd p n false (pos 0) e → IsEnd p n false i e
+  pub end_at : (e : CoreEnd) (i : ℤ) → IsEnd p n false (pos 0) e → IsEnd p n false i e
   end_at e i h = record { sound = h.sound; is = subst (λ x. is_rank p.roles n e.role x ≡ true) (end_stays e i h) h.is }
 
   abbrev asks : CoreEnd → ℤ → Bool
@@ -55,12 +55,12 @@ module _ (p : Protocol) (l : Program) (n : ℤ) (me : Seat) (g : Setting p l n m
   abbrev number_of : CoreEnd → ℤ → ℕ
   number_of e x = number_in (record { role = e.role; index = x }) (seats p.roles n)
 
-  record Stays (i : ℤ) (s : StmtTree) : Type 0 where
-    good : IsItem p n false i s
-    first : IsItem p n false (pos 0) s
-    same : part p.roles n (is_mine p.roles n me i) i s ≡ part p.roles n (is_mine p.roles n me (pos 0)) (pos 0) s
+  pub record Stays (i : ℤ) (s : StmtTree) : Type 0 where
+    pub good : IsItem p n false i s
+    pub first : IsItem p n false (pos 0) s
+    pub same : part p.roles n (is_mine p.roles n me i) i s ≡ part p.roles n (is_mine p.roles n me (pos 0)) (pos 0) s
 
-  item_stays : {h : Here} {s : StmtTree} {tail codes : Codes} → Item (scope_of p) h tail s codes → IsFine p n s → (i : ℤ) → Stays i s
+  pub item_stays : {h : Here} {s : StmtTree} {tail codes : Codes} → Item (scope_of p) h tail s codes → IsFine p n s → (i : ℤ) → Stays i s
   item_stays (message {l = label} {f = f} {t = t} a b) fine i =
       let x = end_stays f i fine.0 in let y = end_stays t i fine.1 in
       record {
@@ -75,7 +75,7 @@ module _ (p : Protocol) (l : Program) (n : ℤ) (me : Seat) (g : Setting p l n m
   same_done : (code : Code) (tail : Codes) (rest : Todo) (k number : ℕ) (i : ℤ) (kinds : List Kind) → IsVariable i → 1 ≤ size code →
       ((behind : ℕ) → Goes l n bound me k i i (do_next number code (pushed behind tail rest)) (pushed behind tail rest) 0 kinds) → Ends p l n me g bound k number i (more code tail) tail rest kinds
   same_done code tail rest k number i kinds near le go =
-      record { last = i; near = near; done = record { cost = 0; behind = number + size code; small = omega arith; go = go (number + size code) } }
+      record { last = i; near = near; done = record { cost = 0; behind = number + size code; counts = omega arith; small = omega arith; go = go (number + size code) } }
 
   -- both entries to a collective
   joins_go : (k number : ℕ) (i : ℤ) (code : Code) (joint : Collective) (rest : Todo) →
@@ -90,7 +90,7 @@ module _ (p : Protocol) (l : Program) (n : ℤ) (me : Seat) (g : Setting p l n m
   root_number i e fine = ap (number_of e) (sym (end_stays e i fine))
 
   module _ (r : ℕ) (number_is : rank p.roles n me.role me.index ≡ r) where
-    my_item : (opens : List ℕ) (m : Mark) (s : StmtTree) → IsItem p n false (pos 0) s → part p.roles n (is_mine p.roles n me (pos 0)) (pos 0) s ≡ mine r (flat_stmt p.roles n opens (pos 0) m s stop)
+    pub my_item : (opens : List ℕ) (m : Mark) (s : StmtTree) → IsItem p n false (pos 0) s → part p.roles n (is_mine p.roles n me (pos 0)) (pos 0) s ≡ mine r (flat_stmt p.roles n opens (pos 0) m s stop)
     my_item opens m s fine = sym (append-nil (part p.roles n (is_mine p.roles n me (pos 0)) (pos 0) s)) ∙ sym (mine_item p n r me g.is number_is false opens (pos 0) m s stop fine)
 
     pub piece_done : (h : Here) → IsOpenTo h n me → (opens : List ℕ) (m : Mark) (s : StmtTree) (tail codes : Codes) → Piece (scope_of p) h tail s codes → IsFine p n s → Made l codes →
@@ -142,4 +142,4 @@ setting numbered totalled p l n r me h = record {
 pub straight_passes : Numbered → Totalled → StraightPasses
 straight_passes numbered totalled p l n r me seated h open' opens m s tail codes piece fine at made rest k number i near room room' =
     let e = piece_done p l n me (setting numbered totalled p l n r me seated) (most_silent l) r seated.number h open' opens m s tail codes piece fine (record { scope = at; made = made }) rest k number i near room room' in
-    record { variable = e.last; near = e.near; behind = e.done.behind; left = e.done.go.left; enough = omega (arith, e.done.go.enough, e.done.small); way = e.done.go.way }
+    record { variable = e.last; near = e.near; behind = e.done.behind; counts = e.done.counts; left = e.done.go.left; enough = omega (arith, e.done.go.enough, e.done.small); way = e.done.go.way }

@@ -123,6 +123,7 @@ somebody c l u = record {
   role = 0;
   index = c;
   within = record { low = omega (arith, ints); high = tt };
+  few = omega arith;
   rank = worker (pos 2) c l (omega (arith, ints, u));
   at = refl;
   comes = refl;
@@ -144,6 +145,7 @@ anyone = record {
   role = 0;
   index = pos 0;
   within = record { low = omega (arith, ints); high = tt };
+  few = omega arith;
   rank = worker (pos 2) (pos 0) (omega (arith, ints)) (omega (arith, ints));
   at = refl;
   comes = refl;

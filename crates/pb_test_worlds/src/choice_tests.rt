@@ -1,5 +1,5 @@
 use crate::logs::{by_rank, with_word};
-use crate::worlds::{options, played, protocol};
+use crate::worlds::{options, played, played_by_list, protocol};
 use pb_cli_simulate::{Mode, Modes, Options, Status};
 use std::test::Fail;
 
@@ -21,22 +21,16 @@ fn two_rounds(rt: HostRuntime) -> Result<(), Fail> {
     Ok(())
 }
 
-/// The word with this number in a list, and 0 past its end.
-fn listed(words: &[u32], count: u64) -> u32 {
-    words.get(count as usize).copied().unwrap_or(0)
-}
-
 // Branches are counted modulo 2.
 #[test]
 fn even_words_go_on(rt: HostRuntime) -> Result<(), Fail> {
     let alloc = rt.alloc();
     let file = protocol(alloc, "4..max", ROUNDS)?;
-    let answers = |_seed: u64, _rank: u32, count: u64| listed(&[2, 4_294_967_294], count);
     let asked = Options {
         turns: 200,
         ..options(4)
     };
-    let told = played(alloc, file.as_str(), asked, answers)?;
+    let told = played_by_list(alloc, file.as_str(), asked, &[2, 4_294_967_294])?;
     assert_eq!(rt; told.status, Status::Turns);
     let lines = with_word(alloc, told.log.as_str(), "choose")?;
     assert!(rt; lines.len() > 2);

@@ -1,5 +1,5 @@
 use crate::logs::by_rank;
-use crate::worlds::{options, played, protocol};
+use crate::worlds::{options, played, played_by_greatest, protocol};
 use pb_cli_simulate::Status;
 use std::test::Fail;
 
@@ -7,8 +7,7 @@ use std::test::Fail;
 fn a_message_of_signed_words(rt: HostRuntime) -> Result<(), Fail> {
     let alloc = rt.alloc();
     let file = protocol(alloc, "2..max", "  A(int32[2]) from W[0] to W[1];")?;
-    let answers = |_seed: u64, _rank: u32, _count: u64| u32::MAX;
-    let told = played(alloc, file.as_str(), options(2), answers)?;
+    let told = played_by_greatest(alloc, file.as_str(), options(2))?;
     assert_eq!(rt; told.status, Status::Done);
     assert_eq!(rt;
         told.log.as_str(),
@@ -40,7 +39,6 @@ fn a_sum_of_own_words(rt: HostRuntime) -> Result<(), Fail> {
 #[test]
 fn reductions_of_the_greatest_word(rt: HostRuntime) -> Result<(), Fail> {
     let alloc = rt.alloc();
-    let answers = |_seed: u64, _rank: u32, _count: u64| u32::MAX;
     for (body, output) in [
         (
             "  reduce S(uint32) with sum to W[0];",
@@ -56,7 +54,7 @@ fn reductions_of_the_greatest_word(rt: HostRuntime) -> Result<(), Fail> {
         ),
     ] {
         let file = protocol(alloc, "3..3", body)?;
-        let told = played(alloc, file.as_str(), options(3), answers)?;
+        let told = played_by_greatest(alloc, file.as_str(), options(3))?;
         assert_eq!(rt; told.status, Status::Done, "{body}");
         assert_eq!(rt;
             by_rank(alloc, told.log.as_str())?.as_str(),

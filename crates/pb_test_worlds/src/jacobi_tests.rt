@@ -1,5 +1,5 @@
 use crate::logs::by_rank;
-use crate::worlds::{options, played, protocol};
+use crate::worlds::{options, played_by_greatest, protocol};
 use pb_cli_simulate::{Options, Status};
 use std::alloc::{AllocError, Global};
 use std::test::Fail;
@@ -72,12 +72,11 @@ fn expected(alloc: Global) -> Result<String, AllocError> {
 fn one_round_of_jacobi(rt: HostRuntime) -> Result<(), Fail> {
     let alloc = rt.alloc();
     let file = protocol(alloc, "2..max", JACOBI)?;
-    let answers = |_seed: u64, _rank: u32, _count: u64| u32::MAX;
     let asked = Options {
         turns: 100_000,
         ..options(8)
     };
-    let told = played(alloc, file.as_str(), asked, answers)?;
+    let told = played_by_greatest(alloc, file.as_str(), asked)?;
     assert_eq!(rt; told.status, Status::Done);
     assert_eq!(rt;
         by_rank(alloc, told.log.as_str())?.as_str(),

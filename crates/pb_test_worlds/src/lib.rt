@@ -1,4 +1,5 @@
-//! Tests of simulated worlds: answer functions of one's own, full channels, and texts changed by hand.
+//! Tests of simulated worlds: answer functions of one's own, full channels, and texts changed by hand. The functions whose relation
+//! the tests name by a clause stand in `stored`.
 #![tactic(auto)]
 
 #[cfg(test)]
@@ -11,7 +12,11 @@ mod full_tests;
 mod jacobi_tests;
 #[cfg(test)]
 mod logs;
+mod stored;
 #[cfg(test)]
 mod text_tests;
 #[cfg(test)]
 mod worlds;
+
+pub use pb_cli_simulate::{CTree, Options, Status};
+pub use stored::{simulate_by_greatest, simulate_by_list};

@@ -3,6 +3,7 @@
 ghost use Rattle.std.specs.Prelude.{◌≤◌, IfOk};
 ghost use Rattle.pb_ctree.specs.Trees.{IsTree};
 
+use crate::stored::{simulate_by_greatest, simulate_by_list};
 use pb_cli_simulate::{CTree, Mode, Modes, Options, Shown, Status, simulate_tree};
 use pb_compile::{Compiled, compile, generate};
 use pb_io::MemSink;
@@ -75,6 +76,33 @@ pub fn played<A: Fn(u64, u32, u64) -> u32 + Drop>(
     let mut out = MemSink::new(alloc, ROOM, ROOM, Vec::new(alloc))?;
     let tree = tree_of(alloc, file)?;
     let status = simulate_tree(alloc, tree, options, answers, &mut out);
+    taken(alloc, status, &out)
+}
+
+/// What simulating a protocol file answers, with the greatest word for each kernel.
+pub fn played_by_greatest(alloc: Global, file: &str, options: Options) -> Result<Told, Fail> {
+    if options.turns > MOST_EVENTS {
+        return Err(Fail::new("too many events"));
+    }
+    let mut out = MemSink::new(alloc, ROOM, ROOM, Vec::new(alloc))?;
+    let tree = tree_of(alloc, file)?;
+    let status = simulate_by_greatest(alloc, tree, options, &mut out);
+    taken(alloc, status, &out)
+}
+
+/// What simulating a protocol file answers, with the words of a list for each rank's kernels.
+pub fn played_by_list(
+    alloc: Global,
+    file: &str,
+    options: Options,
+    words: &[u32],
+) -> Result<Told, Fail> {
+    if options.turns > MOST_EVENTS {
+        return Err(Fail::new("too many events"));
+    }
+    let mut out = MemSink::new(alloc, ROOM, ROOM, Vec::new(alloc))?;
+    let tree = tree_of(alloc, file)?;
+    let status = simulate_by_list(alloc, tree, options, words, &mut out);
     taken(alloc, status, &out)
 }
 

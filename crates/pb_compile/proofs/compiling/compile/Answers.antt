@@ -13,4 +13,4 @@ tree_of-requires-clause-tabled c = tabled_of _ _ c.in_ok-core.ensures.accepted c
 
 pub returns-in-Ok-clause-compiled : goal.returns-in-Ok-clause-compiled
 returns-in-Ok-clause-compiled c =
-    compiled _ _ _ c.in_ok-core.ensures.accepted c.in-Ok.ensures.projected c.file_is_proper.ensures c.file_is_small.ensures c.text_ranks.ensures c.in-Ok.ensures.size c.in-Ok.ensures.braces
+    compiled _ _ _ c.in_ok-core.ensures.accepted c.in-Ok.ensures.projected c.file_is_proper.ensures c.file_is_small.ensures c.text_ranks.ensures c.text_is_reached.ensures c.in-Ok.ensures.size c.in-Ok.ensures.braces

@@ -1,5 +1,7 @@
-use Rattle.std.proofs.Common.{◌≤◌, ◌+◌, ◌*◌, sym, subst}
+use Rattle.std.proofs.Common.{◌≤◌, ◌+◌, ◌*◌, refl, sym, subst}
 use Rattle.pb_core_language.specs.Plain.{plain}
+use Rattle.pb_core_language.specs.Rules.{breaches}
+use Rattle.pb_core_endpoint.proofs.FileDone.{no_breach}
 use Rattle.pb_local.specs.Tree.{plain_all, program_of, size_all}
 use Rattle.pb_shape.specs.Sizes.{room_all, depth_all, braces_all}
 use Rattle.pb_shape_filled.proofs.Filled.{text_is_filled}
@@ -14,6 +16,13 @@ returns-clause-filled c = text_is_filled (plain c.args.core.now) (program_of c.i
 
 pub returns-clause-made : goal.returns-clause-made
 returns-clause-made c = is_well_made (plain c.args.core.now) c.requires.sound c.requires.tabled c.requires.keeps (plain_all c.in_ok-body.body.items) c.in_ok-body.ensures (program_of c.in_ok-local.local) c.in_ok-local.ensures
+
+pub returns-clause-reached : goal.returns-clause-reached
+returns-clause-reached c = λ proper.
+    c.text_is_reached.ensures (plain c.args.core.now) (program_of c.in_ok-local.local) c.requires.sound proper
+    (has_shape (plain c.args.core.now) c.requires.sound c.requires.tabled c.requires.keeps (plain_all c.in_ok-body.body.items) c.in_ok-body.ensures (program_of c.in_ok-local.local) c.in_ok-local.ensures)
+    (is_well_made (plain c.args.core.now) c.requires.sound c.requires.tabled c.requires.keeps (plain_all c.in_ok-body.body.items) c.in_ok-body.ensures (program_of c.in_ok-local.local) c.in_ok-local.ensures)
+    (λ n within. no_breach (plain c.args.core.now) n within c.requires.keeps (breaches (plain c.args.core.now) n) refl)
 
 pub returns-clause-size : goal.returns-clause-size
 returns-clause-size c = subst (λ cs. size_all cs ≤ room_all (plain c.args.core.now).body.block) (sym c.in_ok-local.ensures.body) c.in_ok-body.ensures.block.size

@@ -4,8 +4,7 @@ use Rattle.std.proofs.lemmas.Bool.{eqb-true}
 use Rattle.std.proofs.lemmas.List.Elements.{All-nil}
 use Rattle.pb_part_firsts.specs.declared.firsts.Source.{Source}
 use Rattle.pb_local.specs.declared.stmt.Test.{Test}
-use Rattle.pb_project_choice.specs.Relayed.{is_apart, HaveCallers, AreRelayed}
-use Rattle.pb_project_choice.specs.Tested.{HasHolder}
+use Rattle.pb_project_choice.specs.Relayed.{HasCaller, HaveCallers, AreRelayed}
 use Rattle.pb_project_choice.specs.Sources.{is_from, is_listed}
 use Rattle.pb_project_choice.proofs.Relaying.{no_tests, relays_right, relays_each, relays_called}
 use Rattle.pb_project_choice.proofs.relays.relays_of.Goals as goal
@@ -37,7 +36,7 @@ returns-clause-each c = λ p sc a bs st range_is small found one same.
 pub returns-then-is_empty-clause-called : goal.returns-then-is_empty-clause-called
 returns-then-is_empty-clause-called c = λ sc a bs such st range_is small found one told.
     subst (HaveCallers c.args.setting.now.range sc.roles such c.args.chooser) (sym c.new.ensures.items)
-    (All-nil (λ q. HasHolder c.args.setting.now.range sc.roles (λ n role x. such n role x && is_apart q c.args.chooser n role x) q.guards))
+    (All-nil (HasCaller c.args.setting.now.range sc.roles such c.args.chooser))
 
 pub returns-clause-called : goal.returns-clause-called
 returns-clause-called c = λ sc a bs such st range_is small found one told.

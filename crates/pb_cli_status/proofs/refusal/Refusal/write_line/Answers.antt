@@ -59,3 +59,33 @@ returns-in-Turns-clause-whole g c = rw c.in-Turns.is c.write_number-in-Turns.ens
 
 pub returns-in-Turns-clause-front : goal.returns-in-Turns-clause-front
 returns-in-Turns-clause-front g c = rw c.in-Turns.is c.write_number-in-Turns.ensures.front
+
+pub returns-in-Pieces-clause-whole : goal.returns-in-Pieces-clause-whole
+returns-in-Pieces-clause-whole g c = rw c.in-Pieces.is c.write_all-in-Pieces.ensures.whole
+
+pub returns-in-Pieces-clause-front : goal.returns-in-Pieces-clause-front
+returns-in-Pieces-clause-front g c = rw c.in-Pieces.is c.write_all-in-Pieces.ensures.front
+
+pub returns-in-CostLoop-clause-whole : goal.returns-in-CostLoop-clause-whole
+returns-in-CostLoop-clause-whole g c = rw c.in-CostLoop.is c.write_at-in-CostLoop.ensures.whole
+
+pub returns-in-CostLoop-clause-front : goal.returns-in-CostLoop-clause-front
+returns-in-CostLoop-clause-front g c = rw c.in-CostLoop.is c.write_at-in-CostLoop.ensures.front
+
+pub returns-in-LogDiffers-clause-whole : goal.returns-in-LogDiffers-clause-whole
+returns-in-LogDiffers-clause-whole g c = rw c.in-LogDiffers.is c.write_ruling.ensures.whole
+
+pub returns-in-LogDiffers-clause-front : goal.returns-in-LogDiffers-clause-front
+returns-in-LogDiffers-clause-front g c = rw c.in-LogDiffers.is c.write_ruling.ensures.front
+
+pub returns-in-LogBeyond-clause-whole : goal.returns-in-LogBeyond-clause-whole
+returns-in-LogBeyond-clause-whole g c = rw c.in-LogBeyond.is c.write_ruling-in-LogBeyond.ensures.whole
+
+pub returns-in-LogBeyond-clause-front : goal.returns-in-LogBeyond-clause-front
+returns-in-LogBeyond-clause-front g c = rw c.in-LogBeyond.is c.write_ruling-in-LogBeyond.ensures.front
+
+pub returns-in-LogMalformed-clause-whole : goal.returns-in-LogMalformed-clause-whole
+returns-in-LogMalformed-clause-whole g c = rw c.in-LogMalformed.is c.write_malformed.ensures.whole
+
+pub returns-in-LogMalformed-clause-front : goal.returns-in-LogMalformed-clause-front
+returns-in-LogMalformed-clause-front g c = rw c.in-LogMalformed.is c.write_malformed.ensures.front

@@ -1,0 +1,3 @@
+mod Starts
+pub mod Told
+pub mod Complete

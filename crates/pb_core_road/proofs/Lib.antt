@@ -1,0 +1,4 @@
+pub mod Runs
+pub mod Roads
+pub mod Trees
+pub mod Receives

@@ -1,0 +1,12 @@
+pub mod Leads
+pub mod Standing
+pub mod Straights
+pub mod Texts
+pub mod Passing
+pub mod Finding
+pub mod Segments
+pub mod Eaches
+pub mod Counts
+pub mod Blocks
+pub mod Branching
+pub mod Whole

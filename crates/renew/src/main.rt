@@ -1,0 +1,51 @@
+//! The program `renew`: puts the C text of a changed protocol in the place of the old one, with the bodies that were filled in.
+//!
+//! `respond` is the whole program over any store, folder and sink: it writes OUT and OUT.left in the store, and tells why it
+//! didn't, or what has changed, in the sink. The folder has the same files, which are read once more to be told of.
+#![tactic(auto)]
+
+ghost use Rattle.std.specs.Prelude.{◌≡◌};
+ghost use Rattle.std.specs.Process.{exit_status};
+ghost use Rattle.pb_cli_status.specs.Codes.{code_of};
+
+mod bodies;
+mod call;
+mod fault;
+mod help;
+mod line;
+mod request;
+#[cfg(test)]
+mod tests;
+
+use call::respond;
+use pb_cli_status::Status;
+use pb_explain::RegularFolder;
+use pb_io::HostSink;
+use pb_renew_store::HostStore;
+use pb_text::NoMemory;
+use std::process::ExitCode;
+use std::{env, io};
+
+/// The words after the program's name; none where some aren't UTF-8.
+fn words(rt: &HostRuntime) -> Result<Vec<String>, NoMemory> {
+    match env::args(rt) {
+        Ok(all) => Ok(all.skip(1).collect(rt.alloc())?),
+        Err(error) if error.kind() == io::ErrorKind::OutOfMemory => Err(NoMemory),
+        Err(_) => Ok(Vec::new(rt.alloc())),
+    }
+}
+
+/// The program's exit status.
+fn exit_code(status: Status) -> ExitCode
+    ensures { exit_status result ≡ code_of status }
+{
+    ExitCode::from(status.code())
+}
+
+fn main(rt: HostRuntime) -> ExitCode {
+    let mut store = HostStore::new(&rt);
+    let mut again = RegularFolder::new(&rt);
+    let mut told = HostSink::new(rt.stderr());
+    let status = respond(rt.alloc(), words(&rt), &mut store, &mut again, &mut told);
+    exit_code(status)
+}
