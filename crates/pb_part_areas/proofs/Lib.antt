@@ -5,6 +5,7 @@ pub mod Parts
 pub mod Wide
 pub mod Cuts
 pub mod Joins
+pub mod Neighbours
 pub mod Lists
 pub mod Guarded
 pub mod Firsts

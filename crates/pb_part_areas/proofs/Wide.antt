@@ -12,13 +12,13 @@ use Rattle.pb_part_areas.proofs.Meets.{apart, at_still, at_grows}
 
 -- ---- an N that the area speaks of
 
-within_bools : (from : ℕ) (n : ℤ) (u : Bool) → pos from ≤ℤ n → u ≡ true → int_le (pos from) n && u ≡ true
+pub within_bools : (from : ℕ) (n : ℤ) (u : Bool) → pos from ≤ℤ n → u ≡ true → int_le (pos from) n && u ≡ true
 within_bools from n u h e = grind (arith, ints, nat_tests)
 
 before_at : (from b : ℕ) → from < b → int_lt (pos from) (pos b) ≡ true
 before_at from b h = grind (arith, ints, nat_tests)
 
-before_first : (from : ℕ) (until : Option ℕ) → IfSome until (λ b. from < b) → is_before (pos from) until ≡ true
+pub before_first : (from : ℕ) (until : Option ℕ) → IfSome until (λ b. from < b) → is_before (pos from) until ≡ true
 before_first from None h = refl
 before_first from (Some b) h = before_at from b h
 

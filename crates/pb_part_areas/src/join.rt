@@ -1,11 +1,11 @@
-ghost use Rattle.std.specs.Prelude.{◌≡◌, ◌<◌, ℕ, ℤ, ◌||◌, true, false, List, length, OnOk, IfSome, get_or};
+ghost use Rattle.std.specs.Prelude.{◌≡◌, ◌<◌, ◌≤◌, ◌+◌, ℕ, ℤ, ◌||◌, true, false, List, length, OnOk, MatchOption, get_or};
 ghost use Rattle.std.specs.List.{All};
 ghost use Rattle.pb_affine.specs.declared.lin.Lin.{Lin};
 ghost use Rattle.pb_affine.specs.declared.range.NRange.{NRange};
 ghost use Rattle.pb_part_areas.specs.declared.area.Area.{Area};
 ghost use Rattle.pb_part_areas.specs.Areas.{has, have, have_two, AreSomewhere};
 ghost use Rattle.pb_part_areas.specs.Fits.{Fits, FitTwo};
-ghost use Rattle.pb_part_areas.specs.Joins.{IsUnion, IsJoin};
+ghost use Rattle.pb_part_areas.specs.Joins.{IsUnion, IsBeside, IsFollowed, AreInOrder, AreNeighbours, HasNoNeighbour, IsJoinedFrom, IsJoinedLast, IsJoin, tried};
 
 use crate::area::Area;
 use crate::cut::Two;
@@ -24,7 +24,7 @@ const TRIED: usize = 64;
 
 /// One area, where the first ends at the index where the second begins.
 fn side_by_side(a: Area, b: Area) -> Option<Area>
-    ensures { IfSome result (λ m. IsUnion a b m) }
+    ensures { MatchOption result (IsBeside a b → ⊥) (λ m. IsUnion a b m) }
 {
     if a.role == b.role
         && a.end == b.low
@@ -41,7 +41,7 @@ fn side_by_side(a: Area, b: Area) -> Option<Area>
 
 /// One area, where the first ends at the N where the second begins.
 fn one_after_other(a: Area, b: Area) -> Option<Area>
-    ensures { IfSome result (λ m. IsUnion a b m) }
+    ensures { MatchOption result (IsFollowed a b → ⊥) (λ m. IsUnion a b m) }
 {
     if a.role == b.role
         && a.low == b.low
@@ -60,7 +60,7 @@ fn one_after_other(a: Area, b: Area) -> Option<Area>
 }
 
 fn in_order(a: Area, b: Area) -> Option<Area>
-    ensures { IfSome result (λ m. IsUnion a b m) }
+    ensures { MatchOption result (AreInOrder a b → ⊥) (λ m. IsUnion a b m) }
 {
     match side_by_side(a, b) {
         None => one_after_other(a, b),
@@ -71,7 +71,7 @@ fn in_order(a: Area, b: Area) -> Option<Area>
 /// One area, where two are neighbours.
 #[tactic(auto, using(crate::proofs::Joins::exchanged))]
 fn joined(a: Area, b: Area) -> Option<Area>
-    ensures { IfSome result (λ m. IsUnion a b m) }
+    ensures { MatchOption result (AreNeighbours a b → ⊥) (λ m. IsUnion a b m) }
 {
     match in_order(a, b) {
         None => in_order(b, a),
@@ -81,7 +81,7 @@ fn joined(a: Area, b: Area) -> Option<Area>
 
 /// A neighbour of the area among the last of the list.
 fn neighbour(list: &[Area], a: Area) -> Option<Join>
-    ensures { IfSome result (λ j. IsJoin list.now a j.place j.area) }
+    ensures { MatchOption result (HasNoNeighbour list.now a) (λ j. IsJoin list.now a j.place j.area) }
 {
     let first = list.len().saturating_sub(TRIED);
     for i in first..list.len() {
@@ -92,11 +92,15 @@ fn neighbour(list: &[Area], a: Area) -> Option<Join>
     None
 }
 
-/// Adds the area, unless it holds of nothing. It is put together with neighbours among the last areas of the list.
+/// Adds the area, unless it holds of nothing. It is put together with neighbours among the last 64 areas of the list, until it
+/// has none there. So no two areas of a list of up to 65 that was made so are neighbours, and no two of the last 64 become ones.
 pub fn push(out: &mut Vec<Area>, a: Area) -> Result<(), NoMemory>
     ensures is { OnOk result ((n : ℤ) (role : ℕ) (x : ℤ) → have out.new.items n role x ≡ have out.old.items n role x || has a n role x) }
     ensures fits { OnOk result ((range : NRange) (cuts : List Lin) → All (Fits range cuts) out.old.items → Fits range cuts a → All (Fits range cuts) out.new.items) }
     ensures some { OnOk result (AreSomewhere out.old.items → AreSomewhere out.new.items) }
+    ensures grows { OnOk result (length out.new.items ≤ length out.old.items + 1) }
+    ensures joined { OnOk result ((from : ℕ) → length out.old.items ≤ from + tried → IsJoinedFrom from out.old.items → IsJoinedFrom from out.new.items) }
+    ensures last { OnOk result (IsJoinedLast out.old.items → IsJoinedLast out.new.items) }
 {
     let mut last = tightened(a);
     if is_empty(last) {
@@ -115,6 +119,7 @@ pub(crate) fn push_two(out: &mut Vec<Area>, two: Two) -> Result<(), NoMemory>
     ensures is { OnOk result ((n : ℤ) (role : ℕ) (x : ℤ) → have out.new.items n role x ≡ have out.old.items n role x || have_two two n role x) }
     ensures fits { OnOk result ((range : NRange) (cuts : List Lin) → All (Fits range cuts) out.old.items → FitTwo range cuts two → All (Fits range cuts) out.new.items) }
     ensures some { OnOk result (AreSomewhere out.old.items → AreSomewhere out.new.items) }
+    ensures joined { OnOk result ((from : ℕ) → length out.old.items + 1 ≤ from + tried → IsJoinedFrom from out.old.items → IsJoinedFrom from out.new.items) }
 {
     push(out, two.first)?;
     push(out, two.second)?;

@@ -1,9 +1,10 @@
-ghost use Rattle.std.specs.Prelude.{◌≡◌, ℕ, ℤ, ◌&&◌, ◌||◌, not, List, OnOk, IfOk};
+ghost use Rattle.std.specs.Prelude.{◌≡◌, ◌≤◌, ◌+◌, ℕ, ℤ, ◌&&◌, ◌||◌, not, List, length, OnOk, IfOk};
 ghost use Rattle.std.specs.List.{All};
 ghost use Rattle.pb_affine.specs.declared.lin.Lin.{Lin};
 ghost use Rattle.pb_affine.specs.declared.range.NRange.{NRange};
 ghost use Rattle.pb_part_areas.specs.Areas.{has, have, IsSomewhere, AreSomewhere};
 ghost use Rattle.pb_part_areas.specs.Fits.{Fits};
+ghost use Rattle.pb_part_areas.specs.Joins.{IsJoinedFrom, tried};
 
 use crate::area::Area;
 use crate::cover::{are_apart, covers, is_covered};
@@ -76,11 +77,12 @@ pub fn common(alloc: Global, list: &[Area], others: &[Area]) -> Result<Vec<Area>
     Ok(out)
 }
 
-/// Adds all areas of the list.
+/// Adds all areas of the list. Where both lists have up to 64 areas together, no two neighbours are added.
 pub fn add_all(out: &mut Vec<Area>, more: &[Area]) -> Result<(), NoMemory>
     ensures is { OnOk result ((n : ℤ) (role : ℕ) (x : ℤ) → have out.new.items n role x ≡ have out.old.items n role x || have more.now n role x) }
     ensures fits { OnOk result ((range : NRange) (cuts : List Lin) → All (Fits range cuts) out.old.items → All (Fits range cuts) more.now → All (Fits range cuts) out.new.items) }
     ensures some { OnOk result (AreSomewhere out.old.items → AreSomewhere out.new.items) }
+    ensures joined { OnOk result ((from : ℕ) → length out.old.items + length more.now ≤ from + tried → IsJoinedFrom from out.old.items → IsJoinedFrom from out.new.items) }
 {
     for a in more {
         push(out, *a)?;
@@ -172,11 +174,12 @@ pub fn absorb(alloc: Global, out: &mut Vec<Area>, more: &[Area]) -> Result<(), N
     Ok(())
 }
 
-/// The same ranks once more.
+/// The same ranks once more. No two areas are neighbours, where the list has up to 64.
 pub fn copied(alloc: Global, list: &[Area]) -> Result<Vec<Area>, NoMemory>
     ensures is { IfOk result (λ v. (n : ℤ) (role : ℕ) (x : ℤ) → have v.items n role x ≡ have list.now n role x) }
     ensures fits { IfOk result (λ v. (range : NRange) (cuts : List Lin) → All (Fits range cuts) list.now → All (Fits range cuts) v.items) }
     ensures some { IfOk result (λ v. AreSomewhere v.items) }
+    ensures joined { IfOk result (λ v. length list.now ≤ tried → IsJoinedFrom 0 v.items) }
 {
     let mut copy = Vec::new(alloc);
     add_all(&mut copy, list)?;

@@ -1,11 +1,12 @@
-use Rattle.std.proofs.Common.{ap, sym, ◌∙◌, ◌||◌, subst}
+use Rattle.std.proofs.Common.{ap, sym, ◌∙◌, ◌||◌, subst, arith}
 use Rattle.std.specs.List.{All}
 use Rattle.std.proofs.lemmas.List.Elements.{All-push}
 use Rattle.pb_part_areas.specs.Areas.{have, IsSomewhere, AreSomewhere}
 use Rattle.pb_part_areas.specs.Fits.{Fits}
-use Rattle.pb_part_areas.specs.Joins.{IsJoin}
+use Rattle.pb_part_areas.specs.Joins.{IsJoin, HasNoNeighbour}
 use Rattle.pb_part_areas.proofs.Joins.{join_is, join_fits, All_removed}
 use Rattle.pb_part_areas.proofs.Lists.{have_pushed}
+use Rattle.pb_part_areas.proofs.Neighbours.{short_removed, joined_removed, joined_pushed, last_pushed}
 use Rattle.pb_part_areas.proofs.Wide.{union_somewhere, removed_somewhere}
 use Rattle.pb_part_areas.proofs.join.push.Goals as goal
 
@@ -18,6 +19,8 @@ loop-join-preserved c =
       own = λ range cuts h f. join_fits range cuts c.loop-join.out.items c.in-Some.join.place c.loop-join.last c.in-Some.join.area j (c.loop-join.invariant.fits range cuts h f) (c.loop-join.invariant.own range cuts h f);
       some = λ h. removed_somewhere c.loop-join.out.items c.remove.new.self.items c.in-Some.join.place c.remove.ensures.items (c.loop-join.invariant.some h);
       last_some = λ h. union_somewhere _ c.loop-join.last c.in-Some.join.area j.union (c.loop-join.invariant.last_some h);
+      short = let n = short_removed c.loop-join.out.items c.remove.new.self.items c.in-Some.join.place j.within c.remove.ensures.items in let k = c.loop-join.invariant.short in omega arith;
+      joined = λ from h. joined_removed c.loop-join.out.items c.remove.new.self.items c.in-Some.join.place from j.within c.remove.ensures.items (c.loop-join.invariant.joined from h);
     }
 
 pub returns-clause-is : goal.returns-clause-is
@@ -36,3 +39,14 @@ pub returns-clause-some : goal.returns-clause-some
 returns-clause-some c = λ h.
     subst AreSomewhere (sym c.in_ok-push.ensures.items)
     (All-push IsSomewhere c.loop-join.out.items c.loop-join.last (c.loop-join.invariant.some h) (c.loop-join.invariant.last_some (c.is_empty.ensures.some c.if-is_empty.false)))
+
+pub returns-clause-joined : goal.returns-clause-joined
+returns-clause-joined c = λ from few h.
+    let alone : HasNoNeighbour c.loop-join.out.items c.loop-join.last = rw c.deref.ensures.value at c.in_default.ensures in
+    let short = c.loop-join.invariant.short in
+    joined_pushed c.loop-join.out.items c.push.new.self.items c.loop-join.last from c.in_ok-push.ensures.items (omega arith) alone (c.loop-join.invariant.joined from h)
+
+pub returns-clause-last : goal.returns-clause-last
+returns-clause-last c = λ h.
+    let alone : HasNoNeighbour c.loop-join.out.items c.loop-join.last = rw c.deref.ensures.value at c.in_default.ensures in
+    last_pushed c.loop-join.out.items c.push.new.self.items c.loop-join.last c.in_ok-push.ensures.items alone

@@ -1,6 +1,7 @@
 use Rattle.std.proofs.Common.{ap, sym, ◌∙◌, nat_eq, pos}
 use Rattle.pb_part_areas.proofs.Bools.{minus_chain, first_true}
-use Rattle.pb_part_areas.specs.Areas.{at}
+use Rattle.pb_part_areas.proofs.Lists.{differ}
+use Rattle.pb_part_areas.specs.Areas.{at, have}
 use Rattle.std.proofs.lemmas.Result.{on_ok_weaker}
 use Rattle.pb_part_areas.proofs.pair.cut_out.Goals as goal
 
@@ -21,6 +22,9 @@ returns-in_ok-push_two-2-clause-fits c = λ range cuts h fa fb.
     let second = c.in_ok-push-2.ensures.fits range cuts first (c.behind.ensures.fits range cuts fa fb.until) in
     let third = c.in_ok-push_two.ensures.fits range cuts second (c.below.ensures.fits range cuts part fb.low) in
     c.in_ok-push_two-2.ensures.fits range cuts third (c.above.ensures.fits range cuts part fb.end)
+
+pub returns-else-a-b-clause-is : goal.returns-else-a-b-clause-is
+returns-else-a-b-clause-is c = on_ok_weaker c.push-else-a-b.result (λ d n role x. d n role x ∙ differ c.args.a c.args.b (have c.args.out.now.items n role x) n role x c.if-a-b.false) c.push-else-a-b.ensures.is
 
 pub returns-else-a-b-clause-fits : goal.returns-else-a-b-clause-fits
 returns-else-a-b-clause-fits c = on_ok_weaker c.push-else-a-b.result (λ d range cuts h fa fb. d range cuts h fa) c.push-else-a-b.ensures.fits

@@ -1,3 +1,4 @@
+use Rattle.std.proofs.Common.{arith}
 use Rattle.pb_part_areas.specs.Joins.{blank}
 use Rattle.pb_part_areas.proofs.Lists.{add_step, add_end}
 use Rattle.pb_part_areas.proofs.sets.add_all.Goals as goal
@@ -7,6 +8,11 @@ loop-a-preserved c = record {
   is = λ n role x. add_step _ _ _ _ _ n role x c.loop-a-test.true (c.in_ok-push.ensures.is n role x) (c.loop-a.invariant.is n role x);
   fits = λ range cuts h f. c.in_ok-push.ensures.fits range cuts (c.loop-a.invariant.fits range cuts h f) (f c.loop-a.a-index blank c.loop-a-test.true);
   some = λ h. c.in_ok-push.ensures.some (c.loop-a.invariant.some h);
+  grows = let one = c.in_ok-push.ensures.grows in let before = c.loop-a.invariant.grows in omega arith;
+  joined = λ from few h.
+      let here = c.loop-a-test.true in
+      let before = c.loop-a.invariant.grows in
+      c.in_ok-push.ensures.joined from (omega arith) (c.loop-a.invariant.joined from few h);
 }
 
 pub returns-clause-is : goal.returns-clause-is
