@@ -1,0 +1,3 @@
+mod Tables
+pub mod Words
+pub mod Runs
