@@ -1,5 +1,0 @@
-use Rattle.pb_cread_frame.specs.Views.{IsReader}
-use Rattle.pb_cread_frame.proofs.tests.read.Given as goal
-
-abbrev pub invariant-loop-taken : goal.invariant-loop-taken
-invariant-loop-taken l = IsReader l.reader

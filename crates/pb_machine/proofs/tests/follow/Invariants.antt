@@ -1,5 +1,0 @@
-use Rattle.pb_machine.specs.Steps.{Fits}
-use Rattle.pb_machine.proofs.tests.follow.Given as goal
-
-abbrev pub invariant-loop-next : goal.invariant-loop-next
-invariant-loop-next g l = Fits l.tree l.rank

@@ -1,0 +1,184 @@
+use pb_ctree::{CoreKernel, CoreLabel, Formula, KernelKind, Local, NRange, Name, Payload};
+use pb_sched::{
+    Action, CTree, Joint, Mode, NoMemory, Picks, ScheduleFault, Words, log_line, pick, pick_mode,
+    print_schedule, read_schedule,
+};
+use pb_text::MOST_EVENTS;
+use std::alloc::Global;
+use std::test::Fail;
+
+fn fault_of(alloc: Global, bytes: &[u8]) -> Option<ScheduleFault> {
+    read_schedule(alloc, bytes).err()
+}
+
+#[test]
+fn reads_what_is_printed(rt: HostRuntime) -> Result<(), Fail> {
+    let text =
+        b"pabble schedule 2\nseed 18446744073709551615\n0 e\n9 w\n10 e\n99 w\n100 e\n4294967295 w\n";
+    match read_schedule(rt.alloc(), text) {
+        Ok(schedule) => {
+            assert_eq!(rt; schedule.turns.len(), 6);
+            if schedule.turns.len() <= MOST_EVENTS as usize {
+                let printed = print_schedule(rt.alloc(), &schedule)?;
+                assert_eq!(rt; printed.as_slice(), text.as_slice());
+            }
+        }
+        Err(fault) => assert_eq!(rt; fault, ScheduleFault::NoMemory),
+    }
+    Ok(())
+}
+
+#[test]
+fn tells_the_first_bad_line(rt: HostRuntime) -> Result<(), Fail> {
+    let bad = |line| Some(ScheduleFault::BadLine(line));
+    assert_eq!(rt; fault_of(rt.alloc(), b""), bad(1));
+    assert_eq!(rt; fault_of(rt.alloc(), b"pabble schedule 1\n"), bad(2));
+    assert_eq!(rt; fault_of(rt.alloc(), b"pabble schedule 1\nseed 0\n"), None);
+    assert_eq!(rt;
+        fault_of(rt.alloc(), b"pabble schedule 1\nseed 00\n"),
+        bad(2)
+    );
+    assert_eq!(rt;
+        fault_of(
+            rt.alloc(),
+            b"pabble schedule 1\nseed 18446744073709551616\n"
+        ),
+        bad(2)
+    );
+    assert_eq!(rt;
+        fault_of(rt.alloc(), b"pabble schedule 1\nseed 1\n7\n7"),
+        bad(4)
+    );
+    assert_eq!(rt;
+        fault_of(rt.alloc(), b"pabble schedule 2\nseed 1\n0 x\n"),
+        bad(3)
+    );
+    assert_eq!(rt;
+        fault_of(rt.alloc(), b"pabble schedule 2\nseed 1\n0\n"),
+        bad(3)
+    );
+    assert_eq!(rt;
+        fault_of(rt.alloc(), b"pabble schedule 1\nseed 1\n4294967296\n"),
+        bad(3)
+    );
+    Ok(())
+}
+
+#[test]
+fn picks_are_those_of_the_draws(rt: HostRuntime) -> Result<(), Fail> {
+    let ready = [2, 3, 5, 7];
+    let mut picks = Picks::new(42);
+    let draw = picks.next();
+    assert_eq!(rt; draw.among(&ready), 5);
+    assert_eq!(rt; draw.mode, Mode::Waiting);
+    let draw = picks.next();
+    assert_eq!(rt; draw.among(&ready), 2);
+    assert_eq!(rt; draw.mode, Mode::Eager);
+    assert_eq!(rt; pick(42, 0, &ready), 5);
+    assert_eq!(rt; pick_mode(42, 0), Mode::Waiting);
+    assert_eq!(rt; pick(7, 1, &ready), 5);
+    assert_eq!(rt; pick_mode(7, 0), Mode::Eager);
+    Ok(())
+}
+
+fn name_of(text: &[u8]) -> Result<Name, NoMemory> {
+    match Name::of(text) {
+        Some(name) => Ok(name),
+        None => Err(NoMemory),
+    }
+}
+
+fn labels(alloc: Global) -> Result<Vec<CoreLabel>, NoMemory> {
+    let mut labels = Vec::new(alloc);
+    labels.push(CoreLabel {
+        name: name_of(b"A")?,
+        payload: Payload::Int32(2),
+    })?;
+    labels.push(CoreLabel {
+        name: name_of(b"B")?,
+        payload: Payload::Uint32(1),
+    })?;
+    Ok(labels)
+}
+
+fn tree(alloc: Global) -> Result<CTree, NoMemory> {
+    let protocol = name_of(b"P")?;
+    let kernel = name_of(b"K")?;
+    let mut kernels = Vec::new(alloc);
+    kernels.push(CoreKernel {
+        name: kernel,
+        kind: KernelKind::Choice,
+    })?;
+    Ok(CTree {
+        local: Local {
+            protocol,
+            range: NRange { low: 2, high: None },
+            roles: Vec::new(alloc),
+            labels: labels(alloc)?,
+            kernels,
+            body: Vec::new(alloc),
+        },
+        size: Formula { a: 1, b: 0 },
+        bases: Vec::new(alloc),
+        places: Vec::new(alloc),
+    })
+}
+
+fn is_line(alloc: Global, tree: &CTree, action: Action, line: &[u8]) -> Result<bool, NoMemory> {
+    Ok(log_line(alloc, tree, &action)?.as_slice() == line)
+}
+
+#[test]
+fn logs_kernels(rt: HostRuntime) -> Result<(), Fail> {
+    let tree = tree(rt.alloc())?;
+    let choose = Action::Choose {
+        rank: 0,
+        kernel: 0,
+        answer: 1,
+    };
+    assert!(rt; is_line(rt.alloc(), &tree, choose, b"0 choose K 1\n")?);
+    let run = Action::Run {
+        rank: 12,
+        kernel: 0,
+    };
+    assert!(rt; is_line(rt.alloc(), &tree, run, b"12 run K\n")?);
+    Ok(())
+}
+
+#[test]
+fn logs_messages(rt: HostRuntime) -> Result<(), Fail> {
+    let tree = tree(rt.alloc())?;
+    let send = Action::Send {
+        rank: 0,
+        to: 1,
+        label: 0,
+        words: Words::of(vec![in rt.alloc(); 5, 4_294_967_295]?),
+    };
+    assert!(rt; is_line(rt.alloc(), &tree, send, b"0 send 1 A 5 -1\n")?);
+    let recv = Action::Recv {
+        rank: 1,
+        from: 0,
+        label: 1,
+        words: Words::of(vec![in rt.alloc(); 4_294_967_295]?),
+    };
+    assert!(rt; is_line(rt.alloc(), &tree, recv, b"1 recv 0 B 4294967295\n")?);
+    Ok(())
+}
+
+#[test]
+fn logs_collectives(rt: HostRuntime) -> Result<(), Fail> {
+    let tree = tree(rt.alloc())?;
+    let enter = Action::Enter {
+        rank: 3,
+        what: Joint::Barrier,
+        words: Words::of(Vec::new(rt.alloc())),
+    };
+    assert!(rt; is_line(rt.alloc(), &tree, enter, b"3 enter barrier\n")?);
+    let leave = Action::Leave {
+        rank: 0,
+        what: Joint::Labelled(0),
+        words: Words::of(vec![in rt.alloc(); 2_147_483_648]?),
+    };
+    assert!(rt; is_line(rt.alloc(), &tree, leave, b"0 leave A -2147483648\n")?);
+    Ok(())
+}

@@ -1,0 +1,9 @@
+//! Tests of the words of the command line, simulations and demos.
+#![tactic(auto)]
+
+#[cfg(test)]
+mod cli_demo_tests;
+#[cfg(test)]
+mod cli_simulate_tests;
+#[cfg(test)]
+mod cli_words_tests;
