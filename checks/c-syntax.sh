@@ -55,7 +55,7 @@ compile() {
 }
 
 # The text of the reader's tests, which has every statement, stands there as a list of lines.
-texts=crates/pb_test_texts/src/tests.rt
+texts=crates/pb_test_texts/src/statement_tests.rt
 sed -n 's/^    b"\(.*\)\\n",$/\1/p' "$top/$texts" | sed 's/\\"/"/g' >"$work/text.c"
 compile "$texts"
 

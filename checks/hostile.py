@@ -22,7 +22,7 @@ SEEDS = Path(__file__).resolve().parent / "hostile-seeds.txt"
 SECONDS, MEBIBYTES, PROCESSES, SHOWN = 10, 1024, 4, 6
 # the largest files that are made: a protocol file and a kernel file may have no more, the others would take long
 BYTES = 1_048_576
-DONE, REFUSED, LIMIT, NO_MEMORY, KERNEL, TEXT, SCHEDULE, STUCK, TURNS, OUTSIDE, LOOP, DEPARTS, MALFORMED = 0, 1, 5, 6, 7, 8, 9, 10, 11, 12, 16, 17, 18
+DONE, REFUSED, LIMIT, NO_MEMORY, KERNEL, TEXT, SCHEDULE, STUCK, TURNS, OUTSIDE, CALL, LOOP, DEPARTS, MALFORMED = 0, 1, 5, 6, 7, 8, 9, 10, 11, 12, 14, 16, 17, 18
 PLACE = r"\d+:\d+"
 LINES = {
     REFUSED: rf"pabble: (syntax at {PLACE}|rule \d+ at {PLACE}(, N = \d+(, \w+\[-?\d+\])?)?)",
@@ -33,11 +33,12 @@ LINES = {
     STUCK: r"pabble: stuck, rank \d+ .+",
     TURNS: r"pabble: turns \d+",
     OUTSIDE: r"pabble: N = \d+ outside \d+\.\.(\d+|max)",
+    CALL: rf"pabble: call (twice|unknown|arity|stranger|cycle) at {PLACE}",
     LOOP: rf"pabble: cost loop at {PLACE}",
     DEPARTS: r"pabble: log line \d+, rank \d+ (differs|goes beyond)",
     MALFORMED: r"pabble: log line \d+ is malformed",
 }
-OF_FILE = {"check", "project", "gen", "cost", "judge"}
+OF_FILE = {"check", "project", "gen", "expand", "cost", "judge"}
 STATUSES = {
     "check": {DONE, REFUSED, LIMIT},
     "project": {DONE, REFUSED, LIMIT},
@@ -45,6 +46,7 @@ STATUSES = {
     "run": {DONE, REFUSED, LIMIT, TURNS, OUTSIDE},
     "sim": {DONE, LIMIT, TEXT, STUCK, TURNS, OUTSIDE},
     "replay": {DONE, LIMIT, TEXT, SCHEDULE, STUCK, TURNS, OUTSIDE},
+    "expand": {DONE, REFUSED, LIMIT, CALL},
     "cost": {DONE, REFUSED, LIMIT, LOOP},
     "judge": {DONE, REFUSED, LIMIT, OUTSIDE, DEPARTS, MALFORMED},
 }
@@ -58,6 +60,7 @@ class Corpus:
 
     def __init__(self):
         self.protocols = [it.read_bytes() for it in sorted(TOP.glob("examples/**/*.pbl"))]
+        self.calls = [it.read_bytes() for it in sorted(TOP.glob("examples/*/*.calls"))]
         self.kernels = [it.read_bytes() for it in sorted(TOP.glob("examples/*/*.kernels"))]
         self.texts, self.schedules, self.logs, self.runs = [], [], [], []
         for path in sorted(TOP.glob("examples/**/*.pbl")):
@@ -143,8 +146,11 @@ def judged(rng, corpus):
 
 
 def made(seed, corpus):
-    """The files of a case, by their names, and its words. Seeds that end with 8 are of `cost`, and those with 9 of `judge`."""
+    """The files of a case, by their names, and its words. Seeds that end with 7 are of `expand`, those with 8
+    of `cost`, and those with 9 of `judge`."""
     rng = random.Random(f"hostile {seed}")
+    if seed.endswith("7"):
+        return {"p": hostile(rng, rng.choice(corpus.calls), corpus)}, ["expand", "p"]
     if seed.endswith("8"):
         protocol = rng.choice(corpus.protocols) if rng.random() < 0.5 else File(rng).text().encode()
         return {"p": protocol if rng.random() < 0.5 else hostile(rng, protocol, corpus)}, ["cost", "p"]

@@ -89,6 +89,9 @@ def of_protocols(room):
             room.asks(LIMIT, line, command, past)
         room.asks(LIMIT, line, "gen", past, kernels)
         room.asks(LIMIT, line, "run", past, "--n", "2")
+        room.asks(0, None, "expand", most)
+        if "breakpoints" not in line:
+            room.asks(LIMIT, line, "expand", past)
         room.asks(LIMIT, line, "cost", past)
         room.asks(LIMIT, line, "judge", past, past, "--n", "2")
         if n:

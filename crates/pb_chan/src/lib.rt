@@ -4,8 +4,6 @@
 mod channels;
 mod message;
 mod queues;
-#[cfg(test)]
-mod tests;
 
 pub use channels::Channels;
 pub use message::Message;

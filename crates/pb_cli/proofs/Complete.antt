@@ -7,7 +7,7 @@ use Rattle.pb_core_language.specs.Plain.{Protocol}
 use Rattle.pb_local.specs.Tree.{Program, program_of}
 use Rattle.pb_local.specs.Ranks.{total}
 use Rattle.pb_ctree.specs.declared.tree.CTree.{CTree}
-use Rattle.pb_cli_words.specs.Request.{Request, check, gen, gen_with, project, sim, replay, run, demo, cost, judge}
+use Rattle.pb_cli_words.specs.Request.{Request, check, gen, gen_with, project, sim, replay, run, demo, expand, cost, judge}
 use Rattle.pb_cli_words.specs.declared.options.Options.{Options}
 use Rattle.pb_cli_words.specs.declared.options.Shown.{Shown}
 use Rattle.pb_cli_words.specs.declared.options.Shown.TheVariants.{Log}
@@ -37,6 +37,12 @@ use Rattle.pb_kernels.specs.Files.{kernel_file}
 use Rattle.pb_cli_file.specs.Files.{IsFileReply, IsMeaningOf, Makes, MayRun, OrUnread, SaysOf, most_bytes}
 use Rattle.pb_cli_file.specs.Kernels.{HasEach, IsKernelsReply, IsMergeReply, functions_in}
 use Rattle.pb_cli_demo.specs.Demo as D
+use Rattle.pb_syntax.specs.Tree.{PlainFile}
+use Rattle.pb_do_syntax.specs.Calls.{PlainCallFile}
+use Rattle.pb_do_syntax.specs.Inlining.{IsInlined}
+use Rattle.pb_do_faults.specs.Found.{HasNoFault}
+use Rattle.pb_cli_expand.specs.Expand.{IsCallTree, IsExpandReply}
+use Rattle.pb_cli_expand.proofs.Complete.{expand_comes}
 use Rattle.pb_cli_cost.specs.Cost.{HasCost, IsCostAnswer, IsCostReply}
 use Rattle.pb_cli_cost.proofs.Complete.{cost_comes}
 use Rattle.pb_cli_judge.specs.Judge.{IsJudgeAnswer, IsJudgeReply, IsKeptLog}
@@ -361,15 +367,40 @@ module _ (post : ℕ → ℕ → ℕ → Type 0) (count : ℕ) where
     said demo_statuses status result text old new (demo_comes status text reply) says,
   )
 
+-- ---- done, unless memory is wanting or the file couldn't be read
+
+done_only : (status : Status) → (status ≡ S.Done) ⊎ (status ≡ S.NoMemory) → Comes (S.Done ∷ []) status
+done_only status (inl e) = subst (Comes (S.Done ∷ [])) (sym e) (first S.Done [])
+done_only status (inr e) = subst (Comes (S.Done ∷ [])) (sym e) (no_memory (S.Done ∷ []))
+
+done_or_unread : (status : Status) → (status ≡ S.Done) ⊎ ((status ≡ S.NoMemory) ⊎ (status ≡ S.ReadFault)) → Comes (S.Done ∷ []) status
+done_or_unread status (inl e) = done_only status (inl e)
+done_or_unread status (inr (inl e)) = done_only status (inr e)
+done_or_unread status (inr (inr e)) = subst (Comes (S.Done ∷ [])) (sym e) (read_fault (S.Done ∷ []))
+
+-- ---- files with subprotocols
+
+expand_not : (name : List ℕ) (holds : Option (List File)) (status : Status) (text : List ℕ) → IsExpandReply name holds status text → NotUsage status
+expand_not name holds S.Usage text reply = absurd reply
+expand_not name holds other text reply = tt
+
+module _ (name : List ℕ) where
+  expand_done : (files : List File) (calls : PlainCallFile) (file : PlainFile) → length (content_of files name) ≤ most_bytes → IsCallTree (content_of files name) calls → HasNoFault calls → IsInlined calls file
+      → (status : Status) (text : List ℕ) → IsExpandReply name (Some files) status text → Comes (S.Done ∷ []) status
+  expand_done files calls file short read sound is status text reply = done_or_unread status (expand_comes name files calls file short read sound is status text reply)
+
+  expand_complete : (result : Status) (old new : Option (List ℕ)) (holds : Option (List File)) → SaysOf (IsExpandReply name holds) result old new → (result ≢ S.Usage) × Completes (expand name) holds result
+  expand_complete result old new None (status, text, reply, says) = (said_not status result text old new (expand_not name None status text reply) says, tt)
+  expand_complete result old new (Some files) (status, text, reply, says) = (
+    said_not status result text old new (expand_not name (Some files) status text reply) says,
+    λ calls file short read sound is. said (S.Done ∷ []) status result text old new (expand_done files calls file short read sound is status text reply) says,
+  )
+
 -- ---- costs
 
 cost_answer_not : (p : Protocol) (status : Status) (text : List ℕ) → IsCostAnswer p status text → NotUsage status
 cost_answer_not p S.Usage text is = absurd is
 cost_answer_not p other text is = tt
-
-done_only : (status : Status) → (status ≡ S.Done) ⊎ (status ≡ S.NoMemory) → Comes (S.Done ∷ []) status
-done_only status (inl e) = subst (Comes (S.Done ∷ [])) (sym e) (first S.Done [])
-done_only status (inr e) = subst (Comes (S.Done ∷ [])) (sym e) (no_memory (S.Done ∷ []))
 
 -- the meaning of the file is that protocol
 meant : (name : List ℕ) (files : List File) (p q : Protocol) → IsAcceptedAs (content_of files name) p → IsMeaningOf name (Some files) q → p ≡ q
@@ -398,11 +429,6 @@ judge_answer_not : (unread : List ℕ → Type 0) (p : Protocol) (n : ℕ) (log 
     → IsJudgeAnswer unread p n log holds status text → NotUsage status
 judge_answer_not unread p n log holds S.Usage text is = absurd is
 judge_answer_not unread p n log holds other text is = tt
-
-done_or_unread : (status : Status) → (status ≡ S.Done) ⊎ ((status ≡ S.NoMemory) ⊎ (status ≡ S.ReadFault)) → Comes (S.Done ∷ []) status
-done_or_unread status (inl e) = done_only status (inl e)
-done_or_unread status (inr (inl e)) = done_only status (inr e)
-done_or_unread status (inr (inr e)) = subst (Comes (S.Done ∷ [])) (sym e) (read_fault (S.Done ∷ []))
 
 module _ (unread : List ℕ → Type 0) (name log : List ℕ) (n : ℕ) where
   judge_not : (holds : Option (List File)) (status : Status) (text : List ℕ) → IsJudgeReply unread name log n holds status text → NotUsage status
@@ -449,5 +475,6 @@ complete post unread (Some (sim name options)) holds result old new said = sim_c
 complete post unread (Some (replay name schedule n)) holds result old new said = replay_complete post unread name schedule n result old new holds said
 complete post unread (Some (run name options)) holds result old new said = run_complete post unread name options holds result old new said
 complete post unread (Some (demo count)) holds result old new said = demo_complete (post count) count holds result old new said
+complete post unread (Some (expand name)) holds result old new said = expand_complete name result old new holds (plainly (unread name) (IsExpandReply name holds) result old new said)
 complete post unread (Some (cost name)) holds result old new said = cost_complete unread name result old new holds said
 complete post unread (Some (judge name log n)) holds result old new said = judge_complete unread name log n result old new holds said

@@ -6,7 +6,7 @@ use Rattle.pb_text.specs.declared.limits.TheConstants.{MOST_TEXT_BYTES}
 use Rattle.pb_io.specs.Files.{File}
 use Rattle.pb_core_language.specs.Plain.{Protocol}
 use Rattle.pb_ctree.specs.declared.tree.CTree.{CTree}
-use Rattle.pb_cli_words.specs.Request.{Request, check, gen, gen_with, project, sim, replay, run, demo, cost, judge}
+use Rattle.pb_cli_words.specs.Request.{Request, check, gen, gen_with, project, sim, replay, run, demo, expand, cost, judge}
 use Rattle.pb_cli_status.specs.declared.status.Status.{Status}
 use Rattle.pb_cli_status.specs.declared.status.Status.TheVariants as S
 use Rattle.pb_compile.specs.Verdict.{IsAcceptedAs}
@@ -16,6 +16,11 @@ use Rattle.pb_cli_simulate.specs.Sources.{IsTextOf}
 use Rattle.pb_cli_simulate.specs.Replies.{Starts}
 use Rattle.pb_kernels.specs.declared.file.NamedBody.{NamedBody}
 use Rattle.pb_kernels.specs.Files.{kernel_file}
+use Rattle.pb_syntax.specs.Tree.{PlainFile}
+use Rattle.pb_do_syntax.specs.Calls.{PlainCallFile}
+use Rattle.pb_do_syntax.specs.Inlining.{IsInlined}
+use Rattle.pb_do_faults.specs.Found.{HasNoFault}
+use Rattle.pb_cli_expand.specs.Expand.{IsCallTree}
 use Rattle.pb_cli_cost.specs.Cost.{HasCost}
 use Rattle.pb_cli_judge.specs.Judge.{IsKeptLog}
 use Rattle.pb_cli_file.specs.Files.{MayRun, OnFile, most_bytes}
@@ -42,6 +47,11 @@ abbrev pub OnKernels : List ℕ → Protocol → Option (List File) → Type 0 �
 OnKernels name p holds P =
     OnFile name holds (λ bytes. (file : List NamedBody) → length bytes ≤ most_bytes → kernel_file bytes ≡ Ok file → HasEach (functions_in p) file → P)
 
+-- that it is a file with subprotocols whose calls can be replaced
+abbrev pub OnExpandable : List ℕ → Option (List File) → Type 0 → Type 0
+OnExpandable name holds P =
+    OnFile name holds (λ bytes. (calls : PlainCallFile) (file : PlainFile) → length bytes ≤ most_bytes → IsCallTree bytes calls → HasNoFault calls → IsInlined calls file → P)
+
 -- that it is a log that is whole or covered, of a protocol at N = n
 abbrev pub OnKeptLog : List ℕ → Protocol → ℕ → Option (List File) → Type 0 → Type 0
 OnKeptLog name p n holds P = OnFile name holds (λ bytes. length bytes ≤ MOST_TEXT_BYTES → IsKeptLog p n bytes → P)
@@ -54,6 +64,7 @@ Completes (gen_with name kernels) holds result = OnAccepted name holds (λ p. On
 Completes (project name) holds result = OnAccepted name holds (λ p. Comes (S.Done ∷ []) result)
 Completes (run name options) holds result = OnAccepted name holds (λ p. MayRun p options.n → Comes (S.Done ∷ S.Turns ∷ S.Limit ∷ []) result)
 Completes (demo count) holds result = Comes (S.Done ∷ S.Refused ∷ S.Limit ∷ S.Turns ∷ []) result
+Completes (expand name) holds result = OnExpandable name holds (Comes (S.Done ∷ []) result)
 Completes (cost name) holds result = OnAccepted name holds (λ p. HasCost p → Comes (S.Done ∷ []) result)
 Completes (judge name log n) holds result = OnAccepted name holds (λ p. MayRun p n → OnKeptLog log p n holds (Comes (S.Done ∷ []) result))
 Completes (sim name options) holds result = OnText name options.n holds (Comes (S.Done ∷ S.Stuck ∷ S.Turns ∷ S.Limit ∷ []) result)

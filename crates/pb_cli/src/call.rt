@@ -9,6 +9,7 @@ ghost use Rattle.pb_cli.specs.Reply.{IsSureOfForm};
 
 use pb_cli_cost::cost;
 use pb_cli_demo::demo;
+use pb_cli_expand::expand;
 use pb_cli_file::{Wanted, tell, tell_merged};
 use pb_cli_judge::judge;
 use pb_cli_run::run;
@@ -56,6 +57,13 @@ use std::alloc::Global;
 /// K, eager events and at most 1,000,000 of them. It writes how many actions of each kind were done, and the words of all sends
 /// and entries, where the run has come to its end, and else the line of the status alone. It never answers `Stuck` or `OutOfRange`.
 ///
+/// `expand FILE` writes the protocol file that a file of at most 1,048,576 bytes with subprotocols stands for, in the printed layout:
+/// each call is replaced by the statements of its subprotocol, with arguments in the place of parameters. Whether it keeps the rules
+/// isn't asked. It answers `Refused` where the bytes are no such file, and `CallFault` where a name stands twice, a call names no
+/// subprotocol, or has another number of arguments, a name stands for nothing, or subprotocols call each other in a circle: the
+/// least of these, at its first place. It answers `Limit` where the file passes a limit, or replacing makes more than 4,000
+/// statements and calls, or more than 64 open braces.
+///
 /// `cost FILE` writes how much the protocol sends at least and at most: four counts, of messages and of their words, over the
 /// sequential runs under all answers, as the fewest lines `A * N + B`, each with the numbers N that it holds for. Where the file
 /// isn't accepted it writes the line that `check` writes. It answers `CostFault` exactly where the protocol has a loop, with the
@@ -77,8 +85,8 @@ use std::alloc::Global;
 /// Where the words are in a form, the files keep the rules and the limits, and N is one of the range with at most 1,024 ranks,
 /// it answers `Done`, or want of memory, or a fault that rose; or, of a simulation, `Stuck`, `Turns` or `Limit`, and of a
 /// schedule `Schedule`. `demo`, which names no file, answers `Done`, `Refused`, `Limit` or `Turns`, or want of memory, or a write
-/// that failed. So it is of `cost` where the protocol has no loop and no count too many lines, and of `judge` where the log is
-/// whole or covered.
+/// that failed. So it is of `expand` where the file has no fault and its calls can be replaced, of `cost` where the protocol has no
+/// loop and no count too many lines, and of `judge` where the log is whole or covered.
 ///
 /// `answers` gives word number `count` of a rank, from 0, by a seed, the rank and that number.
 ///
@@ -153,6 +161,7 @@ fn perform<F: Folder, O: Sink, A: Fn(u64, u32, u64) -> u32 + Drop>(
         }
         Command::Run(file, options) => run(alloc, file, options, answers, folder, out),
         Command::Demo(count) => demo(alloc, count, answers, out),
+        Command::Expand(file) => expand(alloc, file, folder, out),
         Command::Cost(file) => cost(alloc, file, folder, out),
         Command::Judge(file, log, n) => judge(alloc, file, log, n, folder, out),
     }

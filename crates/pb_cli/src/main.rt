@@ -17,6 +17,8 @@ mod cost_tests;
 #[cfg(test)]
 mod demo_tests;
 #[cfg(test)]
+mod expand_tests;
+#[cfg(test)]
 mod judge_tests;
 #[cfg(test)]
 mod kernel_tests;

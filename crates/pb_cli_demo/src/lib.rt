@@ -8,8 +8,6 @@ mod command;
 mod protocol;
 mod run;
 mod summary;
-#[cfg(test)]
-mod tests;
 
 pub use command::demo;
 pub use pb_cli_status::Status;

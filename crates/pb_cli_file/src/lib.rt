@@ -12,9 +12,11 @@ mod saying;
 mod telling;
 mod tree;
 
-pub use answer::Wanted;
+pub use answer::{Answer, Wanted};
+pub use file::bytes_in;
 pub use meaning::core_in;
 pub use pb_cli_status::{Refusal, Status};
 pub use pb_compile::{CTree, Core};
+pub use saying::say;
 pub use telling::{tell, tell_merged};
 pub use tree::tree_in;

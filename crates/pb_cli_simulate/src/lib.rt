@@ -7,8 +7,6 @@ mod finish;
 mod simulate;
 mod sources;
 mod stuck;
-#[cfg(test)]
-mod tests;
 
 pub use commands::{replay, sim};
 pub use pb_cli_status::{Refusal, Status};

@@ -5,6 +5,8 @@ use Rattle.pb_text.specs.declared.place.Place.{Place}
 use Rattle.pb_affine.specs.declared.range.NRange.{NRange}
 use Rattle.pb_text.specs.declared.quantity.Quantity.{Quantity}
 use Rattle.pb_text.specs.declared.quantity.Quantity.TheVariants as quantity
+use Rattle.pb_cli_status.specs.declared.call.CallWrong.{CallWrong}
+use Rattle.pb_cli_status.specs.declared.call.CallWrong.TheVariants as call
 use Rattle.pb_cli_status.specs.declared.kernel.KernelKind.{KernelKind}
 use Rattle.pb_cli_status.specs.declared.kernel.KernelKind.TheVariants as kind
 use Rattle.pb_cli_status.specs.declared.kernel.KernelWrong.{KernelWrong}
@@ -33,6 +35,7 @@ status_of refusal.Ranks = status.Limit
 status_of refusal.WordsInFlight = status.Limit
 status_of (refusal.Turns turns) = status.Turns
 status_of refusal.Pieces = status.Limit
+status_of (refusal.Call wrong place) = status.CallFault
 status_of (refusal.CostLoop place) = status.CostFault
 status_of (refusal.LogDiffers line rank) = status.NotCovered
 status_of (refusal.LogBeyond line rank) = status.NotCovered
@@ -56,6 +59,14 @@ limit_words quantity.TextNesting = codes "pabble: limit text nesting"
 limit_words quantity.TextStatements = codes "pabble: limit text statements"
 limit_words quantity.Events = codes "pabble: limit events"
 limit_words quantity.Pieces = codes "pabble: limit pieces"
+
+-- what is wrong with a call of a subprotocol, or with a subprotocol
+abbrev pub call_words : CallWrong → List ℕ
+call_words call.Twice = codes "pabble: call twice"
+call_words call.Unknown = codes "pabble: call unknown"
+call_words call.Arity = codes "pabble: call arity"
+call_words call.Stranger = codes "pabble: call stranger"
+call_words call.Cycle = codes "pabble: call cycle"
 
 -- a line that tells a place: what, ` at ` and L:C
 abbrev pub line_at : List ℕ → Place → List ℕ
@@ -149,6 +160,7 @@ line_of refusal.Ranks = codes "pabble: limit ranks\n"
 line_of refusal.WordsInFlight = codes "pabble: limit words in flight\n"
 line_of (refusal.Turns turns) = number_line (codes "pabble: turns ") turns
 line_of refusal.Pieces = codes "pabble: limit pieces\n"
+line_of (refusal.Call wrong place) = line_at (call_words wrong) place
 line_of (refusal.CostLoop place) = line_at (codes "pabble: cost loop") place
 line_of (refusal.LogDiffers line rank) = ruling_line line rank (codes " differs\n")
 line_of (refusal.LogBeyond line rank) = ruling_line line rank (codes " goes beyond\n")

@@ -2,6 +2,7 @@
 #![tactic(auto)]
 
 mod broken;
+mod call;
 mod kernel;
 mod parts;
 mod refusal;
@@ -9,6 +10,7 @@ mod refusing;
 mod status;
 mod told;
 
+pub use call::CallWrong;
 pub use kernel::{KernelKind, KernelWrong};
 pub use parts::write_parts;
 pub use pb_text::{Name, Place, Quantity};

@@ -5,6 +5,7 @@ ghost use Rattle.pb_io.specs.Sinks.{AppendsFront};
 ghost use Rattle.pb_cli_status.specs.Lines.{limit_words, line_at};
 
 use crate::broken::write_broken;
+use crate::call::{CallWrong, call_words};
 use crate::kernel::{KernelKind, KernelWrong, write_kernel};
 use crate::parts::write_parts;
 use crate::status::Status;
@@ -86,6 +87,9 @@ pub enum Refusal {
     /// A count of what the protocol sends has more than 4,096 pieces.
     #[error("Pieces")]
     Pieces,
+    /// A subprotocol, or a call of one, is wrong, first at this place.
+    #[error("Call")]
+    Call(CallWrong, Place),
     /// The protocol has a loop, first at this place.
     #[error("CostLoop")]
     CostLoop(Place),
@@ -132,6 +136,7 @@ impl Refusal {
             Refusal::WordsInFlight => Status::Limit,
             Refusal::Turns(_) => Status::Turns,
             Refusal::Pieces => Status::Limit,
+            Refusal::Call(_, _) => Status::CallFault,
             Refusal::CostLoop(_) => Status::CostFault,
             Refusal::LogDiffers { .. } => Status::NotCovered,
             Refusal::LogBeyond { .. } => Status::NotCovered,
@@ -169,6 +174,7 @@ impl Refusal {
             Refusal::WordsInFlight => write_all(out, b"pabble: limit words in flight\n"),
             Refusal::Turns(turns) => write_number(out, b"pabble: turns ", *turns),
             Refusal::Pieces => write_all(out, b"pabble: limit pieces\n"),
+            Refusal::Call(wrong, place) => write_at(out, call_words(*wrong), *place),
             Refusal::CostLoop(place) => write_at(out, b"pabble: cost loop", *place),
             Refusal::LogDiffers { line, rank } => write_ruling(out, *line, *rank, b" differs\n"),
             Refusal::LogBeyond { line, rank } => write_ruling(out, *line, *rank, b" goes beyond\n"),

@@ -29,6 +29,8 @@ pub enum Status {
     Turns,
     /// 12: N is outside the protocol's range.
     OutOfRange,
+    /// 14: a call of a subprotocol, or a subprotocol, is wrong.
+    CallFault = 14,
     /// 16: the protocol has a loop, so what it sends isn't bounded.
     CostFault = 16,
     /// 17: the log isn't one of the protocol's.
@@ -40,7 +42,7 @@ pub enum Status {
 impl Status {
     ghost use Rattle.pb_cli_status.specs.Codes.{code_of};
 
-    /// The number with which the program ends: from 0 to 12, or from 16 to 18. Takes no memory.
+    /// The number with which the program ends: from 0 to 12, 14, or from 16 to 18. Takes no memory.
     pub fn code(self) -> u8
         ensures { result ≡ code_of self }
     {

@@ -33,7 +33,8 @@ pub fn refusal_of(verdict: Verdict) -> Refusal
     }
 }
 
-fn error_refusal(error: LexError) -> Refusal
+/// The refusal that tells a lexical error. Takes no memory.
+pub fn error_refusal(error: LexError) -> Refusal
     ensures { result ≡ error_refusal error }
 {
     match error {

@@ -35,6 +35,8 @@ pub enum Command<'a> {
     Run(&'a str, Options),
     /// `demo K`: a simulation of a protocol of K statements, from 1 to 4,000, that the program makes itself.
     Demo(u32),
+    /// `expand FILE`: the protocol file that a file with subprotocols stands for.
+    Expand(&'a str),
     /// `cost FILE`: how much the protocol in FILE sends at least and at most.
     Cost(&'a str),
     /// `judge FILE LOG --n A`: the ruling on the log in LOG of the protocol in FILE, with N from 0 to 2,000,000,000.
@@ -160,6 +162,8 @@ fn asked<'a>(command: &str, files: &[&'a str], given: &Given) -> Option<Command<
         run_in(files, given)
     } else if command == "demo" {
         demo_in(files, given)
+    } else if command == "expand" {
+        Some(Command::Expand(plain_file(files, given)?))
     } else if command == "cost" {
         Some(Command::Cost(plain_file(files, given)?))
     } else if command == "judge" {

@@ -8,8 +8,6 @@ mod given;
 mod number;
 mod options;
 mod reader;
-#[cfg(test)]
-mod tests;
 
 pub use command::{Command, command_in};
 pub use options::{Modes, Options, Shown};

@@ -10,6 +10,3 @@ mod rows;
 
 pub use pb_core_language::Core;
 pub use protocol::is_sound;
-
-#[cfg(test)]
-mod tests;

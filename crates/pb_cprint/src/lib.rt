@@ -18,6 +18,3 @@ pub use frame::{
 pub use pb_ctree::{Bodies, CTree};
 pub use pb_text::NoMemory;
 pub use print::print_c;
-
-#[cfg(test)]
-mod tests;

@@ -13,6 +13,3 @@ pub use fault::{CText, TextFault};
 pub use pb_ctree::{Bodies, CTree};
 pub use pb_text::Place;
 pub use read::read_c;
-
-#[cfg(test)]
-mod tests;

@@ -16,6 +16,3 @@ pub use laws::{
 pub use pb_ctree::NoMemory;
 pub use reader::FrameReader;
 pub use row::is_line;
-
-#[cfg(test)]
-mod tests;

@@ -17,6 +17,3 @@ pub use item::{Item, Side};
 pub use pb_ctree::NoMemory;
 pub use read::{ReadLine, read_line};
 pub use tables::Tables;
-
-#[cfg(test)]
-mod tests;

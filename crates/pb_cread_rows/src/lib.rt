@@ -11,6 +11,3 @@ mod sums;
 
 pub use rows::{read_kernel, read_label, read_protocol, read_range, read_role};
 pub use rules::has_size;
-
-#[cfg(test)]
-mod tests;

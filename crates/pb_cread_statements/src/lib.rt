@@ -25,6 +25,3 @@ pub use pb_ctree::{
     Base, Guard, Guards, KernelKind, Lin, Local, NoMemory, Op, Payload, Peer, Relay, Stmt, Test,
 };
 pub use reader::Reader;
-
-#[cfg(test)]
-mod tests;

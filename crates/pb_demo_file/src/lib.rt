@@ -5,8 +5,6 @@
 
 mod file;
 mod law;
-#[cfg(test)]
-mod tests;
 
 pub use file::demo_file;
 pub use law::runs_from_two;

@@ -53,6 +53,7 @@ fn page_of<F: Folder, A: Fn(u64, u32, u64) -> u32 + Drop>(
         | Status::Stuck
         | Status::Turns
         | Status::OutOfRange
+        | Status::CallFault
         | Status::CostFault
         | Status::NotCovered
         | Status::Log => {

@@ -1,6 +1,7 @@
 //! The files of each command.
 
 use crate::again::{Again, MOST_FILE_BYTES, read_again, tell_once, tell_unread};
+use crate::calls::tell_expand;
 use crate::costs::tell_cost;
 use crate::judged::{Judged, tell_judged};
 use crate::kernels::tell_merge;
@@ -47,6 +48,7 @@ fn is_warned(command: Command) -> bool {
         | Command::Sim(_, _)
         | Command::Replay(_, _, _)
         | Command::Demo(_)
+        | Command::Expand(_)
         | Command::Cost(_)
         | Command::Judge(_, _, _) => false,
     }
@@ -85,6 +87,7 @@ pub fn tell_files<F: Folder, A: Fn(u64, u32, u64) -> u32 + Drop>(
         }
         // a demo reads no file
         Command::Demo(_) => Ok(()),
+        Command::Expand(file) => tell_expand(alloc, page, folder, file, status),
         Command::Cost(file) => tell_cost(alloc, page, folder, file, status),
         Command::Judge(file, log, n) => {
             let asked = Judged { file, log, n };
@@ -129,6 +132,7 @@ pub fn tell_read_fault<F: Folder>(
         | Command::Project(file)
         | Command::Run(file, _)
         | Command::Sim(file, _)
+        | Command::Expand(file)
         | Command::Cost(file) => tell_unread(page, file),
         Command::GenWith(file, kernels) => tell_unread_of(alloc, page, folder, file, kernels),
         Command::Replay(text, schedule, _) => {

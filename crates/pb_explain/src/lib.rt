@@ -6,6 +6,7 @@
 #![tactic(auto)]
 
 mod again;
+mod calls;
 mod costs;
 mod entry;
 mod files;

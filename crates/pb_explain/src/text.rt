@@ -63,6 +63,7 @@ fn tell_simulation<A: Fn(u64, u32, u64) -> u32 + Drop>(
         | Status::Kernel
         | Status::Text
         | Status::Schedule
+        | Status::CallFault
         | Status::CostFault
         | Status::NotCovered
         | Status::Log => Ok(()),

@@ -7,6 +7,7 @@ pub enum Verb {
     Run,
     Sim,
     Replay,
+    Expand,
     Cost,
     Judge,
     Demo,
@@ -22,6 +23,7 @@ impl Verb {
             Verb::Run,
             Verb::Sim,
             Verb::Replay,
+            Verb::Expand,
             Verb::Cost,
             Verb::Judge,
             Verb::Demo,
@@ -37,6 +39,7 @@ impl Verb {
             Verb::Run => "run",
             Verb::Sim => "sim",
             Verb::Replay => "replay",
+            Verb::Expand => "expand",
             Verb::Cost => "cost",
             Verb::Judge => "judge",
             Verb::Demo => "demo",
@@ -52,6 +55,7 @@ impl Verb {
             Verb::Run => "pabble run FILE --n A [--seed B] [--turns C] [--mode M] [--schedule]",
             Verb::Sim => "pabble sim TEXT --n A [--seed B] [--turns C] [--mode M] [--schedule]",
             Verb::Replay => "pabble replay TEXT SCHEDULE --n A",
+            Verb::Expand => "pabble expand FILE",
             Verb::Cost => "pabble cost FILE",
             Verb::Judge => "pabble judge FILE LOG --n A",
             Verb::Demo => "pabble demo K",
@@ -67,6 +71,7 @@ impl Verb {
             Verb::Run => "simulates the protocol at N = A",
             Verb::Sim => "simulates a C text that `gen` wrote",
             Verb::Replay => "simulates it by a schedule that `--schedule` wrote",
+            Verb::Expand => "writes the protocol file that a file with subprotocols stands for",
             Verb::Cost => "counts the least and the most that the protocol sends, for every N",
             Verb::Judge => "says whether a log kept the protocol at N = A, and else where not",
             Verb::Demo => "makes, compiles and simulates a protocol of K statements",
@@ -76,7 +81,9 @@ impl Verb {
     /// What its words are, from the first to the last that there must be.
     pub fn files(self) -> &'static [&'static str] {
         match self {
-            Verb::Check | Verb::Project | Verb::Gen | Verb::Run | Verb::Cost => &["FILE"],
+            Verb::Check | Verb::Project | Verb::Gen | Verb::Run | Verb::Expand | Verb::Cost => {
+                &["FILE"]
+            }
             Verb::Sim => &["TEXT"],
             Verb::Replay => &["TEXT", "SCHEDULE"],
             Verb::Judge => &["FILE", "LOG"],
@@ -88,7 +95,13 @@ impl Verb {
     pub fn most(self) -> usize {
         match self {
             Verb::Gen | Verb::Replay | Verb::Judge => 2,
-            Verb::Check | Verb::Project | Verb::Run | Verb::Sim | Verb::Cost | Verb::Demo => 1,
+            Verb::Check
+            | Verb::Project
+            | Verb::Run
+            | Verb::Sim
+            | Verb::Expand
+            | Verb::Cost
+            | Verb::Demo => 1,
         }
     }
 

@@ -44,7 +44,9 @@ impl Choice {
         match verb {
             Verb::Run | Verb::Sim => true,
             Verb::Replay | Verb::Judge => self == Choice::N,
-            Verb::Check | Verb::Project | Verb::Gen | Verb::Cost | Verb::Demo => false,
+            Verb::Check | Verb::Project | Verb::Gen | Verb::Expand | Verb::Cost | Verb::Demo => {
+                false
+            }
         }
     }
 

@@ -32,6 +32,3 @@ pub use sink::Sink;
 pub use sure_folder::SureFolder;
 pub use sure_sink::SureSink;
 pub use writing::write_all;
-
-#[cfg(test)]
-mod tests;

@@ -13,8 +13,6 @@ mod marker;
 mod merging;
 mod read;
 mod reading;
-#[cfg(test)]
-mod tests;
 
 pub use fault::KernelFault;
 pub use file::{KernelFile, NamedBody};

@@ -9,8 +9,6 @@ mod lexeme;
 mod mark;
 mod number;
 mod place;
-#[cfg(test)]
-mod tests;
 mod text;
 mod word;
 

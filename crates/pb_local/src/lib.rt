@@ -21,6 +21,3 @@ pub use pieces::{push_indent, push_pieces};
 pub use small::is_same_lin;
 pub use stmt::{Peer, Relay, Stmt, Test};
 pub use tables::{Local, Role};
-
-#[cfg(test)]
-mod tests;

@@ -13,6 +13,3 @@ pub use pb_text::{Action, Joint, Words};
 pub use rank::Rank;
 pub use seats::total_of;
 pub use sizes::Sizes;
-
-#[cfg(test)]
-mod tests;

@@ -27,6 +27,3 @@ pub use verdict::parse;
 pub fn reads_back()
     ensures { ReadsBack }
 {}
-
-#[cfg(test)]
-mod tests;

@@ -15,8 +15,6 @@ mod search;
 mod single;
 mod stop;
 mod takers;
-#[cfg(test)]
-mod tests;
 mod visit;
 mod walk;
 mod whole;

@@ -11,8 +11,6 @@ mod ends;
 mod held;
 mod scan;
 mod search;
-#[cfg(test)]
-mod tests;
 mod walk;
 mod whole;
 

@@ -14,8 +14,6 @@ mod reach;
 mod segment;
 mod setting;
 mod somebody;
-#[cfg(test)]
-mod tests;
 
 pub use ends::{guard_at, peer_of};
 pub use pb_text::NoMemory;

@@ -16,8 +16,6 @@ mod picks;
 mod printing;
 mod reading;
 mod schedule;
-#[cfg(test)]
-mod tests;
 
 pub use fault::ScheduleFault;
 pub use laws::one_outcome;

@@ -7,8 +7,6 @@ mod joins;
 mod lists;
 mod results;
 mod rounds;
-#[cfg(test)]
-mod tests;
 mod window;
 
 pub use call::Call;

@@ -3,8 +3,6 @@
 
 mod place;
 mod ready;
-#[cfg(test)]
-mod tests;
 
 pub use pb_text::NoMemory;
 pub use ready::Ready;

@@ -11,8 +11,6 @@ mod number;
 mod place;
 mod quantity;
 mod spelling;
-#[cfg(test)]
-mod tests;
 mod token;
 mod words;
 

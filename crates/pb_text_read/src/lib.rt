@@ -5,8 +5,6 @@
 
 mod front;
 mod numbers;
-#[cfg(test)]
-mod tests;
 
 pub use front::strip;
 pub use numbers::number;

@@ -15,6 +15,9 @@ returns-in-Run-clause-reply g c = rw c.in-Run.is c.run.ensures.reply
 pub returns-in-Demo-clause-reply : goal.returns-in-Demo-clause-reply
 returns-in-Demo-clause-reply g c = rw c.in-Demo.is c.demo.ensures.reply
 
+pub returns-in-Expand-clause-reply : goal.returns-in-Expand-clause-reply
+returns-in-Expand-clause-reply g c = rw c.in-Expand.is c.expand.ensures.reply
+
 pub returns-in-Cost-clause-reply : goal.returns-in-Cost-clause-reply
 returns-in-Cost-clause-reply g c = rw c.in-Cost.is c.cost.ensures.reply
 

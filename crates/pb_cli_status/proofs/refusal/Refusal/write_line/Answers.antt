@@ -1,3 +1,4 @@
+use Rattle.std.proofs.Common.{sym}
 use Rattle.pb_cli_status.proofs.refusal.Refusal.write_line.Goals as goal
 
 pub returns-in-FileBytes-clause-front : goal.returns-in-FileBytes-clause-front
@@ -65,6 +66,12 @@ returns-in-Pieces-clause-whole g c = rw c.in-Pieces.is c.write_all-in-Pieces.ens
 
 pub returns-in-Pieces-clause-front : goal.returns-in-Pieces-clause-front
 returns-in-Pieces-clause-front g c = rw c.in-Pieces.is c.write_all-in-Pieces.ensures.front
+
+pub returns-in-Call-clause-whole : goal.returns-in-Call-clause-whole
+returns-in-Call-clause-whole g c = rw (c.in-Call.is, sym c.call_words.ensures) c.write_at-in-Call.ensures.whole
+
+pub returns-in-Call-clause-front : goal.returns-in-Call-clause-front
+returns-in-Call-clause-front g c = rw (c.in-Call.is, sym c.call_words.ensures) c.write_at-in-Call.ensures.front
 
 pub returns-in-CostLoop-clause-whole : goal.returns-in-CostLoop-clause-whole
 returns-in-CostLoop-clause-whole g c = rw c.in-CostLoop.is c.write_at-in-CostLoop.ensures.whole

@@ -1,0 +1,6 @@
+pub mod LawfulGrammar
+pub mod ExactParts
+pub mod ExactGrammar
+pub mod Deeper
+pub mod FuelGrammar
+pub mod Final

@@ -1,0 +1,4 @@
+pub mod Grammar
+pub mod Unexpected
+pub mod Readers
+pub mod Laws

@@ -1,0 +1,5 @@
+pub mod Deeds
+pub mod Ends
+pub mod Laws
+pub mod Machine
+pub mod Made
