@@ -12,6 +12,7 @@ mod lists;
 mod simple;
 mod verdict;
 
+pub use limits::first_passed;
 pub use pb_do_syntax::{CallBlock, CallStatement, CallTree, Sub};
 pub use pb_parse::{LexError, ParseFault};
 pub use verdict::read_calls;

@@ -338,7 +338,7 @@ fn at_most(most: u32, n: u32, quantity: Quantity) -> Result<(), Quantity>
 }
 
 /// The first limit that is passed, and how many tokens stand before the one that passes it.
-pub(crate) fn first_passed(tokens: &[Token]) -> Option<(Quantity, usize)>
+pub fn first_passed(tokens: &[Token]) -> Option<(Quantity, usize)>
     ensures { IsFirstPassed tokens.now result }
 {
     let mut counts = Counts::new();

@@ -1,0 +1,3 @@
+pub mod Shapes
+pub mod Together
+pub mod Texts

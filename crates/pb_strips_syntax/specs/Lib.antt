@@ -1,0 +1,4 @@
+pub mod Strips
+pub mod Plain
+pub mod Columns
+pub mod Flattening
