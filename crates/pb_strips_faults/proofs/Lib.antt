@@ -1,0 +1,4 @@
+pub mod Alike
+pub mod Ascending
+pub mod Counting
+pub mod Firsts

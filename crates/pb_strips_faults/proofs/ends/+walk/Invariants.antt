@@ -1,0 +1,13 @@
+use Rattle.std.proofs.Common.{◌≡◌, ◌++◌, map, drop}
+use Rattle.pb_strips_syntax.specs.Strips.{strips_of, branches_of}
+use Rattle.pb_strips_syntax.specs.Plain.{plain_block, plain_statement}
+use Rattle.pb_strips_faults.specs.Sites.{sites_in, sites_among}
+use Rattle.pb_strips_faults.proofs.ends.+walk.Given as goal
+
+abbrev pub invariant-add_ends_in-loop-statement : goal.invariant-add_ends_in-loop-statement
+invariant-add_ends_in-loop-statement l =
+    l.out.items ++ sites_in l.around (strips_of (map plain_statement (drop l.statement-index l.statement-items))) ≡ l.fn.out.items ++ sites_in l.around (plain_block l.block).list
+
+abbrev pub invariant-add_ends_among-loop-branch : goal.invariant-add_ends_among-loop-branch
+invariant-add_ends_among-loop-branch l =
+    l.out.items ++ sites_among l.around (branches_of (map plain_block (drop l.branch-index l.branches))) ≡ l.fn.out.items ++ sites_among l.around (branches_of (map plain_block l.branches))
