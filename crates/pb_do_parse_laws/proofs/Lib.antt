@@ -1,2 +1,2 @@
-mod Runs
-mod Small
+pub mod Runs
+pub mod Small

@@ -3,21 +3,19 @@ use Rattle.std.proofs.Common.{◌≡◌, ◌⊎◌, inl, inr, Option, Some, None
 use Rattle.pb_text.specs.declared.place.Place.{Place}
 use Rattle.pb_text.specs.declared.place.Spot.{Spot}
 use Rattle.pb_text.specs.declared.token.Token.{Token}
-use Rattle.pb_text.specs.declared.token.TokenKind.{TokenKind}
 use Rattle.pb_text.specs.declared.token.TokenKind.TheVariants as kind
 use Rattle.pb_text.specs.declared.token.Mark.{Mark}
 use Rattle.pb_text.specs.declared.token.Key.{Key}
 use Rattle.pb_syntax.specs.Form.{Form, done, one, many, ◌or◌, Both, ManyText, OneText}
 use Rattle.pb_syntax.specs.Form.{◌>>=◌ as ◌then◌}
 use Rattle.pb_syntax.specs.Grammar.{mark, key, name, number, reads_mark, reads_key, reads_name, reads_number, reads_count}
-use Rattle.pb_syntax.specs.Printed.{Kinds}
 use Rattle.pb_syntax.specs.Tree.{Numeral}
-use Rattle.pb_syntax.proofs.Prints.{AllOf, Prints}
 use Rattle.pb_syntax.proofs.PrintsTokens.{mark_prints, key_prints, name_prints, number_prints, count_prints_one}
 use Rattle.pb_do_parse.specs.declared.limits.Counts.{Counts}
 use Rattle.pb_do_parse.specs.declared.limits.Sort.{Sort}
 use Rattle.pb_do_parse.specs.declared.limits.Behind.TheVariants as behind
 use Rattle.pb_do_parse.specs.Limits.{sort_of, number_passed, behind_next, part_next, sort_passed, counted, counts_next, counts_from, NonePasses}
+use Rattle.pb_do_text_laws.proofs.Said.{one_kind}
 
 -- from these counts on, each text of the form within the limits leaves these counts and a value
 pub record Runs {A : Type 0} (c : Counts) (form : Form A) (post : Counts → A → Type 0) : Type 0 where
@@ -89,15 +87,6 @@ many_runs {A} {a} {keeps} {good} {all} each_one nil cons c kept = record { runs 
 
 abbrev pub next : Counts → Sort → Counts
 next c s = record (counted c s) { last = behind_next c.last s; part = part_next c.part s }
-
--- a token of this kind is read
-one_kind : {A : Type 0} (reads : Token → Option A) (bare : A → A) (show : A → Kinds → Kinds) (t : Token) (x : A) (k : TokenKind) → Prints (λ j. t.kind ≡ j) bare (λ before. before) show (one reads) (one reads)
-    → show x [] ≡ k ∷ [] → reads t ≡ Some x → t.kind ≡ k
-unfolding one
-one_kind reads bare show t x k prints e h =
-    let r = prints.prints (t ∷ []) x h in
-    let all : AllOf (λ j. t.kind ≡ j) (k ∷ []) = subst (AllOf (λ j. t.kind ≡ j)) (sym (r.shown []) ∙ e) (r.fine (refl, tt)) in
-    all.0
 
 one_runs : {A : Type 0} {c : Counts} (reads : Token → Option A) (sort : A → Sort) → ((t : Token) (x : A) → reads t ≡ Some x → sort_of t.kind ≡ sort x)
     → Runs c (one reads) (λ d x. (d ≡ next c (sort x)) × (sort_passed c (sort x) ≡ None))

@@ -34,14 +34,14 @@ use Rattle.pb_do_parse_laws.proofs.Runs.{Runs, Leaves, none_both, after, joined,
 
 -- ---- tests of limits
 
-under : (most n : ℕ) (q : Quantity) → above most n q ≡ None → n ≤ most
+pub under : (most n : ℕ) (q : Quantity) → above most n q ≡ None → n ≤ most
 under most n q e = at (nat_lt most n) refl e
   where
     at : (b : Bool) → nat_lt most n ≡ b → (if b then Some q else None) ≡ None → n ≤ most
     at true h f = absurd (grind arith)
     at false h f = grind (arith, nat_tests)
 
-room : (most n : ℕ) (q : Quantity) → full most n q ≡ None → n < most
+pub room : (most n : ℕ) (q : Quantity) → full most n q ≡ None → n < most
 room most n q e = at (nat_le most n) refl e
   where
     at : (b : Bool) → nat_le most n ≡ b → (if b then Some q else None) ≡ None → n < most
@@ -49,7 +49,7 @@ room most n q e = at (nat_le most n) refl e
     at false h f = grind (arith, nat_tests)
 
 -- behind the constant
-abbrev IsBody : Part → Type 0
+abbrev pub IsBody : Part → Type 0
 IsBody part.Constant = ⊥
 IsBody part.Subprotocols = Unit {0}
 IsBody part.Protocol = Unit {0}
@@ -66,10 +66,10 @@ same_part part.Protocol body = refl
 
 -- ---- parts of statements
 
-abbrev at : Behind → Counts → Counts
+abbrev pub at : Behind → Counts → Counts
 at l c = record c { last = l }
 
-moved : {A : Type 0} {form : Form A} {post : Counts → A → Type 0} {c d : Counts} → c ≡ d → Runs d form post → Runs c form post
+pub moved : {A : Type 0} {form : Form A} {post : Counts → A → Type 0} {c d : Counts} → c ≡ d → Runs d form post → Runs c form post
 moved {form = form} {post = post} e r = subst (λ (b : Counts). Runs b form post) (sym e) r
 
 minus_size : (n : ℕ) → size (pos 0 -ℤ pos n) ≡ n
@@ -83,7 +83,7 @@ module _ (c : Counts) (body : IsBody c.part) where
       or_runs (mark_runs marks.Minus >>= λ p u. number_runs >>= λ n e. done_runs _ (refl, subst (λ (k : ℕ). k ≤ 100000) (sym (minus_size n.value)) (under 100000 n.value quantity.Constant e)))
       or_runs done_runs _ (refl, omega arith)
 
-  lin_runs : Runs (at behind.Other c) lin (Leaves (at behind.Other c) IsSmallLin)
+  pub lin_runs : Runs (at behind.Other c) lin (Leaves (at behind.Other c) IsSmallLin)
   lin_runs =
       (number_runs >>= λ n e. done_runs _ (refl, under 100000 n.value quantity.Constant e))
       or_runs (name_runs >>= λ s u. offset_runs >>= λ z small. done_runs _ (refl, small))
@@ -93,10 +93,10 @@ module _ (c : Counts) (body : IsBody c.part) where
       (number_runs >>= λ n e. done_runs _ (refl, under_dots c.part n.value body e))
       or_runs (name_runs >>= λ s u. offset_runs >>= λ z small. done_runs _ (refl, small))
 
-  range_runs : Runs (at behind.Other c) range (Leaves (at behind.Other c) IsSmallRange)
+  pub range_runs : Runs (at behind.Other c) range (Leaves (at behind.Other c) IsSmallRange)
   range_runs = lin_runs >>= λ l e. mark_runs marks.Dots >>= λ p u. lin_behind >>= λ h f. done_runs _ (refl, (e, f))
 
-  role_range_runs : Runs (at behind.Other c) role_range (Leaves (at behind.Other c) IsSmallOver)
+  pub role_range_runs : Runs (at behind.Other c) role_range (Leaves (at behind.Other c) IsSmallOver)
   role_range_runs = (mark_runs marks.LeftBracket >>= λ p u. range_runs >>= λ r e. mark_runs marks.RightBracket >>= λ q v. done_runs _ (refl, e)) or_runs done_runs _ (refl, tt)
 
   type_runs : Runs (at behind.Other c) type (Leaves (at behind.ElementType c) (λ (make : ℕ → Payload). (n : ℕ) → n ≤ 1024 → IsSmallPayload (make n)))
@@ -113,16 +113,16 @@ module _ (c : Counts) (body : IsBody c.part) where
       (type_runs >>= λ make small. after count_leaves (λ d n h. done_runs _ (h.0, h.1, small n h.2)))
       or_runs done_runs _ (behind.Other, refl, tt)
 
-  payload_runs : Runs (at behind.Other c) payload (Leaves (at behind.Other c) IsSmallPayload)
+  pub payload_runs : Runs (at behind.Other c) payload (Leaves (at behind.Other c) IsSmallPayload)
   payload_runs = mark_runs marks.LeftParen >>= λ p u. after carried_leaves (λ d x h. moved h.1 (mark_runs marks.RightParen >>= λ q v. done_runs _ (refl, h.2)))
 
-  op_runs : Runs (at behind.Other c) op (Leaves (at behind.Other c) (λ (o : Op). Unit {0}))
+  pub op_runs : Runs (at behind.Other c) op (Leaves (at behind.Other c) (λ (o : Op). Unit {0}))
   op_runs =
       (key_runs keys.Min >>= λ p u. done_runs _ (refl, tt))
       or_runs (key_runs keys.Max >>= λ p u. done_runs _ (refl, tt))
       or_runs (key_runs keys.Sum >>= λ p u. done_runs _ (refl, tt))
 
-  plain_index_runs : Runs (at behind.Other c) plain_index (Leaves (at behind.Other c) IsSmallIndex)
+  pub plain_index_runs : Runs (at behind.Other c) plain_index (Leaves (at behind.Other c) IsSmallIndex)
   plain_index_runs = (mark_runs marks.LeftBracket >>= λ p u. lin_runs >>= λ l e. mark_runs marks.RightBracket >>= λ q v. done_runs _ (refl, e)) or_runs done_runs _ (refl, tt)
 
   plain_end_runs : Runs (at behind.Other c) plain_end (Leaves (at behind.Other c) IsSmallEnd)
@@ -138,7 +138,7 @@ module _ (c : Counts) (body : IsBody c.part) where
       (number_runs >>= λ n e. done_runs _ (refl, under 100000 n.value quantity.Constant e))
       or_runs (name_runs >>= λ s u. after_name_runs s)
 
-  any_index_runs : Runs (at behind.Other c) any_index (Leaves (at behind.Other c) IsSmallIndex)
+  pub any_index_runs : Runs (at behind.Other c) any_index (Leaves (at behind.Other c) IsSmallIndex)
   any_index_runs = (mark_runs marks.LeftBracket >>= λ p u. bracketed_runs >>= λ i e. mark_runs marks.RightBracket >>= λ q v. done_runs _ (refl, e)) or_runs done_runs _ (refl, tt)
 
   any_end_runs : Runs (at behind.Other c) any_end (Leaves (at behind.Other c) IsSmallEnd)
@@ -152,7 +152,7 @@ module _ (c : Counts) (body : IsBody c.part) where
 -- ---- statements without braces
 
 -- a statement more
-abbrev started : Counts → Counts
+abbrev pub started : Counts → Counts
 started c = record c { statements = c.statements + 1 }
 
 abbrev Leaf : Counts → Form PlainStatement → Type 0
@@ -210,14 +210,14 @@ one_further below b c d e few h g = record {
   kept = λ i less. g.kept i (omega (arith, few, less)) ∙ h.kept i less;
 }
 
-from_boundary : {A : Type 0} {form : Form A} {post : Counts → A → Type 0} (c : Counts) → c.last ≡ behind.Boundary → Runs (at behind.Boundary c) form post → Runs c form post
+pub from_boundary : {A : Type 0} {form : Form A} {post : Counts → A → Type 0} (c : Counts) → c.last ≡ behind.Boundary → Runs (at behind.Boundary c) form post → Runs c form post
 from_boundary c e r = moved (ap (λ (l : Behind). at l c) e) r
 
 -- a statement leaves what is counted so, and is small
 abbrev Small : Counts → Counts → Call → Type 0
 Small c d s = Kept c.depth c d × IsSmall s
 
-semicolon_kept : (c : Counts) → IsBody c.part → length c.branches ≡ 65 → Kept c.depth c (record (started c) { last = behind.Boundary; part = behind_semicolon c.part })
+pub semicolon_kept : (c : Counts) → IsBody c.part → length c.branches ≡ 65 → Kept c.depth c (record (started c) { last = behind.Boundary; part = behind_semicolon c.part })
 semicolon_kept c body wide = record { depth = refl; roles = refl; here = same_part c.part body; last = refl; wide = wide; kept = λ i less. refl }
 
 semicolon_runs : (c : Counts) → IsBody c.part → length c.branches ≡ 65 → (form : Form PlainStatement) → Leaf c form → Runs (at behind.Boundary c) (and_semicolon form) (λ d s. Kept c.depth c d × IsSmallPlain s)
@@ -236,16 +236,16 @@ item_runs c start =
 abbrev SmallBlock : Counts → Counts → PlainCallBlock → Type 0
 SmallBlock c d b = Kept (c.depth + 1) c d × AreSmall b.list
 
-abbrev inner : Counts → Counts
+abbrev pub inner : Counts → Counts
 inner c = record c { depth = c.depth + 1; last = behind.Boundary }
 
-start_in : (c d : Counts) → IsBody c.part → c.depth < 64 → Kept (inner c).depth (inner c) d → Start d
+pub start_in : (c d : Counts) → IsBody c.part → c.depth < 64 → Kept (inner c).depth (inner c) d → Start d
 start_in c d body few h = record { last = h.last; body = subst IsBody (sym h.here) body; wide = h.wide; few = omega (arith, few, h.depth) }
 
-left : (c d : Counts) → Kept (inner c).depth (inner c) d → Kept (c.depth + 1) c (record d { depth = d.depth - 1; last = behind.Boundary })
+pub left : (c d : Counts) → Kept (inner c).depth (inner c) d → Kept (c.depth + 1) c (record d { depth = d.depth - 1; last = behind.Boundary })
 left c d h = record { depth = omega (arith, h.depth); roles = h.roles; here = h.here; last = refl; wide = h.wide; kept = h.kept }
 
-same_depth : (c d e : Counts) → Kept (inner c).depth (inner c) d → Kept d.depth d e → Kept (inner c).depth (inner c) e
+pub same_depth : (c d e : Counts) → Kept (inner c).depth (inner c) d → Kept d.depth d e → Kept (inner c).depth (inner c) e
 same_depth c d e h g = one_further (inner c).depth d.depth (inner c) d e (omega (arith, h.depth)) h g
 
 braces_runs : (inside : Form Call) → ((d : Counts) → Start d → Runs d inside (Small d)) → (c : Counts) → IsBody c.part → length c.branches ≡ 65 → Runs (at behind.Other c) (braces inside) (SmallBlock c)
@@ -258,7 +258,7 @@ braces_runs inside each c body wide =
 
 -- ---- statements with braces
 
-of_started : (c d : Counts) → Kept (c.depth + 1) (started c) d → Kept c.depth c d
+pub of_started : (c d : Counts) → Kept (c.depth + 1) (started c) d → Kept c.depth c d
 of_started c d h = record { depth = h.depth; roles = h.roles; here = h.here; last = h.last; wide = h.wide; kept = λ i less. h.kept i (omega (arith, less)) }
 
 foreach_runs : (c : Counts) → Start c → Runs c foreach_text (Small c)
@@ -274,17 +274,17 @@ call_runs c start = from_boundary c start.last (
     (λ d xs h. moved h.0 (mark_runs marks.RightParen >>= λ r z. mark_runs marks.Semicolon >>= λ s t. done_runs _ (semicolon_kept c start.body start.wide, tt))))
 
 -- so many branches were counted at this depth
-record Branched (c : Counts) (q : ℕ) (d : Counts) : Type 0 where
-  same : Kept c.depth c d
-  counted : slice_index d.branches c.depth ≡ q
+pub record Branched (c : Counts) (q : ℕ) (d : Counts) : Type 0 where
+  pub same : Kept c.depth c d
+  pub counted : slice_index d.branches c.depth ≡ q
 
-abbrev choosing : Counts → Counts
+abbrev pub choosing : Counts → Counts
 choosing c = record c { statements = c.statements + 1; branches = slice_set c.branches c.depth 1 }
 
-abbrev offering : Counts → Counts
+abbrev pub offering : Counts → Counts
 offering d = record d { branches = slice_set d.branches d.depth (slice_index d.branches d.depth + 1) }
 
-first_branch : (c d : Counts) → Start c → Kept (c.depth + 1) (choosing c) d → Branched c 1 d
+pub first_branch : (c d : Counts) → Start c → Kept (c.depth + 1) (choosing c) d → Branched c 1 d
 first_branch c d start h = record {
   same = record {
     depth = h.depth;
@@ -297,7 +297,7 @@ first_branch c d start h = record {
   counted = h.kept c.depth (omega arith) ∙ get_or-set_same c.branches c.depth 1 0 (omega (arith, start.wide, start.few));
 }
 
-next_branch : (c d e : Counts) (q : ℕ) → Start c → Branched c q d → Kept (d.depth + 1) (offering d) e → Branched c (q + 1) e
+pub next_branch : (c d e : Counts) (q : ℕ) → Start c → Branched c q d → Kept (d.depth + 1) (offering d) e → Branched c (q + 1) e
 next_branch c d e q start h g =
     let v = slice_index d.branches d.depth + 1 in
     let was : slice_index d.branches d.depth ≡ q = ap (slice_index d.branches) h.same.depth ∙ h.counted in
@@ -455,7 +455,7 @@ roles_run d =
     let most : 0 + 1 + length xs ≤ 64 = h.1.0 (omega arith) in
     done_runs _ (0 + 1 + length xs, h.0, omega (arith, most), (e.1, h.1.1)))
 
-top_runs : Runs (at behind.Dots at_start) top (Leaves at_start (λ (t : Top). Unit {0}))
+pub top_runs : Runs (at behind.Dots at_start) top (Leaves at_start (λ (t : Top). Unit {0}))
 top_runs = (number_runs >>= λ n e. done_runs _ (refl, tt)) or_runs (key_runs keys.Max >>= λ p u. done_runs _ (refl, tt))
 
 subs_run : (n : ℕ) → Runs behind_constant (many (subprotocol (block n))) (λ e ss. Kept 0 behind_constant e × AreSmallSubs ss)

@@ -173,7 +173,7 @@ choice_said (suc l) place kernel who (b ∷ c ∷ bs) some is at two all =
 -- ---- a file
 
 -- what stands behind the constant
-abbrev protocol_form : Form PlainBlock → Spot → Numeral → Top → Form PlainFile
+abbrev pub protocol_form : Form PlainBlock → Spot → Numeral → Top → Form PlainFile
 protocol_form body_form constant low high = do
   global_key ← key keys.Global
   protocol_key ← key keys.Protocol

@@ -1,8 +1,8 @@
-mod Said
-mod Renamed
+pub mod Said
+pub mod Renamed
 mod Spoken
-mod Fits
-mod Built
+pub mod Fits
+pub mod Built
 mod Inlined
 mod Counted
 mod Passes

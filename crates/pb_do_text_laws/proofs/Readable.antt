@@ -24,7 +24,7 @@ use Rattle.pb_do_text_laws.proofs.Bytes.{laid_short}
 use Rattle.pb_do_text_laws.proofs.Costs.{file_costs, cost_of}
 
 -- a file that is said and fits
-readable : (f : PlainFile) → Said (plain_grammar.file (plain_grammar.block 64)) f → f.low ≤ 100000 → length f.roles ≤ 64 → AreSmallRoles f.roles → AllFit 63 f.body.list → size_in f.body.list ≤ 4000 → IsReadable f
+pub readable : (f : PlainFile) → Said (plain_grammar.file (plain_grammar.block 64)) f → f.low ≤ 100000 → length f.roles ≤ 64 → AreSmallRoles f.roles → AllFit 63 f.body.list → size_in f.body.list ≤ 4000 → IsReadable f
 readable f said small few roles fit most =
     let again = file_again IsWritten said.tokens f (64, said.text) said.written in
     let ks : Kinds = file_tokens f in

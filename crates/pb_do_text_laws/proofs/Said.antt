@@ -1,5 +1,5 @@
 -- What is said in tokens as they can be written: some tokens are a text of a form for a value.
-use Rattle.std.proofs.Common.{◌≡◌, List, [], ◌∷◌, ◌++◌, ◌⊎◌, inl, inr, Option, Some, if◌then◌else◌, refl, subst}
+use Rattle.std.proofs.Common.{◌≡◌, List, [], ◌∷◌, ◌++◌, ◌⊎◌, inl, inr, Option, Some, if◌then◌else◌, refl, sym, subst, ◌∙◌}
 use Rattle.pb_text.specs.declared.place.Place.{Place}
 use Rattle.pb_text.specs.declared.place.Spot.{Spot}
 use Rattle.pb_text.specs.declared.token.Token.{Token}
@@ -12,7 +12,8 @@ use Rattle.pb_text.specs.declared.token.Key.TheVariants as keys
 use Rattle.pb_syntax.specs.Form.{Form, done, one, many, ◌or◌, OneText, ManyText}
 use Rattle.pb_syntax.specs.Form.{◌>>=◌ as ◌then◌}
 use Rattle.pb_syntax.specs.Grammar.{mark, key, name, reads_mark, reads_key, reads_name, mapped, word_in}
-use Rattle.pb_syntax.proofs.Prints.{AllOf, kinds_of}
+use Rattle.pb_syntax.specs.Printed.{Kinds}
+use Rattle.pb_syntax.proofs.Prints.{AllOf, Prints, kinds_of}
 use Rattle.pb_syntax.proofs.Relex.{IsWritten}
 
 pub record Said {A : Type 0} (form : Form A) (x : A) : Type 0 where
@@ -178,3 +179,14 @@ of_name s p = at p.tokens p.text p.written
     at [] h written = absurd h
     at (t ∷ []) h written = word_at t.kind t.place s h written.0
     at (t ∷ u ∷ ts) h written = absurd h
+
+-- ---- single tokens
+
+-- a token of this kind is read
+pub one_kind : {A : Type 0} (reads : Token → Option A) (bare : A → A) (show : A → Kinds → Kinds) (t : Token) (x : A) (k : TokenKind) → Prints (λ j. t.kind ≡ j) bare (λ before. before) show (one reads) (one reads)
+    → show x [] ≡ k ∷ [] → reads t ≡ Some x → t.kind ≡ k
+unfolding one
+one_kind reads bare show t x k prints e h =
+    let r = prints.prints (t ∷ []) x h in
+    let all : AllOf (λ j. t.kind ≡ j) (k ∷ []) = subst (AllOf (λ j. t.kind ≡ j)) (sym (r.shown []) ∙ e) (r.fine (refl, tt)) in
+    all.0

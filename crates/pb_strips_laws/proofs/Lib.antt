@@ -1,0 +1,11 @@
+mod Bodies
+mod Each
+mod Ends
+mod Lanes
+mod Loops
+mod Naming
+mod Numbering
+mod Rows
+mod Spelling
+mod Statements
+mod Whole
