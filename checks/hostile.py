@@ -22,7 +22,7 @@ SEEDS = Path(__file__).resolve().parent / "hostile-seeds.txt"
 SECONDS, MEBIBYTES, PROCESSES, SHOWN = 10, 1024, 4, 6
 # the largest files that are made: a protocol file and a kernel file may have no more, the others would take long
 BYTES = 1_048_576
-DONE, REFUSED, LIMIT, NO_MEMORY, KERNEL, TEXT, SCHEDULE, STUCK, TURNS, OUTSIDE, CALL, LOOP, DEPARTS, MALFORMED = 0, 1, 5, 6, 7, 8, 9, 10, 11, 12, 14, 16, 17, 18
+DONE, REFUSED, LIMIT, NO_MEMORY, KERNEL, TEXT, SCHEDULE, STUCK, TURNS, OUTSIDE, CALL, STRIP, LOOP, DEPARTS, MALFORMED = 0, 1, 5, 6, 7, 8, 9, 10, 11, 12, 14, 15, 16, 17, 18
 PLACE = r"\d+:\d+"
 LINES = {
     REFUSED: rf"pabble: (syntax at {PLACE}|rule \d+ at {PLACE}(, N = \d+(, \w+\[-?\d+\])?)?)",
@@ -34,11 +34,12 @@ LINES = {
     TURNS: r"pabble: turns \d+",
     OUTSIDE: r"pabble: N = \d+ outside \d+\.\.(\d+|max)",
     CALL: rf"pabble: call (twice|unknown|arity|stranger|cycle) at {PLACE}",
+    STRIP: rf"pabble: strip (width|plain|variable|column|clash) at {PLACE}",
     LOOP: rf"pabble: cost loop at {PLACE}",
     DEPARTS: r"pabble: log line \d+, rank \d+ (differs|goes beyond)",
     MALFORMED: r"pabble: log line \d+ is malformed",
 }
-OF_FILE = {"check", "project", "gen", "expand", "cost", "judge"}
+OF_FILE = {"check", "project", "gen", "expand", "strips", "cost", "judge"}
 STATUSES = {
     "check": {DONE, REFUSED, LIMIT},
     "project": {DONE, REFUSED, LIMIT},
@@ -47,6 +48,7 @@ STATUSES = {
     "sim": {DONE, LIMIT, TEXT, STUCK, TURNS, OUTSIDE},
     "replay": {DONE, LIMIT, TEXT, SCHEDULE, STUCK, TURNS, OUTSIDE},
     "expand": {DONE, REFUSED, LIMIT, CALL},
+    "strips": {DONE, REFUSED, LIMIT, STRIP},
     "cost": {DONE, REFUSED, LIMIT, LOOP},
     "judge": {DONE, REFUSED, LIMIT, OUTSIDE, DEPARTS, MALFORMED},
 }
@@ -61,6 +63,7 @@ class Corpus:
     def __init__(self):
         self.protocols = [it.read_bytes() for it in sorted(TOP.glob("examples/**/*.pbl"))]
         self.calls = [it.read_bytes() for it in sorted(TOP.glob("examples/*/*.calls"))]
+        self.strips = [it.read_bytes() for it in sorted(TOP.glob("examples/*/*.strips"))]
         self.kernels = [it.read_bytes() for it in sorted(TOP.glob("examples/*/*.kernels"))]
         self.texts, self.schedules, self.logs, self.runs = [], [], [], []
         for path in sorted(TOP.glob("examples/**/*.pbl")):
@@ -146,9 +149,11 @@ def judged(rng, corpus):
 
 
 def made(seed, corpus):
-    """The files of a case, by their names, and its words. Seeds that end with 7 are of `expand`, those with 8
-    of `cost`, and those with 9 of `judge`."""
+    """The files of a case, by their names, and its words. Seeds that end with 6 are of `strips`, those with 7
+    of `expand`, those with 8 of `cost`, and those with 9 of `judge`."""
     rng = random.Random(f"hostile {seed}")
+    if seed.endswith("6"):
+        return {"p": hostile(rng, rng.choice(corpus.strips), corpus)}, ["strips", "p"]
     if seed.endswith("7"):
         return {"p": hostile(rng, rng.choice(corpus.calls), corpus)}, ["expand", "p"]
     if seed.endswith("8"):
@@ -227,7 +232,7 @@ def main(words):
         return 0
     count, seed = (int(word) for word in (words + ["400", "1"][len(words):])[:2])
     kept = [line.split()[0] for line in SEEDS.read_text().splitlines() if line and not line.startswith("#")]
-    seeds = (kept + [f"{seed}.{number}" for number in range(count)])[: max(count, len(kept))]
+    seeds = list(dict.fromkeys(kept + [f"{seed}.{number}" for number in range(count)]))[: max(count, len(kept))]
     with tempfile.TemporaryDirectory() as folder, ThreadPoolExecutor(PROCESSES) as pool:
         rows = list(zip(seeds, pool.map(lambda it: tried(it, corpus, folder), seeds)))
     failed = [f"{at}: {why}" for at, (why, *_) in rows if why]

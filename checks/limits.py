@@ -89,9 +89,10 @@ def of_protocols(room):
             room.asks(LIMIT, line, command, past)
         room.asks(LIMIT, line, "gen", past, kernels)
         room.asks(LIMIT, line, "run", past, "--n", "2")
-        room.asks(0, None, "expand", most)
-        if "breakpoints" not in line:
-            room.asks(LIMIT, line, "expand", past)
+        for command in ("expand", "strips"):
+            room.asks(0, None, command, most)
+            if "breakpoints" not in line:
+                room.asks(LIMIT, line, command, past)
         room.asks(LIMIT, line, "cost", past)
         room.asks(LIMIT, line, "judge", past, past, "--n", "2")
         if n:

@@ -1,7 +1,7 @@
 #!/usr/bin/env python3
 """Refuses each allocation of each command in turn, alone and with all behind it: `memory.py [PROGRAM]`, by default the
 one that `pabble` runs. With a number refused a run must end as without, byte for byte, or with `pabble: no memory`
-behind some first lines of what it writes else; `check`, `project`, `gen`, `expand`, `cost` and `judge` write nothing in front of it. Needs a C
+behind some first lines of what it writes else; `check`, `project`, `gen`, `expand`, `strips`, `cost` and `judge` write nothing in front of it. Needs a C
 compiler and the GNU C library. The last line is 'N passed, N failed'.
 """
 import os
@@ -18,7 +18,7 @@ EXAMPLES = TOP / "examples"
 NO_MEMORY = (6, b"pabble: no memory\n")
 SHOWN, PROCESSES, SECONDS = 5, 4, 60
 # the commands that write one line or all
-WHOLE = ("check", "project", "gen", "expand", "cost")
+WHOLE = ("check", "project", "gen", "expand", "strips", "cost")
 # a protocol that breaks rule 10, and one that ends early
 BROKEN = "const N = 4..max;\nglobal protocol P(role W[0..N-1]) {\n  choice K at W[0] {\n    A() from W[0] to W[1];\n  } or {\n  }\n}\n"
 CUT = "const N = 2..max;\nglobal protocol P(role W[0..N-1]) {\n  foreach (i:0..N-2) {\n"
@@ -62,6 +62,7 @@ def commands(program, folder):
         yield command, broken
         yield command, cut
     yield "expand", EXAMPLES / "coupled" / "coupled.calls"
+    yield "strips", EXAMPLES / "halo" / "halo.strips"
     yield "cost", EXAMPLES / "halves.pbl"
     yield "gen", ring / "ring.pbl", ring / "ring.kernels"
     yield "gen", EXAMPLES / "jacobi.pbl", ring / "ring.kernels"

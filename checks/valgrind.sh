@@ -25,7 +25,7 @@ tries() {
 
 # of_file NAME: the commands on a protocol file
 of_file() {
-    for command in check project gen expand cost; do tries "$command" "$1"; done
+    for command in check project gen expand strips cost; do tries "$command" "$1"; done
     tries run "$1" --n 3 --turns 200
 }
 

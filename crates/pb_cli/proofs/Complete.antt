@@ -7,7 +7,7 @@ use Rattle.pb_core_language.specs.Plain.{Protocol}
 use Rattle.pb_local.specs.Tree.{Program, program_of}
 use Rattle.pb_local.specs.Ranks.{total}
 use Rattle.pb_ctree.specs.declared.tree.CTree.{CTree}
-use Rattle.pb_cli_words.specs.Request.{Request, check, gen, gen_with, project, sim, replay, run, demo, expand, cost, judge}
+use Rattle.pb_cli_words.specs.Request.{Request, check, gen, gen_with, project, sim, replay, run, demo, expand, strips, cost, judge}
 use Rattle.pb_cli_words.specs.declared.options.Options.{Options}
 use Rattle.pb_cli_words.specs.declared.options.Shown.{Shown}
 use Rattle.pb_cli_words.specs.declared.options.Shown.TheVariants.{Log}
@@ -43,6 +43,11 @@ use Rattle.pb_do_syntax.specs.Inlining.{IsInlined}
 use Rattle.pb_do_faults.specs.Found.{HasNoFault}
 use Rattle.pb_cli_expand.specs.Expand.{IsCallTree, IsExpandReply}
 use Rattle.pb_cli_expand.proofs.Complete.{expand_comes}
+use Rattle.pb_strips_syntax.specs.Strips.{PlainStripFile}
+use Rattle.pb_strips_faults.specs.Found as strips_found
+use Rattle.pb_strips_flatten.specs.Excess.{excess_of}
+use Rattle.pb_cli_strips.specs.Strips.{IsStripTree, IsStripsReply}
+use Rattle.pb_cli_strips.proofs.Complete.{strips_comes}
 use Rattle.pb_cli_cost.specs.Cost.{HasCost, IsCostAnswer, IsCostReply}
 use Rattle.pb_cli_cost.proofs.Complete.{cost_comes}
 use Rattle.pb_cli_judge.specs.Judge.{IsJudgeAnswer, IsJudgeReply, IsKeptLog}
@@ -396,6 +401,24 @@ module _ (name : List ℕ) where
     λ calls file short read sound is. said (S.Done ∷ []) status result text old new (expand_done files calls file short read sound is status text reply) says,
   )
 
+-- ---- files with strips
+
+strips_not : (name : List ℕ) (holds : Option (List File)) (status : Status) (text : List ℕ) → IsStripsReply name holds status text → NotUsage status
+strips_not name holds S.Usage text reply = absurd reply
+strips_not name holds other text reply = tt
+
+module _ (name : List ℕ) where
+  strips_done : (files : List File) (f : PlainStripFile) → length (content_of files name) ≤ most_bytes → IsStripTree (content_of files name) f → strips_found.HasNoFault f → excess_of f ≡ None
+      → (status : Status) (text : List ℕ) → IsStripsReply name (Some files) status text → Comes (S.Done ∷ []) status
+  strips_done files f short read sound small status text reply = done_or_unread status (strips_comes name files f short read sound small status text reply)
+
+  strips_complete : (result : Status) (old new : Option (List ℕ)) (holds : Option (List File)) → SaysOf (IsStripsReply name holds) result old new → (result ≢ S.Usage) × Completes (strips name) holds result
+  strips_complete result old new None (status, text, reply, says) = (said_not status result text old new (strips_not name None status text reply) says, tt)
+  strips_complete result old new (Some files) (status, text, reply, says) = (
+    said_not status result text old new (strips_not name (Some files) status text reply) says,
+    λ f short read sound small. said (S.Done ∷ []) status result text old new (strips_done files f short read sound small status text reply) says,
+  )
+
 -- ---- costs
 
 cost_answer_not : (p : Protocol) (status : Status) (text : List ℕ) → IsCostAnswer p status text → NotUsage status
@@ -476,5 +499,6 @@ complete post unread (Some (replay name schedule n)) holds result old new said =
 complete post unread (Some (run name options)) holds result old new said = run_complete post unread name options holds result old new said
 complete post unread (Some (demo count)) holds result old new said = demo_complete (post count) count holds result old new said
 complete post unread (Some (expand name)) holds result old new said = expand_complete name result old new holds (plainly (unread name) (IsExpandReply name holds) result old new said)
+complete post unread (Some (strips name)) holds result old new said = strips_complete name result old new holds (plainly (unread name) (IsStripsReply name holds) result old new said)
 complete post unread (Some (cost name)) holds result old new said = cost_complete unread name result old new holds said
 complete post unread (Some (judge name log n)) holds result old new said = judge_complete unread name log n result old new holds said

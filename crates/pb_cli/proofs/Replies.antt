@@ -1,7 +1,7 @@
 -- Want of memory is a reply to all words.
 use Rattle.std.proofs.Common.{◌≡◌, ℕ, List, Option, Some, None, refl, inl}
 use Rattle.pb_io.specs.Files.{File}
-use Rattle.pb_cli_words.specs.Request.{Request, check, gen, gen_with, project, sim, replay, run, demo, expand, cost, judge}
+use Rattle.pb_cli_words.specs.Request.{Request, check, gen, gen_with, project, sim, replay, run, demo, expand, strips, cost, judge}
 use Rattle.pb_cli_status.specs.Lines.{line_of}
 use Rattle.pb_cli_status.specs.declared.refusal.Refusal.{Refusal}
 use Rattle.pb_cli_status.specs.declared.refusal.Refusal.TheVariants as refusal
@@ -30,5 +30,6 @@ no_memory post unread (Some (replay name schedule n)) holds result old new says 
 no_memory post unread (Some (run name options)) holds result old new says = inl (NoMemory, line_of refusal.NoMemory, (λ e. absurd (not_unread e), (never_done refusal.NoMemory, refl)), says)
 no_memory post unread (Some (demo count)) holds result old new says = (NoMemory, line_of refusal.NoMemory, refl, says)
 no_memory post unread (Some (expand name)) holds result old new says = (NoMemory, line_of refusal.NoMemory, (λ e. absurd (not_unread e), refl), says)
+no_memory post unread (Some (strips name)) holds result old new says = (NoMemory, line_of refusal.NoMemory, (λ e. absurd (not_unread e), refl), says)
 no_memory post unread (Some (cost name)) holds result old new says = (NoMemory, line_of refusal.NoMemory, inl (λ e. absurd (not_unread e), (never_done refusal.NoMemory, refl)), says)
 no_memory post unread (Some (judge name log n)) holds result old new says = (NoMemory, line_of refusal.NoMemory, inl (λ e. absurd (not_unread e), (never_done refusal.NoMemory, refl)), says)

@@ -6,7 +6,7 @@ use Rattle.pb_text.specs.declared.limits.TheConstants.{MOST_TEXT_BYTES}
 use Rattle.pb_io.specs.Files.{File}
 use Rattle.pb_core_language.specs.Plain.{Protocol}
 use Rattle.pb_ctree.specs.declared.tree.CTree.{CTree}
-use Rattle.pb_cli_words.specs.Request.{Request, check, gen, gen_with, project, sim, replay, run, demo, expand, cost, judge}
+use Rattle.pb_cli_words.specs.Request.{Request, check, gen, gen_with, project, sim, replay, run, demo, expand, strips, cost, judge}
 use Rattle.pb_cli_status.specs.declared.status.Status.{Status}
 use Rattle.pb_cli_status.specs.declared.status.Status.TheVariants as S
 use Rattle.pb_compile.specs.Verdict.{IsAcceptedAs}
@@ -21,6 +21,10 @@ use Rattle.pb_do_syntax.specs.Calls.{PlainCallFile}
 use Rattle.pb_do_syntax.specs.Inlining.{IsInlined}
 use Rattle.pb_do_faults.specs.Found.{HasNoFault}
 use Rattle.pb_cli_expand.specs.Expand.{IsCallTree}
+use Rattle.pb_strips_syntax.specs.Strips.{PlainStripFile}
+use Rattle.pb_strips_faults.specs.Found as strips_found
+use Rattle.pb_strips_flatten.specs.Excess.{excess_of}
+use Rattle.pb_cli_strips.specs.Strips.{IsStripTree}
 use Rattle.pb_cli_cost.specs.Cost.{HasCost}
 use Rattle.pb_cli_judge.specs.Judge.{IsKeptLog}
 use Rattle.pb_cli_file.specs.Files.{MayRun, OnFile, most_bytes}
@@ -52,6 +56,11 @@ abbrev pub OnExpandable : List ℕ → Option (List File) → Type 0 → Type 0
 OnExpandable name holds P =
     OnFile name holds (λ bytes. (calls : PlainCallFile) (file : PlainFile) → length bytes ≤ most_bytes → IsCallTree bytes calls → HasNoFault calls → IsInlined calls file → P)
 
+-- that it is a file with strips that stands for a protocol file within the limits
+abbrev pub OnStrips : List ℕ → Option (List File) → Type 0 → Type 0
+OnStrips name holds P =
+    OnFile name holds (λ bytes. (f : PlainStripFile) → length bytes ≤ most_bytes → IsStripTree bytes f → strips_found.HasNoFault f → excess_of f ≡ None → P)
+
 -- that it is a log that is whole or covered, of a protocol at N = n
 abbrev pub OnKeptLog : List ℕ → Protocol → ℕ → Option (List File) → Type 0 → Type 0
 OnKeptLog name p n holds P = OnFile name holds (λ bytes. length bytes ≤ MOST_TEXT_BYTES → IsKeptLog p n bytes → P)
@@ -65,6 +74,7 @@ Completes (project name) holds result = OnAccepted name holds (λ p. Comes (S.Do
 Completes (run name options) holds result = OnAccepted name holds (λ p. MayRun p options.n → Comes (S.Done ∷ S.Turns ∷ S.Limit ∷ []) result)
 Completes (demo count) holds result = Comes (S.Done ∷ S.Refused ∷ S.Limit ∷ S.Turns ∷ []) result
 Completes (expand name) holds result = OnExpandable name holds (Comes (S.Done ∷ []) result)
+Completes (strips name) holds result = OnStrips name holds (Comes (S.Done ∷ []) result)
 Completes (cost name) holds result = OnAccepted name holds (λ p. HasCost p → Comes (S.Done ∷ []) result)
 Completes (judge name log n) holds result = OnAccepted name holds (λ p. MayRun p n → OnKeptLog log p n holds (Comes (S.Done ∷ []) result))
 Completes (sim name options) holds result = OnText name options.n holds (Comes (S.Done ∷ S.Stuck ∷ S.Turns ∷ S.Limit ∷ []) result)

@@ -1,11 +1,12 @@
 -- What the program answers to the words after its name.
 use Rattle.std.specs.Prelude.{ℕ, Bool, List, Option, Some, None}
 use Rattle.pb_io.specs.Files.{File, IsSureOf}
-use Rattle.pb_cli_words.specs.Request.{Request, check, gen, gen_with, project, sim, replay, run, demo, expand, cost, judge}
+use Rattle.pb_cli_words.specs.Request.{Request, check, gen, gen_with, project, sim, replay, run, demo, expand, strips, cost, judge}
 use Rattle.pb_cli_simulate.specs.Commands.{SaysSim, SaysReplay}
 use Rattle.pb_cli_status.specs.declared.status.Status.{Status}
 use Rattle.pb_cli_demo.specs.Demo.{SaysDemo}
 use Rattle.pb_cli_expand.specs.Expand.{IsExpandReply}
+use Rattle.pb_cli_strips.specs.Strips.{IsStripsReply}
 use Rattle.pb_cli_cost.specs.Cost.{IsCostReply}
 use Rattle.pb_cli_judge.specs.Judge.{IsJudgedFile, IsJudgeReply}
 use Rattle.pb_cli_file.specs.declared.answer.Wanted.TheVariants as W
@@ -28,6 +29,7 @@ SaysReply post unread (Some (replay name schedule n)) holds result old new = Say
 SaysReply post unread (Some (run name options)) holds result old new = SaysRun post unread name options holds result old new
 SaysReply post unread (Some (demo count)) holds result old new = SaysDemo (post count) count result old new
 SaysReply post unread (Some (expand name)) holds result old new = SaysOf (OrUnread (unread name) (IsExpandReply name holds)) result old new
+SaysReply post unread (Some (strips name)) holds result old new = SaysOf (OrUnread (unread name) (IsStripsReply name holds)) result old new
 SaysReply post unread (Some (cost name)) holds result old new = SaysOf (IsCostReply unread name holds) result old new
 SaysReply post unread (Some (judge name log n)) holds result old new = SaysOf (IsJudgeReply unread name log n holds) result old new
 
@@ -44,5 +46,6 @@ ReadsOn (Some (replay name schedule n)) steady holds = Unit {0}
 ReadsOn (Some (run name options)) steady holds = Unit {0}
 ReadsOn (Some (demo count)) steady holds = Unit {0}
 ReadsOn (Some (expand name)) steady holds = Unit {0}
+ReadsOn (Some (strips name)) steady holds = Unit {0}
 ReadsOn (Some (cost name)) steady holds = Unit {0}
 ReadsOn (Some (judge name log n)) steady holds = IsSureOf steady holds name → IsJudgedFile name n holds

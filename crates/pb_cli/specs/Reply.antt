@@ -1,7 +1,7 @@
 -- What the words may name, and what words in no form are answered.
 use Rattle.std.specs.Prelude.{◌≡◌, ℕ, Bool, List, Option, Some, None}
 use Rattle.pb_io.specs.Files.{File, IsSureOf}
-use Rattle.pb_cli_words.specs.Request.{Request, check, gen, gen_with, project, sim, replay, run, demo, expand, cost, judge}
+use Rattle.pb_cli_words.specs.Request.{Request, check, gen, gen_with, project, sim, replay, run, demo, expand, strips, cost, judge}
 use Rattle.pb_cli_status.specs.Lines.{line_of}
 use Rattle.pb_cli_status.specs.declared.refusal.Refusal.TheVariants as refusal
 use Rattle.pb_cli_status.specs.declared.status.Status.{Status}
@@ -25,5 +25,6 @@ IsSureOfForm (Some (replay name schedule n)) steady holds = IsSureOf steady hold
 IsSureOfForm (Some (run name options)) steady holds = IsSureOf steady holds name
 IsSureOfForm (Some (demo count)) steady holds = Unit {0}
 IsSureOfForm (Some (expand name)) steady holds = IsSureOf steady holds name
+IsSureOfForm (Some (strips name)) steady holds = IsSureOf steady holds name
 IsSureOfForm (Some (cost name)) steady holds = IsSureOf steady holds name
 IsSureOfForm (Some (judge name log n)) steady holds = IsSureOf steady holds name × IsSureOf steady holds log

@@ -15,6 +15,7 @@ use pb_cli_judge::judge;
 use pb_cli_run::run;
 use pb_cli_simulate::{replay, sim};
 use pb_cli_status::{Refusal, Status, refuse};
+use pb_cli_strips::strips;
 use pb_cli_words::{Command, NoMemory, command_in};
 use pb_io::{Folder, Sink};
 use std::alloc::Global;
@@ -64,6 +65,13 @@ use std::alloc::Global;
 /// least of these, at its first place. It answers `Limit` where the file passes a limit, or replacing makes more than 4,000
 /// statements and calls, or more than 64 open braces.
 ///
+/// `strips FILE` writes the protocol file that a file of at most 1,048,576 bytes with strips stands for, in the printed layout: each
+/// column of a strip is a role of its own, and each `columns` is its body once for each value of its variable, ascending. Whether it
+/// keeps the rules isn't asked. It answers `Refused` where the bytes are no such file, and `StripFault` where the columns of a strip
+/// don't ascend or go beyond 63, an end of a strip has no column or another has one, a column's variable isn't that of the `columns`
+/// around, a column is none of its strip's, or a name is that of a column: the least of these, at its first place. It answers
+/// `Limit` where the file passes a limit, or the one that it stands for one of names, roles or statements.
+///
 /// `cost FILE` writes how much the protocol sends at least and at most: four counts, of messages and of their words, over the
 /// sequential runs under all answers, as the fewest lines `A * N + B`, each with the numbers N that it holds for. Where the file
 /// isn't accepted it writes the line that `check` writes. It answers `CostFault` exactly where the protocol has a loop, with the
@@ -85,7 +93,8 @@ use std::alloc::Global;
 /// Where the words are in a form, the files keep the rules and the limits, and N is one of the range with at most 1,024 ranks,
 /// it answers `Done`, or want of memory, or a fault that rose; or, of a simulation, `Stuck`, `Turns` or `Limit`, and of a
 /// schedule `Schedule`. `demo`, which names no file, answers `Done`, `Refused`, `Limit` or `Turns`, or want of memory, or a write
-/// that failed. So it is of `expand` where the file has no fault and its calls can be replaced, of `cost` where the protocol has no
+/// that failed. So it is of `expand` where the file has no fault and its calls can be replaced, of `strips` where it has none and
+/// stands for a file within the limits, of `cost` where the protocol has no
 /// loop and no count too many lines, and of `judge` where the log is whole or covered.
 ///
 /// `answers` gives word number `count` of a rank, from 0, by a seed, the rank and that number.
@@ -162,6 +171,7 @@ fn perform<F: Folder, O: Sink, A: Fn(u64, u32, u64) -> u32 + Drop>(
         Command::Run(file, options) => run(alloc, file, options, answers, folder, out),
         Command::Demo(count) => demo(alloc, count, answers, out),
         Command::Expand(file) => expand(alloc, file, folder, out),
+        Command::Strips(file) => strips(alloc, file, folder, out),
         Command::Cost(file) => cost(alloc, file, folder, out),
         Command::Judge(file, log, n) => judge(alloc, file, log, n, folder, out),
     }

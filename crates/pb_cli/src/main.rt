@@ -23,6 +23,8 @@ mod judge_tests;
 #[cfg(test)]
 mod kernel_tests;
 #[cfg(test)]
+mod strips_tests;
+#[cfg(test)]
 mod tests;
 
 use call::pabble;

@@ -1,7 +1,7 @@
 -- The number with which the program ends.
 use Rattle.std.specs.Prelude.{ℕ}
 use Rattle.pb_cli_status.specs.declared.status.Status.{Status}
-use Rattle.pb_cli_status.specs.declared.status.Status.TheVariants.{Done, Refused, Usage, ReadFault, WriteFault, Limit, NoMemory, Kernel, Text, Schedule, Stuck, Turns, OutOfRange, CallFault, CostFault, NotCovered, Log}
+use Rattle.pb_cli_status.specs.declared.status.Status.TheVariants.{Done, Refused, Usage, ReadFault, WriteFault, Limit, NoMemory, Kernel, Text, Schedule, Stuck, Turns, OutOfRange, CallFault, StripFault, CostFault, NotCovered, Log}
 
 abbrev pub code_of : Status → ℕ
 code_of Done = 0
@@ -18,6 +18,7 @@ code_of Stuck = 10
 code_of Turns = 11
 code_of OutOfRange = 12
 code_of CallFault = 14
+code_of StripFault = 15
 code_of CostFault = 16
 code_of NotCovered = 17
 code_of Log = 18

@@ -15,6 +15,8 @@ use Rattle.pb_cli_status.specs.declared.refusal.Refusal.{Refusal}
 use Rattle.pb_cli_status.specs.declared.refusal.Refusal.TheVariants as refusal
 use Rattle.pb_cli_status.specs.declared.status.Status.{Status}
 use Rattle.pb_cli_status.specs.declared.status.Status.TheVariants as status
+use Rattle.pb_cli_status.specs.declared.strip.StripWrong.{StripWrong}
+use Rattle.pb_cli_status.specs.declared.strip.StripWrong.TheVariants as strip
 
 abbrev pub status_of : Refusal → Status
 status_of refusal.Usage = status.Usage
@@ -36,6 +38,7 @@ status_of refusal.WordsInFlight = status.Limit
 status_of (refusal.Turns turns) = status.Turns
 status_of refusal.Pieces = status.Limit
 status_of (refusal.Call wrong place) = status.CallFault
+status_of (refusal.Strip wrong place) = status.StripFault
 status_of (refusal.CostLoop place) = status.CostFault
 status_of (refusal.LogDiffers line rank) = status.NotCovered
 status_of (refusal.LogBeyond line rank) = status.NotCovered
@@ -67,6 +70,14 @@ call_words call.Unknown = codes "pabble: call unknown"
 call_words call.Arity = codes "pabble: call arity"
 call_words call.Stranger = codes "pabble: call stranger"
 call_words call.Cycle = codes "pabble: call cycle"
+
+-- what is wrong with a strip, with an end of one, or with a name beside one
+abbrev pub strip_words : StripWrong → List ℕ
+strip_words strip.Width = codes "pabble: strip width"
+strip_words strip.Plain = codes "pabble: strip plain"
+strip_words strip.Variable = codes "pabble: strip variable"
+strip_words strip.Column = codes "pabble: strip column"
+strip_words strip.Clash = codes "pabble: strip clash"
 
 -- a line that tells a place: what, ` at ` and L:C
 abbrev pub line_at : List ℕ → Place → List ℕ
@@ -161,6 +172,7 @@ line_of refusal.WordsInFlight = codes "pabble: limit words in flight\n"
 line_of (refusal.Turns turns) = number_line (codes "pabble: turns ") turns
 line_of refusal.Pieces = codes "pabble: limit pieces\n"
 line_of (refusal.Call wrong place) = line_at (call_words wrong) place
+line_of (refusal.Strip wrong place) = line_at (strip_words wrong) place
 line_of (refusal.CostLoop place) = line_at (codes "pabble: cost loop") place
 line_of (refusal.LogDiffers line rank) = ruling_line line rank (codes " differs\n")
 line_of (refusal.LogBeyond line rank) = ruling_line line rank (codes " goes beyond\n")

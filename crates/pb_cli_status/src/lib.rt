@@ -8,6 +8,7 @@ mod parts;
 mod refusal;
 mod refusing;
 mod status;
+mod strip;
 mod told;
 
 pub use call::CallWrong;
@@ -17,3 +18,4 @@ pub use pb_text::{Name, Place, Quantity};
 pub use refusal::Refusal;
 pub use refusing::refuse;
 pub use status::Status;
+pub use strip::StripWrong;

@@ -9,6 +9,7 @@ use crate::call::{CallWrong, call_words};
 use crate::kernel::{KernelKind, KernelWrong, write_kernel};
 use crate::parts::write_parts;
 use crate::status::Status;
+use crate::strip::{StripWrong, strip_words};
 use crate::told::{write_malformed, write_number, write_outside, write_ruling};
 use itoa::Buffer;
 use pb_affine::NRange;
@@ -90,6 +91,9 @@ pub enum Refusal {
     /// A subprotocol, or a call of one, is wrong, first at this place.
     #[error("Call")]
     Call(CallWrong, Place),
+    /// A strip, an end, or a name beside a strip is wrong, first at this place.
+    #[error("Strip")]
+    Strip(StripWrong, Place),
     /// The protocol has a loop, first at this place.
     #[error("CostLoop")]
     CostLoop(Place),
@@ -137,6 +141,7 @@ impl Refusal {
             Refusal::Turns(_) => Status::Turns,
             Refusal::Pieces => Status::Limit,
             Refusal::Call(_, _) => Status::CallFault,
+            Refusal::Strip(_, _) => Status::StripFault,
             Refusal::CostLoop(_) => Status::CostFault,
             Refusal::LogDiffers { .. } => Status::NotCovered,
             Refusal::LogBeyond { .. } => Status::NotCovered,
@@ -175,6 +180,7 @@ impl Refusal {
             Refusal::Turns(turns) => write_number(out, b"pabble: turns ", *turns),
             Refusal::Pieces => write_all(out, b"pabble: limit pieces\n"),
             Refusal::Call(wrong, place) => write_at(out, call_words(*wrong), *place),
+            Refusal::Strip(wrong, place) => write_at(out, strip_words(*wrong), *place),
             Refusal::CostLoop(place) => write_at(out, b"pabble: cost loop", *place),
             Refusal::LogDiffers { line, rank } => write_ruling(out, *line, *rank, b" differs\n"),
             Refusal::LogBeyond { line, rank } => write_ruling(out, *line, *rank, b" goes beyond\n"),

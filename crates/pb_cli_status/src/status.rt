@@ -31,18 +31,20 @@ pub enum Status {
     OutOfRange,
     /// 14: a call of a subprotocol, or a subprotocol, is wrong.
     CallFault = 14,
+    /// 15: a strip, or an end of one, is wrong.
+    StripFault,
     /// 16: the protocol has a loop, so what it sends isn't bounded.
-    CostFault = 16,
+    CostFault,
     /// 17: the log isn't one of the protocol's.
-    NotCovered = 17,
+    NotCovered,
     /// 18: the log is malformed.
-    Log = 18,
+    Log,
 }
 
 impl Status {
     ghost use Rattle.pb_cli_status.specs.Codes.{code_of};
 
-    /// The number with which the program ends: from 0 to 12, 14, or from 16 to 18. Takes no memory.
+    /// The number with which the program ends: from 0 to 12, or from 14 to 18. Takes no memory.
     pub fn code(self) -> u8
         ensures { result ≡ code_of self }
     {

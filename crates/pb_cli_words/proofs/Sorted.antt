@@ -8,7 +8,7 @@ use Rattle.pb_cli_words.specs.declared.options.Modes.{Modes}
 use Rattle.pb_cli_words.specs.declared.options.Shown.{Shown}
 use Rattle.pb_cli_words.specs.Numbers.{number_in}
 use Rattle.pb_cli_words.specs.Said.{Given, Key, N, Seed, Turns, Mode, Schedule, number_of}
-use Rattle.pb_cli_words.specs.Request.{◌>>=◌, Request, check, project, sim, run, replay, demo, expand, cost, judge, asked, at_most_one, values_of, value_of, needed, number_or, modes_or, shown_if, n_in, shown_in, options_in, only_n, one_file, two_files, plain_file, gen_in, gen_of}
+use Rattle.pb_cli_words.specs.Request.{◌>>=◌, Request, check, project, sim, run, replay, demo, expand, strips, cost, judge, asked, at_most_one, values_of, value_of, needed, number_or, modes_or, shown_if, n_in, shown_in, options_in, only_n, one_file, two_files, plain_file, gen_in, gen_of}
 use Rattle.pb_cli_words.specs.Reader.{listed, no_options}
 use Rattle.pb_cli_words.proofs.Listed.{value_n, value_seed, value_turns, value_mode, value_schedule, flag_value, plain_is, gen_is}
 use Rattle.pb_cli_words.proofs.Held.{AtMostOne, first, is_there}
@@ -28,8 +28,9 @@ asked_with command files file gens options n =
     (cond (pointwise nat_eq command (codes "run")) (one_file files >>= λ file. options >>= λ o. Some (run file o))
     (cond (pointwise nat_eq command (codes "demo")) (file >>= λ word. number_in 1 4000 word >>= λ count. Some (demo count))
     (cond (pointwise nat_eq command (codes "expand")) (file >>= λ file. Some (expand file))
+    (cond (pointwise nat_eq command (codes "strips")) (file >>= λ file. Some (strips file))
     (cond (pointwise nat_eq command (codes "cost")) (file >>= λ file. Some (cost file))
-    (cond (pointwise nat_eq command (codes "judge")) (two_files files >>= λ both. n >>= λ n. Some (judge both.0 both.1 n)) None)))))))))
+    (cond (pointwise nat_eq command (codes "judge")) (two_files files >>= λ both. n >>= λ n. Some (judge both.0 both.1 n)) None))))))))))
 
 asked_is : (command : Text) (files : List Text) (options : List Given)
     → asked command files options ≡ asked_with command files (plain_file files options) (gen_in files options) (options_in options) (only_n options)

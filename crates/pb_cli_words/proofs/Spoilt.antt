@@ -146,7 +146,8 @@ nothing_with command files =
     (both_none (is (codes "replay")) _ _ (bind_none (two_files files)) (both_none (is (codes "run")) _ _ (bind_none (one_file files))
     (both_none (is (codes "demo")) _ _ refl
     (both_none (is (codes "expand")) _ _ refl
-    (both_none (is (codes "cost")) _ _ refl (both_none (is (codes "judge")) _ _ (bind_none (two_files files)) refl)))))))))
+    (both_none (is (codes "strips")) _ _ refl
+    (both_none (is (codes "cost")) _ _ refl (both_none (is (codes "judge")) _ _ (bind_none (two_files files)) refl))))))))))
   where
     is : Text → Bool
     is name = pointwise nat_eq command name

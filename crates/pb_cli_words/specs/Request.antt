@@ -26,6 +26,7 @@ pub data Request : Type 0 where
   run : (file : List ℕ) (options : Options) → Request  -- a simulation of a protocol
   demo : (count : ℕ) → Request  -- a simulation of a protocol of so many statements that the program makes itself
   expand : (file : List ℕ) → Request  -- the protocol file of a file with subprotocols
+  strips : (file : List ℕ) → Request  -- the protocol file of a file with strips
   cost : (file : List ℕ) → Request  -- how much a protocol sends
   judge : (file log : List ℕ) (n : ℕ) → Request  -- the ruling on a log of a protocol
 
@@ -164,6 +165,7 @@ asked command files options =
     else if pointwise nat_eq command (codes "run") then run_in files options
     else if pointwise nat_eq command (codes "demo") then demo_in files options
     else if pointwise nat_eq command (codes "expand") then (plain_file files options >>= λ file. Some (expand file))
+    else if pointwise nat_eq command (codes "strips") then (plain_file files options >>= λ file. Some (strips file))
     else if pointwise nat_eq command (codes "cost") then (plain_file files options >>= λ file. Some (cost file))
     else if pointwise nat_eq command (codes "judge") then judge_in files options
     else None
@@ -192,6 +194,7 @@ request_of (C.Replay text schedule n) = replay text.now schedule.now n
 request_of (C.Run file options) = run file.now options
 request_of (C.Demo count) = demo count
 request_of (C.Expand file) = expand file.now
+request_of (C.Strips file) = strips file.now
 request_of (C.Cost file) = cost file.now
 request_of (C.Judge file log n) = judge file.now log.now n
 
@@ -214,5 +217,6 @@ AsksForFew (C.Replay text schedule n) = Unit {0}
 AsksForFew (C.Run file options) = HasFewTurns options
 AsksForFew (C.Demo count) = Unit {0}
 AsksForFew (C.Expand file) = Unit {0}
+AsksForFew (C.Strips file) = Unit {0}
 AsksForFew (C.Cost file) = Unit {0}
 AsksForFew (C.Judge file log n) = Unit {0}

@@ -37,6 +37,8 @@ pub enum Command<'a> {
     Demo(u32),
     /// `expand FILE`: the protocol file that a file with subprotocols stands for.
     Expand(&'a str),
+    /// `strips FILE`: the protocol file that a file with strips stands for.
+    Strips(&'a str),
     /// `cost FILE`: how much the protocol in FILE sends at least and at most.
     Cost(&'a str),
     /// `judge FILE LOG --n A`: the ruling on the log in LOG of the protocol in FILE, with N from 0 to 2,000,000,000.
@@ -164,6 +166,8 @@ fn asked<'a>(command: &str, files: &[&'a str], given: &Given) -> Option<Command<
         demo_in(files, given)
     } else if command == "expand" {
         Some(Command::Expand(plain_file(files, given)?))
+    } else if command == "strips" {
+        Some(Command::Strips(plain_file(files, given)?))
     } else if command == "cost" {
         Some(Command::Cost(plain_file(files, given)?))
     } else if command == "judge" {

@@ -54,6 +54,7 @@ fn page_of<F: Folder, A: Fn(u64, u32, u64) -> u32 + Drop>(
         | Status::Turns
         | Status::OutOfRange
         | Status::CallFault
+        | Status::StripFault
         | Status::CostFault
         | Status::NotCovered
         | Status::Log => {

@@ -7,6 +7,7 @@ use crate::judged::{Judged, tell_judged};
 use crate::kernels::tell_merge;
 use crate::protocol::{Ask, tell_protocol};
 use crate::schedule::{Replay, tell_replay};
+use crate::strips::tell_strips;
 use crate::text::tell_text;
 use pb_cli_status::{Quantity, Status};
 use pb_cli_words::Command;
@@ -49,6 +50,7 @@ fn is_warned(command: Command) -> bool {
         | Command::Replay(_, _, _)
         | Command::Demo(_)
         | Command::Expand(_)
+        | Command::Strips(_)
         | Command::Cost(_)
         | Command::Judge(_, _, _) => false,
     }
@@ -88,6 +90,7 @@ pub fn tell_files<F: Folder, A: Fn(u64, u32, u64) -> u32 + Drop>(
         // a demo reads no file
         Command::Demo(_) => Ok(()),
         Command::Expand(file) => tell_expand(alloc, page, folder, file, status),
+        Command::Strips(file) => tell_strips(alloc, page, folder, file, status),
         Command::Cost(file) => tell_cost(alloc, page, folder, file, status),
         Command::Judge(file, log, n) => {
             let asked = Judged { file, log, n };
@@ -133,6 +136,7 @@ pub fn tell_read_fault<F: Folder>(
         | Command::Run(file, _)
         | Command::Sim(file, _)
         | Command::Expand(file)
+        | Command::Strips(file)
         | Command::Cost(file) => tell_unread(page, file),
         Command::GenWith(file, kernels) => tell_unread_of(alloc, page, folder, file, kernels),
         Command::Replay(text, schedule, _) => {

@@ -16,6 +16,7 @@ mod played;
 mod protocol;
 mod running;
 mod schedule;
+mod strips;
 #[cfg(test)]
 mod tests;
 mod text;

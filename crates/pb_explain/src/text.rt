@@ -64,6 +64,7 @@ fn tell_simulation<A: Fn(u64, u32, u64) -> u32 + Drop>(
         | Status::Text
         | Status::Schedule
         | Status::CallFault
+        | Status::StripFault
         | Status::CostFault
         | Status::NotCovered
         | Status::Log => Ok(()),

@@ -8,6 +8,7 @@ pub enum Verb {
     Sim,
     Replay,
     Expand,
+    Strips,
     Cost,
     Judge,
     Demo,
@@ -24,6 +25,7 @@ impl Verb {
             Verb::Sim,
             Verb::Replay,
             Verb::Expand,
+            Verb::Strips,
             Verb::Cost,
             Verb::Judge,
             Verb::Demo,
@@ -40,6 +42,7 @@ impl Verb {
             Verb::Sim => "sim",
             Verb::Replay => "replay",
             Verb::Expand => "expand",
+            Verb::Strips => "strips",
             Verb::Cost => "cost",
             Verb::Judge => "judge",
             Verb::Demo => "demo",
@@ -56,6 +59,7 @@ impl Verb {
             Verb::Sim => "pabble sim TEXT --n A [--seed B] [--turns C] [--mode M] [--schedule]",
             Verb::Replay => "pabble replay TEXT SCHEDULE --n A",
             Verb::Expand => "pabble expand FILE",
+            Verb::Strips => "pabble strips FILE",
             Verb::Cost => "pabble cost FILE",
             Verb::Judge => "pabble judge FILE LOG --n A",
             Verb::Demo => "pabble demo K",
@@ -72,6 +76,7 @@ impl Verb {
             Verb::Sim => "simulates a C text that `gen` wrote",
             Verb::Replay => "simulates it by a schedule that `--schedule` wrote",
             Verb::Expand => "writes the protocol file that a file with subprotocols stands for",
+            Verb::Strips => "writes the protocol file that a file with strips stands for",
             Verb::Cost => "counts the least and the most that the protocol sends, for every N",
             Verb::Judge => "says whether a log kept the protocol at N = A, and else where not",
             Verb::Demo => "makes, compiles and simulates a protocol of K statements",
@@ -81,9 +86,13 @@ impl Verb {
     /// What its words are, from the first to the last that there must be.
     pub fn files(self) -> &'static [&'static str] {
         match self {
-            Verb::Check | Verb::Project | Verb::Gen | Verb::Run | Verb::Expand | Verb::Cost => {
-                &["FILE"]
-            }
+            Verb::Check
+            | Verb::Project
+            | Verb::Gen
+            | Verb::Run
+            | Verb::Expand
+            | Verb::Strips
+            | Verb::Cost => &["FILE"],
             Verb::Sim => &["TEXT"],
             Verb::Replay => &["TEXT", "SCHEDULE"],
             Verb::Judge => &["FILE", "LOG"],
@@ -100,6 +109,7 @@ impl Verb {
             | Verb::Run
             | Verb::Sim
             | Verb::Expand
+            | Verb::Strips
             | Verb::Cost
             | Verb::Demo => 1,
         }

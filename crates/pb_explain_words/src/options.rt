@@ -44,9 +44,13 @@ impl Choice {
         match verb {
             Verb::Run | Verb::Sim => true,
             Verb::Replay | Verb::Judge => self == Choice::N,
-            Verb::Check | Verb::Project | Verb::Gen | Verb::Expand | Verb::Cost | Verb::Demo => {
-                false
-            }
+            Verb::Check
+            | Verb::Project
+            | Verb::Gen
+            | Verb::Expand
+            | Verb::Strips
+            | Verb::Cost
+            | Verb::Demo => false,
         }
     }
 

@@ -13,7 +13,7 @@ const STATUSES: &str =
     "status: 0 all was written; 1 the protocol is refused; 2 the words are in no form; 3 a file can't be read;
   4 the output can't be written; 5 a limit is passed; 6 no memory; 7 a kernel file doesn't fit; 8 no C text of `gen`;
   9 a schedule doesn't fit; 10 the ranks are stuck; 11 turns are used up; 12 N is out of range;
-  14 a call of a subprotocol is wrong; 16 the protocol has a loop; 17 the log departs from the protocol;
+  14 a call of a subprotocol is wrong; 15 a strip is wrong; 16 the protocol has a loop; 17 the log departs from the protocol;
   18 a line of the log is malformed
 manual: README.md, docs/LANGUAGE.md (protocols, the twelve rules), docs/FORMATS.md (commands, files, status lines)
 ";

@@ -83,6 +83,11 @@ fn letters(alloc: Global, line: &str) -> Result<Vec<u8>, AllocError> {
             out.push(b'e')?;
             out.extend_from_slice(file.as_bytes())?;
         }
+        Ok(Some(Command::Strips(file))) => {
+            out.push(b's')?;
+            out.push(b't')?;
+            out.extend_from_slice(file.as_bytes())?;
+        }
         Ok(Some(Command::Cost(file))) => {
             out.push(b'o')?;
             out.extend_from_slice(file.as_bytes())?;
@@ -131,6 +136,8 @@ fn reads_commands(rt: HostRuntime) -> Result<(), Fail> {
         ("cost -- p", "op"),
         ("expand p", "ep"),
         ("expand -- p", "ep"),
+        ("strips p", "stp"),
+        ("strips -- p", "stp"),
         ("judge p l --n 2", "j2pl"),
         ("judge p --n=02 -- l", "j2pl"),
         ("--n 2 judge p l", "j2pl"),
@@ -202,6 +209,9 @@ fn refuses_words_in_no_form(rt: HostRuntime) -> Result<(), Fail> {
         "expand",
         "expand p q",
         "expand p --n 2",
+        "strips",
+        "strips p q",
+        "strips p --n 2",
         "-- cost p",
         "judge p --n 2",
         "judge p l",

@@ -89,6 +89,7 @@ module _ (P Q : ℕ → ℕ → ℕ → Type 0) (weaker : (r k word : ℕ) → P
     reply S.Kernel text h = h
     reply S.Text text h = h
     reply S.CallFault text h = h
+    reply S.StripFault text h = h
     reply S.CostFault text h = h
     reply S.NotCovered text h = h
     reply S.Log text h = h

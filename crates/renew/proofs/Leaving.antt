@@ -70,6 +70,7 @@ leaves_file refusal.WordsInFlight asked h0 h1 e = same_two asked.out h0 h1 e
 leaves_file (refusal.Turns turns) asked h0 h1 e = same_two asked.out h0 h1 e
 leaves_file refusal.Pieces asked h0 h1 e = same_two asked.out h0 h1 e
 leaves_file (refusal.Call wrong place) asked h0 h1 e = same_two asked.out h0 h1 e
+leaves_file (refusal.Strip wrong place) asked h0 h1 e = same_two asked.out h0 h1 e
 leaves_file (refusal.CostLoop place) asked h0 h1 e = same_two asked.out h0 h1 e
 leaves_file (refusal.LogDiffers line rank) asked h0 h1 e = same_two asked.out h0 h1 e
 leaves_file (refusal.LogBeyond line rank) asked h0 h1 e = same_two asked.out h0 h1 e

@@ -18,6 +18,9 @@ returns-in-Demo-clause-reply g c = rw c.in-Demo.is c.demo.ensures.reply
 pub returns-in-Expand-clause-reply : goal.returns-in-Expand-clause-reply
 returns-in-Expand-clause-reply g c = rw c.in-Expand.is c.expand.ensures.reply
 
+pub returns-in-Strips-clause-reply : goal.returns-in-Strips-clause-reply
+returns-in-Strips-clause-reply g c = rw c.in-Strips.is c.strips.ensures.reply
+
 pub returns-in-Cost-clause-reply : goal.returns-in-Cost-clause-reply
 returns-in-Cost-clause-reply g c = rw c.in-Cost.is c.cost.ensures.reply
 

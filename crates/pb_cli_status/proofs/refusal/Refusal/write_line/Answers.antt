@@ -73,6 +73,12 @@ returns-in-Call-clause-whole g c = rw (c.in-Call.is, sym c.call_words.ensures) c
 pub returns-in-Call-clause-front : goal.returns-in-Call-clause-front
 returns-in-Call-clause-front g c = rw (c.in-Call.is, sym c.call_words.ensures) c.write_at-in-Call.ensures.front
 
+pub returns-in-Strip-clause-whole : goal.returns-in-Strip-clause-whole
+returns-in-Strip-clause-whole g c = rw (c.in-Strip.is, sym c.strip_words.ensures) c.write_at-in-Strip.ensures.whole
+
+pub returns-in-Strip-clause-front : goal.returns-in-Strip-clause-front
+returns-in-Strip-clause-front g c = rw (c.in-Strip.is, sym c.strip_words.ensures) c.write_at-in-Strip.ensures.front
+
 pub returns-in-CostLoop-clause-whole : goal.returns-in-CostLoop-clause-whole
 returns-in-CostLoop-clause-whole g c = rw c.in-CostLoop.is c.write_at-in-CostLoop.ensures.whole
 
