@@ -1,16 +1,18 @@
 #!/usr/bin/env python3
 """Compiles printed texts with mpicc, runs them on 2 to 8 ranks, and compares what each rank did with the sequential run.
 
-usage: checks/mpi.py [--pabble PROGRAM] [--plain PROGRAM] [--logs FOLDER] [FILE.pbl ..]
+usage: checks/mpi.py [--pabble PROGRAM] [--plain PROGRAM] [--logs FOLDER] [--mpicc WORD] [--mpiexec WORDS] [FILE.pbl ..]
 
 Without files, those of examples/ are taken. Kernel bodies are filled in here: they take the words that a run with seed 0 has, so each
 rank's calls must be its part of the actions that `plain` shows. Each N is run with buffered sends and with sends that wait.
 The logs of a run's ranks, one behind the other, are judged by `pabble judge`, which must say `whole`, or `covered` where the run was
 broken off. They are written to FOLDER, as NAME-N-buffered.log and NAME-N-waiting.log, where one is named.
-Where no MPI is installed, the script says so and passes nothing.
+The compiler is `mpicc` and the words in front of a number of ranks `mpiexec -n`, where none are named. Where no MPI is installed,
+the script says so and passes nothing.
 """
 import os
 import re
+import shlex
 import shutil
 import subprocess
 import sys
@@ -140,8 +142,9 @@ def ruling(pabble, file, n, size, log, labels, signed, path):
     return subprocess.run([pabble, "judge", file, path, "--n", str(n)], capture_output=True, text=True).stdout.strip()
 
 
-def run(pabble, plain, file, room, logs):
-    """Returns how many runs agreed and what differed."""
+def run(pabble, plain, mpi, file, room, logs):
+    """Returns how many runs agreed and what differed. The MPI is its compiler and the words that start a program."""
+    compiler, starting = mpi
     text = subprocess.run([pabble, "gen", file], capture_output=True, text=True)
     if text.returncode:
         return 0, [f"gen: {text.stdout.strip()}"]
@@ -154,7 +157,7 @@ def run(pabble, plain, file, room, logs):
     only = re.search(r"^  N = (\d+);$", source, re.M)
     with open(f"{room}/text.c", "w") as it:
         it.write(source)
-    made = subprocess.run(["mpicc", "-O1", "-o", f"{room}/text", f"{room}/text.c", f"{TOP}/checks/mpi-log.c"], capture_output=True, text=True)
+    made = subprocess.run([compiler, "-O1", "-o", f"{room}/text", f"{room}/text.c", f"{TOP}/checks/mpi-log.c"], capture_output=True, text=True)
     if made.returncode:
         return 0, [made.stderr[:400]]
     agreed, differences = 0, []
@@ -176,7 +179,7 @@ def run(pabble, plain, file, room, logs):
                     os.remove(f"{log}.{old}")
             how = {**os.environ, **OPEN_MPI, "LOG": log, **({"WAITING": "1"} if waiting else {})}
             try:
-                ran = subprocess.run(["mpiexec", "-n", str(size), f"{room}/text"], env=how, capture_output=True, timeout=SECONDS)
+                ran = subprocess.run([*starting, str(size), f"{room}/text"], env=how, capture_output=True, timeout=SECONDS)
                 over = ran.returncode == 0
             except subprocess.TimeoutExpired:
                 over = False
@@ -209,14 +212,15 @@ def main():
     pabble = option(words, "--pabble", None) or subprocess.check_output([f"{TOP}/scripts/program.sh"], text=True).strip()
     plain = option(words, "--plain", f"{TOP}/crates/plain/out/plain")
     logs = option(words, "--logs", None)
-    if not shutil.which("mpicc") or not shutil.which("mpiexec"):
-        print("no MPI is installed here (mpicc, mpiexec): nothing was run, and nothing has passed")
+    mpi = option(words, "--mpicc", "mpicc"), shlex.split(option(words, "--mpiexec", "mpiexec -n"))
+    if not shutil.which(mpi[0]) or not shutil.which(mpi[1][0]):
+        print(f"no MPI is installed here ({mpi[0]}, {mpi[1][0]}): nothing was run, and nothing has passed")
         return 1
     files = words or sorted([*glob(f"{TOP}/examples/*.pbl"), *glob(f"{TOP}/examples/*/*.pbl")])
     passed = failed = 0
     for file in files:
         with tempfile.TemporaryDirectory() as room:
-            agreed, differences = run(pabble, plain, file, room, logs)
+            agreed, differences = run(pabble, plain, mpi, file, room, logs)
         passed, failed = passed + agreed, failed + len(differences)
         print(f"{os.path.basename(file)}: {agreed} runs agreed", *[f"  {it}" for it in differences[:4]], sep="\n", flush=True)
     print(f"{passed} passed, {failed} failed")
