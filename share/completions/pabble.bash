@@ -4,7 +4,7 @@ _pabble()
     local word=${COMP_WORDS[COMP_CWORD]} before=${COMP_WORDS[COMP_CWORD-1]} command=${COMP_WORDS[1]}
     COMPREPLY=()
     if [ "$COMP_CWORD" = 1 ]; then
-        mapfile -t COMPREPLY < <(compgen -W 'check project gen run sim replay expand cost judge demo' -- "$word")
+        mapfile -t COMPREPLY < <(compgen -W 'check project gen run sim replay expand strips cost judge demo' -- "$word")
         return
     fi
     case $before in

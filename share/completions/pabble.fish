@@ -1,5 +1,5 @@
 # Completion of pabble for fish.
-set -l commands check project gen run sim replay expand cost judge demo
+set -l commands check project gen run sim replay expand strips cost judge demo
 complete -c pabble -n "not __fish_seen_subcommand_from $commands" -f
 complete -c pabble -n "not __fish_seen_subcommand_from $commands" -a check -d 'Whether a protocol is accepted'
 complete -c pabble -n "not __fish_seen_subcommand_from $commands" -a project -d 'The endpoint program of a protocol'
@@ -8,6 +8,7 @@ complete -c pabble -n "not __fish_seen_subcommand_from $commands" -a run -d 'Sim
 complete -c pabble -n "not __fish_seen_subcommand_from $commands" -a sim -d 'Simulate a C text'
 complete -c pabble -n "not __fish_seen_subcommand_from $commands" -a replay -d 'Simulate a C text by a schedule'
 complete -c pabble -n "not __fish_seen_subcommand_from $commands" -a expand -d 'The protocol file of a file with subprotocols'
+complete -c pabble -n "not __fish_seen_subcommand_from $commands" -a strips -d 'The protocol file of a file with strips'
 complete -c pabble -n "not __fish_seen_subcommand_from $commands" -a cost -d 'The least and the most that a protocol sends'
 complete -c pabble -n "not __fish_seen_subcommand_from $commands" -a judge -d 'Whether a log kept a protocol'
 complete -c pabble -n "not __fish_seen_subcommand_from $commands" -a demo -d 'Count what a protocol of so many statements does'

@@ -1,1 +1,1 @@
-autocmd BufNewFile,BufRead *.pbl setfiletype pabble
+autocmd BufNewFile,BufRead *.pbl,*.calls,*.strips setfiletype pabble

@@ -1,4 +1,4 @@
-" Vim syntax file of Pabble protocols (*.pbl)
+" Vim syntax file of Pabble protocols (*.pbl), with subprotocols (*.calls) and with strips (*.strips)
 if exists("b:current_syntax")
   finish
 endif
@@ -12,6 +12,8 @@ syntax keyword pabbleConstant max min sum
 syntax match pabbleNumber "\<\d\+\>"
 syntax match pabbleRange "\.\."
 syntax match pabbleLabel "\<\h\w*\ze\s*("
+" a keyword with strips alone, and a name elsewhere
+syntax match pabbleStatement "\<columns\ze\s*(\s*\h\w*\s*:"
 syntax match pabbleLine "//.*$" contains=pabbleTodo,@Spell
 syntax region pabbleComment start="/\*" end="\*/" contains=pabbleTodo,@Spell
 syntax keyword pabbleTodo TODO FIXME contained
