@@ -2,17 +2,17 @@ ghost use Rattle.std.specs.Prelude.{ℕ, map};
 ghost use Rattle.pb_core_language.specs.declared.tree.CoreEnd.{CoreEnd};
 ghost use Rattle.pb_core_language.specs.Plain.{plain_block, plain_stmt, branches_of};
 ghost use Rattle.pb_cost_blocks.specs.Answers.{SameAnswer, StmtAnswer, BlockAnswer, BranchesAnswer};
-ghost use Rattle.pb_cost_blocks.specs.Sums.{IsBegun};
 ghost use Rattle.pb_cost_laws.specs.Flats.{of_label};
 ghost use Rattle.pb_cost_blocks.specs.Asked.{counted, size_in};
 
 use crate::asked::Asked;
 use crate::foreach::of_foreach;
-use crate::join::{few, few_joined};
+use crate::join::few_joined;
+use crate::running::Running;
 use crate::same::same;
 use crate::stop::Stop;
 use pb_core_language::{CoreBlock, CoreKind, CoreLabel, CoreStmt};
-use pb_cost_joins::{Count, Join};
+use pb_cost_joins::Count;
 use std::alloc::Global;
 
 /// The count of a block.
@@ -25,20 +25,12 @@ pub fn of_block(
 ) -> Result<Count, Stop>
     ensures { BlockAnswer asked labels.now (plain_block block.now).block result }
 {
-    let mut sum = begun(alloc, asked)?;
+    let mut running = Running::begin(alloc, asked.span)?;
     for stmt in &block.list {
         let next = of_stmt(stmt, alloc, labels, asked)?;
-        sum = few_joined(alloc, Join::Sum, &sum, &next)?;
+        running = running.plus(alloc, &next)?;
     }
-    Ok(sum)
-}
-
-/// The count of no statements.
-fn begun(alloc: Global, asked: Asked) -> Result<Count, Stop>
-    ensures { IsBegun asked.span result }
-{
-    let none = same(alloc, asked.span, 0)?;
-    few(none)
+    running.finish(alloc)
 }
 
 /// The count of a statement.

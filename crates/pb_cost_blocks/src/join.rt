@@ -8,7 +8,7 @@ use pb_cost_joins::{Count, CountFault, Join, joined};
 use std::alloc::Global;
 
 /// The most pieces that a count may have.
-const MOST_PIECES: usize = 4096;
+pub(crate) const MOST_PIECES: usize = 4096;
 
 /// Two counts joined, where that has few pieces.
 pub(crate) fn few_joined(alloc: Global, join: Join, a: &Count, b: &Count) -> Result<Count, Stop>

@@ -10,6 +10,7 @@ mod block;
 mod end;
 mod foreach;
 mod join;
+mod running;
 mod same;
 mod stop;
 mod values;

@@ -1,55 +1,55 @@
 use Rattle.std.proofs.Common.{◌≡◌, ap, sym, subst, ◌∙◌, ◌+◌, map, drop, drop_of_length-le}
-use Rattle.std.proofs.lemmas.Result.{err_from_is_err_and}
+use Rattle.std.proofs.lemmas.Result.{err_from_is_err_and, MatchResult-weaker}
 use Rattle.pb_core_language.specs.Plain.{plain_stmt, plain_block, block_of, branches_of}
 use Rattle.pb_core_language.specs.Tree.{choice}
 use Rattle.pb_core_language.proofs.Plains.{plain_list, plain_message, plain_foreach, plain_loop, plain_choice}
 use Rattle.pb_cost_blocks.specs.Answers.{StmtAnswer}
 use Rattle.pb_cost_blocks.specs.Sums.{IsSum, IsBest}
-use Rattle.pb_cost_blocks.proofs.Steps.{from_place, sum_begins, begin_stops, sum_ends, stmt_stops, sum_stops, sum_goes_on}
+use Rattle.pb_cost_blocks.proofs.Steps.{from_place, sum_begins, begin_stops, sum_ends, end_stops, stmt_stops, sum_stops, sum_goes_on}
 use Rattle.pb_cost_blocks.proofs.Branches.{best_begins, first_stops, best_ends, branch_stops, best_stops, best_goes_on}
 use Rattle.pb_cost_blocks.proofs.block.+block.Goals as goal
 
-pub of_block-returns-in_err-sum : goal.of_block-returns-in_err-sum
-of_block-returns-in_err-sum t c =
+pub of_block-returns-in_err-running : goal.of_block-returns-in_err-running
+of_block-returns-in_err-running t c =
     let p = err_from_is_err_and c.from_residual.result c.from_residual.ensures.1 in
-    rw (p.1, p.2) (begin_stops c.args.asked c.args.labels.now (plain_block c.args.block.now).block c.in_err-sum.field-0.0 c.in_err-sum.ensures)
+    rw (p.1, p.2) (begin_stops c.args.asked c.args.labels.now (plain_block c.args.block.now).block c.in_err-running.field-0.0 c.in_err-running.ensures)
 
 pub of_block-loop-stmt-init : goal.of_block-loop-stmt-init
 of_block-loop-stmt-init t c =
     let items = c.deref-stmt-items.result.now in
     let same : block_of (map plain_stmt items) ≡ (plain_block c.args.block.now).block = ap (λ z. block_of (map plain_stmt z)) c.deref-stmt-items.ensures.value ∙ sym (plain_list c.args.block.now) in
-    subst (λ z. IsSum c.args.asked c.args.labels.now c.in_ok-sum.sum z (plain_block c.args.block.now).block) (sym same) (sum_begins c.args.asked c.args.labels.now c.in_ok-sum.sum (plain_block c.args.block.now).block c.in_ok-sum.ensures)
+    subst (λ z. IsSum c.args.asked c.args.labels.now c.in_ok-running.running z (plain_block c.args.block.now).block) (sym same) (sum_begins c.args.asked c.args.labels.now c.in_ok-running.running (plain_block c.args.block.now).block c.in_ok-running.ensures)
 
 pub of_block-returns-in_err-next : goal.of_block-returns-in_err-next
 of_block-returns-in_err-next t c =
     let items = c.deref-stmt-items.result.now in
     let p = err_from_is_err_and c.from_residual-in_err-next.result c.from_residual-in_err-next.ensures.1 in
-    let here = subst (λ z. IsSum c.args.asked c.args.labels.now c.loop-stmt.sum (block_of (map plain_stmt z)) (plain_block c.args.block.now).block) (from_place items c.loop-stmt.stmt-index c.stmt-item.result c.loop-stmt-test.true c.stmt-item.is) c.loop-stmt.invariant in
+    let here = subst (λ z. IsSum c.args.asked c.args.labels.now c.loop-stmt.running (block_of (map plain_stmt z)) (plain_block c.args.block.now).block) (from_place items c.loop-stmt.stmt-index c.stmt-item.result c.loop-stmt-test.true c.stmt-item.is) c.loop-stmt.invariant in
     rw (p.1, p.2)
-    (stmt_stops c.args.asked c.args.labels.now c.loop-stmt.sum (plain_stmt c.stmt-item.result).mark (plain_stmt c.stmt-item.result).stmt (block_of (map plain_stmt (drop (c.loop-stmt.stmt-index + 1) items))) (plain_block c.args.block.now).block here
+    (stmt_stops c.args.asked c.args.labels.now c.loop-stmt.running (plain_stmt c.stmt-item.result).mark (plain_stmt c.stmt-item.result).stmt (block_of (map plain_stmt (drop (c.loop-stmt.stmt-index + 1) items))) (plain_block c.args.block.now).block here
     c.in_err-next.field-0.0 c.in_err-next.ensures)
 
-pub of_block-returns-in_err-sum-2 : goal.of_block-returns-in_err-sum-2
-of_block-returns-in_err-sum-2 t c =
+pub of_block-returns-in_err-running-2 : goal.of_block-returns-in_err-running-2
+of_block-returns-in_err-running-2 t c =
     let items = c.deref-stmt-items.result.now in
-    let p = err_from_is_err_and c.from_residual-in_err-sum-2.result c.from_residual-in_err-sum-2.ensures.1 in
-    let here = subst (λ z. IsSum c.args.asked c.args.labels.now c.loop-stmt.sum (block_of (map plain_stmt z)) (plain_block c.args.block.now).block) (from_place items c.loop-stmt.stmt-index c.stmt-item.result c.loop-stmt-test.true c.stmt-item.is) c.loop-stmt.invariant in
+    let p = err_from_is_err_and c.from_residual-in_err-running-2.result c.from_residual-in_err-running-2.ensures.1 in
+    let here = subst (λ z. IsSum c.args.asked c.args.labels.now c.loop-stmt.running (block_of (map plain_stmt z)) (plain_block c.args.block.now).block) (from_place items c.loop-stmt.stmt-index c.stmt-item.result c.loop-stmt-test.true c.stmt-item.is) c.loop-stmt.invariant in
     rw (p.1, p.2)
-    (sum_stops c.args.asked c.args.labels.now c.loop-stmt.sum (plain_stmt c.stmt-item.result).mark (plain_stmt c.stmt-item.result).stmt (block_of (map plain_stmt (drop (c.loop-stmt.stmt-index + 1) items))) (plain_block c.args.block.now).block here
-    c.in_ok-next.next c.in_ok-next.ensures c.in_err-sum-2.field-0.0 c.in_err-sum-2.ensures)
+    (sum_stops c.args.asked c.args.labels.now c.loop-stmt.running (plain_stmt c.stmt-item.result).mark (plain_stmt c.stmt-item.result).stmt (block_of (map plain_stmt (drop (c.loop-stmt.stmt-index + 1) items))) (plain_block c.args.block.now).block here
+    c.in_ok-next.next c.in_ok-next.ensures c.in_err-running-2.field-0.0 c.in_err-running-2.ensures)
 
 pub of_block-loop-stmt-preserved : goal.of_block-loop-stmt-preserved
 of_block-loop-stmt-preserved t c =
     let items = c.deref-stmt-items.result.now in
-    let here = subst (λ z. IsSum c.args.asked c.args.labels.now c.loop-stmt.sum (block_of (map plain_stmt z)) (plain_block c.args.block.now).block) (from_place items c.loop-stmt.stmt-index c.stmt-item.result c.loop-stmt-test.true c.stmt-item.is) c.loop-stmt.invariant in
-    sum_goes_on c.args.asked c.args.labels.now c.loop-stmt.sum (plain_stmt c.stmt-item.result).mark (plain_stmt c.stmt-item.result).stmt (block_of (map plain_stmt (drop (c.loop-stmt.stmt-index + 1) items))) (plain_block c.args.block.now).block here
-    c.in_ok-next.next c.in_ok-next.ensures c.in_ok-sum-2.sum c.in_ok-sum-2.ensures
+    let here = subst (λ z. IsSum c.args.asked c.args.labels.now c.loop-stmt.running (block_of (map plain_stmt z)) (plain_block c.args.block.now).block) (from_place items c.loop-stmt.stmt-index c.stmt-item.result c.loop-stmt-test.true c.stmt-item.is) c.loop-stmt.invariant in
+    sum_goes_on c.args.asked c.args.labels.now c.loop-stmt.running (plain_stmt c.stmt-item.result).mark (plain_stmt c.stmt-item.result).stmt (block_of (map plain_stmt (drop (c.loop-stmt.stmt-index + 1) items))) (plain_block c.args.block.now).block here
+    c.in_ok-next.next c.in_ok-next.ensures c.in_ok-running-2.running c.in_ok-running-2.ensures
 
 pub of_block-returns : goal.of_block-returns
 of_block-returns t c =
     let items = c.deref-stmt-items.result.now in
-    sum_ends c.args.asked c.args.labels.now c.loop-stmt.sum (plain_block c.args.block.now).block
-    (subst (λ z. IsSum c.args.asked c.args.labels.now c.loop-stmt.sum (block_of (map plain_stmt z)) (plain_block c.args.block.now).block) (drop_of_length-le items c.loop-stmt-test.false) c.loop-stmt.invariant)
+    let all = subst (λ z. IsSum c.args.asked c.args.labels.now c.loop-stmt.running (block_of (map plain_stmt z)) (plain_block c.args.block.now).block) (drop_of_length-le items c.loop-stmt-test.false) c.loop-stmt.invariant in
+    MatchResult-weaker c.finish.result c.finish.ensures (sum_ends c.args.asked c.args.labels.now c.loop-stmt.running (plain_block c.args.block.now).block all) (end_stops c.args.asked c.args.labels.now c.loop-stmt.running (plain_block c.args.block.now).block all)
 
 pub of_branches-loop-branch-init : goal.of_branches-loop-branch-init
 of_branches-loop-branch-init t c =
