@@ -1,7 +1,11 @@
 //! Files with subprotocols that aren't expanded.
 
-use crate::again::{Again, MOST_FILE_BYTES, read_again, tell_once};
-use crate::files::tell_long;
+ghost use Rattle.std.specs.Prelude.{IfOk};
+ghost use Rattle.pb_explain_source.specs.Pages.{IsPageOf};
+ghost use Rattle.pb_explain.specs.Told.{IsTold};
+
+use crate::again::{Again, MOST_FILE_BYTES, read_again, text_of_loss};
+use crate::named::{Sentence, point_at_word};
 use pb_cli_expand::refusal_in;
 use pb_cli_status::{CallWrong, Refusal, Status};
 use pb_explain_source::{NoMemory, Page, Part, Source};
@@ -10,18 +14,29 @@ use pb_io::Folder;
 use pb_text::{MOST_TEXT_BYTES, Place};
 use std::alloc::Global;
 
-/// What is wrong with a call or a subprotocol.
-fn reason(wrong: CallWrong) -> &'static str {
+/// What is wrong with a call or a subprotocol, around the name at the place.
+fn reason(wrong: CallWrong) -> Sentence<'static> {
     match wrong {
-        CallWrong::Twice => {
-            "this name is taken: subprotocols have names of their own, and so have the parameters of one"
-        }
-        CallWrong::Unknown => "there is no subprotocol of this name",
-        CallWrong::Arity =>
-            "this call has another number of arguments than its subprotocol has parameters",
-        CallWrong::Stranger => "this name stands for nothing here",
-        CallWrong::Cycle =>
-            "this call goes in a circle: what it calls comes back to where it stands",
+        CallWrong::Twice => Sentence {
+            front: "the name `",
+            behind: "` is taken: subprotocols have names of their own, and so have the parameters of one",
+        },
+        CallWrong::Unknown => Sentence {
+            front: "there is no subprotocol `",
+            behind: "`",
+        },
+        CallWrong::Arity => Sentence {
+            front: "this call of `",
+            behind: "` has another number of arguments than its subprotocol has parameters",
+        },
+        CallWrong::Stranger => Sentence {
+            front: "`",
+            behind: "` stands for nothing here",
+        },
+        CallWrong::Cycle => Sentence {
+            front: "this call of `",
+            behind: "` goes in a circle: what it calls comes back to where it stands",
+        },
     }
 }
 
@@ -40,54 +55,70 @@ fn remedy(wrong: CallWrong) -> &'static str {
     }
 }
 
-/// Writes why these bytes aren't expanded.
-fn tell_refusal(page: &mut Page, source: &Source, why: &Refusal) -> Result<(), NoMemory> {
-    match why {
-        Refusal::Call(wrong, place) => {
-            page.point(source, *place, &[Part::Text(reason(*wrong))])?;
-            page.help(&[Part::Text(remedy(*wrong))])
-        }
-        Refusal::Syntax(place) => tell_stop(page, source, *place),
-        Refusal::Limit(limit, place) => tell_limit(page, source, *limit, Some(*place)),
-        _ => Ok(()),
-    }
-}
-
 /// Writes that a file with subprotocols doesn't go on so.
-fn tell_stop(page: &mut Page, source: &Source, place: Place) -> Result<(), NoMemory> {
-    page.point(
-        source,
-        place,
-        &[Part::Text("no file with subprotocols goes on so")],
-    )?;
+fn tell_stop(page: &mut Page, place: Place) -> Result<(), NoMemory> {
+    page.point(place, &[Part::Text("no file with subprotocols goes on so")])?;
     page.help(&[Part::Text(
         "docs/LANGUAGE.md has the grammar: `protocol NAME(role A, ..) { .. }` in front of `global`, and `do NAME(A, ..);` in a block",
     )])
 }
 
-/// Explains why the bytes of a file with subprotocols aren't expanded.
-fn tell_bytes(alloc: Global, page: &mut Page, file: &str, bytes: &[u8]) -> Result<(), NoMemory> {
-    if bytes.len() > MOST_TEXT_BYTES as usize {
-        return Ok(());
-    }
-    match refusal_in(alloc, bytes) {
-        Some(why) => tell_refusal(page, &Source { file, bytes }, &why),
-        None => Ok(()),
+/// Writes why these bytes aren't expanded.
+fn tell_refusal(page: &mut Page, source: &Source, why: &Refusal) -> Result<(), NoMemory> {
+    match why {
+        Refusal::Call(wrong, place) => {
+            point_at_word(page, source, *place, &reason(*wrong))?;
+            page.help(&[Part::Text(remedy(*wrong))])
+        }
+        Refusal::Syntax(place) => tell_stop(page, *place),
+        Refusal::Limit(limit, place) => tell_limit(page, source, *limit, Some(*place)),
+        _ => Ok(()),
     }
 }
 
-/// Explains why a file with subprotocols isn't expanded.
-pub fn tell_expand<F: Folder>(
+/// Writes why these bytes aren't expanded, where the program ends with this status for it.
+fn tell_due(
     alloc: Global,
     page: &mut Page,
+    source: &Source,
+    status: Status,
+) -> Result<(), NoMemory> {
+    if source.bytes.len() > MOST_TEXT_BYTES as usize {
+        return Ok(());
+    }
+    match refusal_in(alloc, source.bytes) {
+        Some(why) if why.status() == status => tell_refusal(page, source, &why),
+        Some(_) | None => Ok(()),
+    }
+}
+
+/// What is told of the bytes of a file with subprotocols.
+fn text_of_calls(alloc: Global, source: &Source, status: Status) -> Result<Vec<u8>, NoMemory>
+    ensures { IfOk result (λ text. IsPageOf source.now.file.now source.now.bytes.now text.items) }
+{
+    let mut page = Page::new(alloc);
+    tell_due(alloc, &mut page, source, status)?;
+    page.text(alloc, source)
+}
+
+/// What is told of a file with subprotocols.
+#[tactic(auto, using(crate::proofs::Pages::of_file, crate::proofs::Pages::of_words))]
+pub fn text_of_expand<F: Folder>(
+    alloc: Global,
     folder: &mut F,
     file: &str,
     status: Status,
-) -> Result<(), NoMemory> {
+) -> Result<Vec<u8>, NoMemory>
+    ensures { IfOk result (λ text. IsTold (F.holds folder.old) text.items) }
+{
     match read_again(alloc, folder, file, MOST_FILE_BYTES)? {
-        Again::Bytes(bytes) => tell_bytes(alloc, page, file, &bytes),
-        Again::TooLong if status == Status::Limit => tell_long(page, file),
-        Again::TooLong => Ok(()),
-        Again::Unread => tell_once(page, file),
+        Again::Bytes(bytes) => {
+            let source = Source {
+                file,
+                bytes: &bytes,
+            };
+            text_of_calls(alloc, &source, status)
+        }
+        Again::Lost(loss) => text_of_loss(alloc, file, loss, status),
     }
 }

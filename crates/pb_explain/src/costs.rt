@@ -1,8 +1,11 @@
 //! Costs that aren't told.
 
-use crate::again::{Again, MOST_FILE_BYTES, read_again};
-use crate::files::tell_file;
-use crate::protocol::Ask;
+ghost use Rattle.std.specs.Prelude.{IfOk};
+ghost use Rattle.pb_explain_source.specs.Pages.{IsPageOf};
+ghost use Rattle.pb_explain.specs.Told.{IsTold};
+
+use crate::again::{Again, MOST_FILE_BYTES, read_again, text_of_loss};
+use crate::protocol::{Ask, tell_protocol};
 use pb_cli_cost::lines_in;
 use pb_cli_status::{Quantity, Refusal, Status};
 use pb_explain_source::{NoMemory, Page, Part, Source};
@@ -12,23 +15,8 @@ use pb_text::Place;
 use std::alloc::Global;
 
 /// Writes that the protocol has a loop at this place.
-fn tell_loop<F: Folder>(
-    alloc: Global,
-    page: &mut Page,
-    folder: &mut F,
-    file: &str,
-    place: Place,
-) -> Result<(), NoMemory> {
-    let bytes = match read_again(alloc, folder, file, MOST_FILE_BYTES)? {
-        Again::Bytes(bytes) => bytes,
-        Again::TooLong | Again::Unread => return Ok(()),
-    };
-    let source = Source {
-        file,
-        bytes: &bytes,
-    };
+fn tell_loop(page: &mut Page, place: Place) -> Result<(), NoMemory> {
     page.point(
-        &source,
         place,
         &[Part::Text(
             "costs are told of a protocol without loops: how often one goes round this one isn't known",
@@ -39,22 +27,56 @@ fn tell_loop<F: Folder>(
     )])
 }
 
-/// Explains why the costs of the protocol in a file aren't told.
-pub fn tell_cost<F: Folder>(
+/// Writes why there are no costs, as the program finds it in the folder.
+fn tell_cost<F: Folder>(
     alloc: Global,
     page: &mut Page,
     folder: &mut F,
-    file: &str,
+    source: &Source,
     status: Status,
 ) -> Result<(), NoMemory> {
-    match (status, lines_in(alloc, folder, file).err()) {
-        (Status::CostFault, Some(Refusal::CostLoop(place))) => {
-            tell_loop(alloc, page, folder, file, place)
-        }
+    match (status, lines_in(alloc, folder, source.file).err()) {
+        (Status::CostFault, Some(Refusal::CostLoop(place))) => tell_loop(page, place),
         (Status::Limit, Some(Refusal::Pieces)) => {
-            let source = Source { file, bytes: &[] };
-            tell_limit(page, &source, Quantity::Pieces, None)
+            tell_limit(page, source, Quantity::Pieces, None)
         }
-        _ => tell_file(alloc, page, folder, file, status, Ask::Verdict),
+        _ => tell_protocol(alloc, page, source, status, Ask::Verdict),
+    }
+}
+
+/// What is told of the costs of a protocol of these bytes.
+fn text_of_counts<F: Folder>(
+    alloc: Global,
+    folder: &mut F,
+    source: &Source,
+    status: Status,
+) -> Result<Vec<u8>, NoMemory>
+    ensures { IfOk result (λ text. IsPageOf source.now.file.now source.now.bytes.now text.items) }
+{
+    let mut page = Page::new(alloc);
+    tell_cost(alloc, &mut page, folder, source, status)?;
+    page.text(alloc, source)
+}
+
+/// What is told of the costs of the protocol in a file.
+#[tactic(auto, using(crate::proofs::Pages::of_file, crate::proofs::Pages::of_words))]
+pub fn text_of_cost<F: Folder>(
+    alloc: Global,
+    folder: &mut F,
+    file: &str,
+    status: Status,
+) -> Result<Vec<u8>, NoMemory>
+    ensures { IfOk result (λ text. IsTold (F.holds folder.old) text.items) }
+{
+    // The bytes that are told of are those before the folder is used again.
+    match read_again(alloc, folder, file, MOST_FILE_BYTES)? {
+        Again::Bytes(bytes) => {
+            let source = Source {
+                file,
+                bytes: &bytes,
+            };
+            text_of_counts(alloc, folder, &source, status)
+        }
+        Again::Lost(loss) => text_of_loss(alloc, file, loss, status),
     }
 }

@@ -1,6 +1,11 @@
 //! The entry.
 
-use crate::files::{tell_files, tell_read_fault};
+ghost use Rattle.std.specs.Prelude.{[], IfOk};
+ghost use Rattle.pb_explain_source.specs.Pages.{IsPageOf};
+ghost use Rattle.pb_explain.specs.Told.{AppendsSome, IsTold, Tells};
+
+use crate::again::text_of_words;
+use crate::files::{text_of_files, text_of_read_fault};
 use pb_cli_status::Status;
 use pb_cli_words::command_in;
 use pb_explain_source::{NoMemory, Page};
@@ -14,6 +19,7 @@ use std::alloc::Global;
 /// `answers` are those of the call: word number `count` of a rank, from 0, by a seed, the rank and that number. After `Done`
 /// warnings are written on a protocol that was checked, generated or run, and nothing where there are none. Nothing is written
 /// after `WriteFault` and `NoMemory`, where memory runs out, and where a file isn't any more what it was.
+#[tactic(auto, using(crate::proofs::Taken::unchanged, crate::proofs::Taken::written))]
 pub fn explain<F: Folder, E: Sink, A: Fn(u64, u32, u64) -> u32 + Drop>(
     alloc: Global,
     words: &[String],
@@ -23,26 +29,37 @@ pub fn explain<F: Folder, E: Sink, A: Fn(u64, u32, u64) -> u32 + Drop>(
     answers: A,
 )
     requires { A.IsAlwaysCallable answers }
+    ensures { Tells (F.holds folder.old) (E.taken err.old) (E.taken err.new) }
 {
-    if let Ok(page) = page_of(alloc, words, status, folder, answers) {
-        let _written = write_all(err, page.bytes());
+    match text_of(alloc, words, status, folder, answers) {
+        Ok(text) => write_text(err, &text),
+        Err(_) => {}
     }
 }
 
+/// Writes a text, as far as the sink takes it.
+#[tactic(auto, using(crate::proofs::Taken::of_result))]
+fn write_text<E: Sink>(err: &mut E, text: &[u8])
+    ensures { AppendsSome (E.taken err.old) (E.taken err.new) text.now }
+{
+    let _written = write_all(err, text);
+}
+
 /// What is to be written.
-fn page_of<F: Folder, A: Fn(u64, u32, u64) -> u32 + Drop>(
+#[tactic(auto, using(crate::proofs::Pages::of_words))]
+fn text_of<F: Folder, A: Fn(u64, u32, u64) -> u32 + Drop>(
     alloc: Global,
     words: &[String],
     status: Status,
     folder: &mut F,
     answers: A,
-) -> Result<Page, NoMemory>
+) -> Result<Vec<u8>, NoMemory>
     requires { A.IsAlwaysCallable answers }
+    ensures { IfOk result (λ text. IsTold (F.holds folder.old) text.items) }
 {
-    let mut page = Page::new(alloc);
     match status {
-        Status::Usage => tell_words(alloc, &mut page, words)?,
-        Status::WriteFault | Status::NoMemory => {}
+        Status::Usage => text_of_usage(alloc, words),
+        Status::WriteFault | Status::NoMemory => text_of_words(alloc, &Page::new(alloc)),
         Status::Done
         | Status::Refused
         | Status::ReadFault
@@ -57,39 +74,41 @@ fn page_of<F: Folder, A: Fn(u64, u32, u64) -> u32 + Drop>(
         | Status::StripFault
         | Status::CostFault
         | Status::NotCovered
-        | Status::Log => {
-            tell_call(alloc, &mut page, words, status, folder, answers)?;
-        }
+        | Status::Log => text_of_call(alloc, words, status, folder, answers),
     }
-    Ok(page)
 }
 
 /// Words in no form; or the name and the version, where they are asked for.
-fn tell_words(alloc: Global, page: &mut Page, words: &[String]) -> Result<(), NoMemory> {
+fn text_of_usage(alloc: Global, words: &[String]) -> Result<Vec<u8>, NoMemory>
+    ensures { IfOk result (λ text. IsPageOf [] [] text.items) }
+{
     let reading = read_words(alloc, words)?;
+    let mut page = Page::new(alloc);
     match reading.wrong_option() {
-        Some("--version") | Some("-V") => tell_version(page),
-        _ => tell_usage(alloc, page, &reading),
+        Some("--version") | Some("-V") => tell_version(&mut page)?,
+        _ => tell_usage(alloc, &mut page, &reading)?,
     }
+    text_of_words(alloc, &page)
 }
 
 /// Words in a form.
-fn tell_call<F: Folder, A: Fn(u64, u32, u64) -> u32 + Drop>(
+#[tactic(auto, using(crate::proofs::Pages::of_words))]
+fn text_of_call<F: Folder, A: Fn(u64, u32, u64) -> u32 + Drop>(
     alloc: Global,
-    page: &mut Page,
     words: &[String],
     status: Status,
     folder: &mut F,
     answers: A,
-) -> Result<(), NoMemory>
+) -> Result<Vec<u8>, NoMemory>
     requires { A.IsAlwaysCallable answers }
+    ensures { IfOk result (λ text. IsTold (F.holds folder.old) text.items) }
 {
     let Some(command) = command_in(alloc, words)? else {
-        return Ok(());
+        return text_of_words(alloc, &Page::new(alloc));
     };
     if status == Status::ReadFault {
-        tell_read_fault(alloc, page, folder, command)
+        text_of_read_fault(alloc, folder, command)
     } else {
-        tell_files(alloc, page, folder, command, status, answers)
+        text_of_files(alloc, folder, command, status, answers)
     }
 }

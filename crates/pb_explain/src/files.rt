@@ -1,43 +1,47 @@
 //! The files of each command.
 
-use crate::again::{Again, MOST_FILE_BYTES, read_again, tell_once, tell_unread};
-use crate::calls::tell_expand;
-use crate::costs::tell_cost;
-use crate::judged::{Judged, tell_judged};
-use crate::kernels::tell_merge;
-use crate::protocol::{Ask, tell_protocol};
-use crate::schedule::{Replay, tell_replay};
-use crate::strips::tell_strips;
-use crate::text::tell_text;
-use pb_cli_status::{Quantity, Status};
+ghost use Rattle.std.specs.Prelude.{[], IfOk};
+ghost use Rattle.pb_explain_source.specs.Pages.{IsPageOf};
+ghost use Rattle.pb_explain.specs.Told.{IsTold};
+
+use crate::again::{
+    Again, Loss, MOST_FILE_BYTES, read_again, text_of_loss, text_of_words, text_unread,
+};
+use crate::calls::text_of_expand;
+use crate::costs::text_of_cost;
+use crate::judged::{Judged, text_of_judged};
+use crate::kernels::text_of_merge;
+use crate::protocol::{Ask, text_of_protocol};
+use crate::schedule::{Replay, text_of_replay};
+use crate::strips::text_of_strips;
+use crate::text::text_of_text;
+use pb_cli_status::Status;
 use pb_cli_words::Command;
 use pb_explain_source::{NoMemory, Page, Source};
-use pb_explain_syntax::tell_limit;
 use pb_io::Folder;
 use pb_text::MOST_TEXT_BYTES;
 use std::alloc::Global;
 
-/// Writes that a file has too many bytes.
-pub fn tell_long(page: &mut Page, file: &str) -> Result<(), NoMemory> {
-    let source = Source { file, bytes: &[] };
-    tell_limit(page, &source, Quantity::FileBytes, None)
-}
-
-/// Explains the answer to a protocol file.
-pub fn tell_file<F: Folder>(
+/// What is told of a protocol file.
+#[tactic(auto, using(crate::proofs::Pages::of_file, crate::proofs::Pages::of_words))]
+pub fn text_of_file<F: Folder>(
     alloc: Global,
-    page: &mut Page,
     folder: &mut F,
     file: &str,
     status: Status,
     ask: Ask,
-) -> Result<(), NoMemory> {
+) -> Result<Vec<u8>, NoMemory>
+    ensures { IfOk result (λ text. IsTold (F.holds folder.old) text.items) }
+{
     match read_again(alloc, folder, file, MOST_FILE_BYTES)? {
-        Again::Bytes(bytes) => tell_protocol(alloc, page, file, &bytes, status, ask),
-        Again::TooLong if status == Status::Limit => tell_long(page, file),
-        Again::TooLong => Ok(()),
-        Again::Unread if status == Status::Done => Ok(()),
-        Again::Unread => tell_once(page, file),
+        Again::Bytes(bytes) => {
+            let source = Source {
+                file,
+                bytes: &bytes,
+            };
+            text_of_protocol(alloc, &source, status, ask)
+        }
+        Again::Lost(loss) => text_of_loss(alloc, file, loss, status),
     }
 }
 
@@ -56,45 +60,44 @@ fn is_warned(command: Command) -> bool {
     }
 }
 
-/// Explains why this command ended so.
-pub fn tell_files<F: Folder, A: Fn(u64, u32, u64) -> u32 + Drop>(
+/// What is told of a command that ended so.
+#[tactic(auto, using(crate::proofs::Pages::of_words))]
+pub fn text_of_files<F: Folder, A: Fn(u64, u32, u64) -> u32 + Drop>(
     alloc: Global,
-    page: &mut Page,
     folder: &mut F,
     command: Command,
     status: Status,
     answers: A,
-) -> Result<(), NoMemory>
+) -> Result<Vec<u8>, NoMemory>
     requires { A.IsAlwaysCallable answers }
+    ensures { IfOk result (λ text. IsTold (F.holds folder.old) text.items) }
 {
     if status == Status::Done && !is_warned(command) {
-        return Ok(());
+        return text_of_words(alloc, &Page::new(alloc));
     }
     match command {
         Command::Check(file) | Command::Gen(file) | Command::Project(file) => {
-            tell_file(alloc, page, folder, file, status, Ask::Verdict)
+            text_of_file(alloc, folder, file, status, Ask::Verdict)
         }
         Command::Run(file, options) => {
-            tell_file(alloc, page, folder, file, status, Ask::Run(options))
+            text_of_file(alloc, folder, file, status, Ask::Run(options))
         }
-        Command::GenWith(file, kernels) => {
-            tell_merge(alloc, page, folder, file, kernels, status)
-        }
+        Command::GenWith(file, kernels) => text_of_merge(alloc, folder, file, kernels, status),
         Command::Sim(text, options) => {
-            tell_text(alloc, page, folder, text, status, options, answers)
+            text_of_text(alloc, folder, text, status, options, answers)
         }
         Command::Replay(text, schedule, n) => {
             let asked = Replay { text, schedule, n };
-            tell_replay(alloc, page, folder, &asked, status, answers)
+            text_of_replay(alloc, folder, &asked, status, answers)
         }
         // a demo reads no file
-        Command::Demo(_) => Ok(()),
-        Command::Expand(file) => tell_expand(alloc, page, folder, file, status),
-        Command::Strips(file) => tell_strips(alloc, page, folder, file, status),
-        Command::Cost(file) => tell_cost(alloc, page, folder, file, status),
+        Command::Demo(_) => text_of_words(alloc, &Page::new(alloc)),
+        Command::Expand(file) => text_of_expand(alloc, folder, file, status),
+        Command::Strips(file) => text_of_strips(alloc, folder, file, status),
+        Command::Cost(file) => text_of_cost(alloc, folder, file, status),
         Command::Judge(file, log, n) => {
             let asked = Judged { file, log, n };
-            tell_judged(alloc, page, folder, &asked, status)
+            text_of_judged(alloc, folder, &asked, status)
         }
     }
 }
@@ -102,33 +105,35 @@ pub fn tell_files<F: Folder, A: Fn(u64, u32, u64) -> u32 + Drop>(
 /// Whether a file can be read.
 fn is_read<F: Folder>(alloc: Global, folder: &mut F, file: &str) -> Result<bool, NoMemory> {
     match read_again(alloc, folder, file, MOST_TEXT_BYTES)? {
-        Again::Bytes(_) | Again::TooLong => Ok(true),
-        Again::Unread => Ok(false),
+        Again::Bytes(_) => Ok(true),
+        Again::Lost(loss) => Ok(loss != Loss::Unread),
     }
 }
 
-/// Writes which of two files can't be read, the first one first.
-fn tell_unread_of<F: Folder>(
+/// Which of two files can't be read, the first one first.
+fn text_of_unread<F: Folder>(
     alloc: Global,
-    page: &mut Page,
     folder: &mut F,
     first: &str,
     second: &str,
-) -> Result<(), NoMemory> {
+) -> Result<Vec<u8>, NoMemory>
+    ensures { IfOk result (λ text. IsPageOf [] [] text.items) }
+{
     if is_read(alloc, folder, first)? {
-        tell_unread(page, second)
+        text_unread(alloc, second)
     } else {
-        tell_unread(page, first)
+        text_unread(alloc, first)
     }
 }
 
-/// Writes which file of the command can't be read.
-pub fn tell_read_fault<F: Folder>(
+/// Which file of the command can't be read.
+pub fn text_of_read_fault<F: Folder>(
     alloc: Global,
-    page: &mut Page,
     folder: &mut F,
     command: Command,
-) -> Result<(), NoMemory> {
+) -> Result<Vec<u8>, NoMemory>
+    ensures { IfOk result (λ text. IsPageOf [] [] text.items) }
+{
     match command {
         Command::Check(file)
         | Command::Gen(file)
@@ -137,12 +142,10 @@ pub fn tell_read_fault<F: Folder>(
         | Command::Sim(file, _)
         | Command::Expand(file)
         | Command::Strips(file)
-        | Command::Cost(file) => tell_unread(page, file),
-        Command::GenWith(file, kernels) => tell_unread_of(alloc, page, folder, file, kernels),
-        Command::Replay(text, schedule, _) => {
-            tell_unread_of(alloc, page, folder, text, schedule)
-        }
-        Command::Judge(file, log, _) => tell_unread_of(alloc, page, folder, file, log),
-        Command::Demo(_) => Ok(()),
+        | Command::Cost(file) => text_unread(alloc, file),
+        Command::GenWith(file, kernels) => text_of_unread(alloc, folder, file, kernels),
+        Command::Replay(text, schedule, _) => text_of_unread(alloc, folder, text, schedule),
+        Command::Judge(file, log, _) => text_of_unread(alloc, folder, file, log),
+        Command::Demo(_) => text_of_words(alloc, &Page::new(alloc)),
     }
 }

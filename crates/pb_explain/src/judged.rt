@@ -1,8 +1,12 @@
 //! Logs that aren't ones of their protocol.
 
-use crate::again::{Again, MOST_FILE_BYTES, read_again, tell_once};
-use crate::files::{tell_file, tell_long};
-use crate::protocol::Ask;
+ghost use Rattle.std.specs.Prelude.{IfOk};
+ghost use Rattle.pb_explain_source.specs.Pages.{IsPageOf};
+ghost use Rattle.pb_explain.specs.Told.{IsTold};
+
+use crate::again::{Again, MOST_FILE_BYTES, read_again, tell_long, tell_once, text_of_loss};
+use crate::files::text_of_file;
+use crate::protocol::{Ask, tell_protocol};
 use pb_cli_judge::line_in;
 use pb_cli_status::{Refusal, Status};
 use pb_explain_runs::{tell_beyond, tell_differs, tell_log_line};
@@ -20,86 +24,138 @@ pub struct Judged<'a> {
 }
 
 /// Writes what is wrong with a line of the log.
-fn tell_line(page: &mut Page, source: &Source, why: Refusal) -> Result<(), NoMemory> {
+fn tell_line(page: &mut Page, log: &Source, why: Refusal) -> Result<(), NoMemory> {
     match why {
-        Refusal::LogDiffers { line, rank } => tell_differs(page, source, line, rank),
-        Refusal::LogBeyond { line, rank } => tell_beyond(page, source, line, rank),
-        Refusal::LogMalformed(line) => tell_log_line(page, source, line),
+        Refusal::LogDiffers { line, rank } => tell_differs(page, line, rank),
+        Refusal::LogBeyond { line, rank } => tell_beyond(page, line, rank),
+        Refusal::LogMalformed(line) => tell_log_line(page, log, line),
         _ => Ok(()),
     }
 }
 
-/// Explains the answer to a log, where the program ends with this status for it.
-fn tell_log<F: Folder>(
+/// Writes the ruling on a log, as the program finds it in the folder, where the program ends with this status for it.
+fn tell_ruling<F: Folder>(
     alloc: Global,
     page: &mut Page,
     folder: &mut F,
     asked: &Judged,
+    log: &Source,
     status: Status,
 ) -> Result<(), NoMemory> {
-    let bytes = match read_again(alloc, folder, asked.log, MOST_TEXT_BYTES)? {
-        Again::Bytes(bytes) => bytes,
-        Again::TooLong => return Ok(()),
-        Again::Unread => return tell_once(page, asked.log),
-    };
-    let source = Source {
-        file: asked.log,
-        bytes: &bytes,
-    };
     match line_in(alloc, folder, asked.file, asked.log, asked.n) {
-        Err(why) if why.status() == status => tell_line(page, &source, why),
+        Err(why) if why.status() == status => tell_line(page, log, why),
         Err(Refusal::ReadFault) => tell_once(page, asked.file),
         _ => Ok(()),
     }
 }
 
-/// Whether the protocol file has no more bytes than it may have.
-fn is_short<F: Folder>(alloc: Global, folder: &mut F, asked: &Judged) -> Result<bool, NoMemory> {
-    match read_again(alloc, folder, asked.file, MOST_FILE_BYTES)? {
-        Again::Bytes(_) => Ok(true),
-        Again::TooLong | Again::Unread => Ok(false),
+/// What is told of a log of these bytes.
+fn text_of_ruling<F: Folder>(
+    alloc: Global,
+    folder: &mut F,
+    asked: &Judged,
+    log: &Source,
+    status: Status,
+) -> Result<Vec<u8>, NoMemory>
+    ensures { IfOk result (λ text. IsPageOf log.now.file.now log.now.bytes.now text.items) }
+{
+    let mut page = Page::new(alloc);
+    tell_ruling(alloc, &mut page, folder, asked, log, status)?;
+    page.text(alloc, log)
+}
+
+/// What is told of a log.
+#[tactic(auto, using(crate::proofs::Pages::of_file, crate::proofs::Pages::of_words))]
+fn text_of_log<F: Folder>(
+    alloc: Global,
+    folder: &mut F,
+    asked: &Judged,
+    status: Status,
+) -> Result<Vec<u8>, NoMemory>
+    ensures { IfOk result (λ text. IsTold (F.holds folder.old) text.items) }
+{
+    // The bytes that are told of are those before the folder is used again.
+    match read_again(alloc, folder, asked.log, MOST_TEXT_BYTES)? {
+        Again::Bytes(bytes) => {
+            let source = Source {
+                file: asked.log,
+                bytes: &bytes,
+            };
+            text_of_ruling(alloc, folder, asked, &source, status)
+        }
+        Again::Lost(loss) => text_of_loss(alloc, asked.log, loss, status),
     }
 }
 
-/// Whether the log has more bytes than it may have, and the protocol file hasn't.
-fn is_long_log<F: Folder>(alloc: Global, folder: &mut F, asked: &Judged) -> Result<bool, NoMemory> {
+/// Whether the log has more bytes than it may have. The protocol file hasn't.
+fn is_long_log<F: Folder>(alloc: Global, folder: &mut F, asked: &Judged) -> bool {
     match line_in(alloc, folder, asked.file, asked.log, asked.n) {
-        Err(Refusal::FileBytes) => is_short(alloc, folder, asked),
-        _ => Ok(false),
+        Err(Refusal::FileBytes) => true,
+        _ => false,
     }
 }
 
-/// Explains a limit: that on the log's bytes, or else one of the protocol or of its ranks.
+/// Writes which limit is passed: that on the log's bytes, or else one of the protocol or of its ranks.
 fn tell_limits<F: Folder>(
     alloc: Global,
     page: &mut Page,
     folder: &mut F,
     asked: &Judged,
+    protocol: &Source,
 ) -> Result<(), NoMemory> {
-    if is_long_log(alloc, folder, asked)? {
+    if is_long_log(alloc, folder, asked) {
         return tell_long(page, asked.log);
     }
-    tell_file(
-        alloc,
-        page,
-        folder,
-        asked.file,
-        Status::Limit,
-        Ask::Judge(asked.n),
-    )
+    tell_protocol(alloc, page, protocol, Status::Limit, Ask::Judge(asked.n))
 }
 
-/// Explains why the log in a file isn't ruled to be one of the protocol in another.
-pub fn tell_judged<F: Folder>(
+/// What is told of a limit, where the protocol has these bytes.
+fn text_of_excess<F: Folder>(
     alloc: Global,
-    page: &mut Page,
+    folder: &mut F,
+    asked: &Judged,
+    protocol: &Source,
+) -> Result<Vec<u8>, NoMemory>
+    ensures { IfOk result (λ text. IsPageOf protocol.now.file.now protocol.now.bytes.now text.items) }
+{
+    let mut page = Page::new(alloc);
+    tell_limits(alloc, &mut page, folder, asked, protocol)?;
+    page.text(alloc, protocol)
+}
+
+/// What is told of a limit.
+#[tactic(auto, using(crate::proofs::Pages::of_file, crate::proofs::Pages::of_words))]
+fn text_of_limits<F: Folder>(
+    alloc: Global,
+    folder: &mut F,
+    asked: &Judged,
+) -> Result<Vec<u8>, NoMemory>
+    ensures { IfOk result (λ text. IsTold (F.holds folder.old) text.items) }
+{
+    match read_again(alloc, folder, asked.file, MOST_FILE_BYTES)? {
+        Again::Bytes(bytes) => {
+            let source = Source {
+                file: asked.file,
+                bytes: &bytes,
+            };
+            text_of_excess(alloc, folder, asked, &source)
+        }
+        Again::Lost(loss) => text_of_loss(alloc, asked.file, loss, Status::Limit),
+    }
+}
+
+/// What is told of a protocol file and a log.
+pub fn text_of_judged<F: Folder>(
+    alloc: Global,
     folder: &mut F,
     asked: &Judged,
     status: Status,
-) -> Result<(), NoMemory> {
+) -> Result<Vec<u8>, NoMemory>
+    ensures { IfOk result (λ text. IsTold (F.holds folder.old) text.items) }
+{
     match status {
-        Status::NotCovered | Status::Log => tell_log(alloc, page, folder, asked, status),
-        Status::Limit => tell_limits(alloc, page, folder, asked),
-        _ => tell_file(alloc, page, folder, asked.file, status, Ask::Judge(asked.n)),
+        Status::NotCovered | Status::Log => text_of_log(alloc, folder, asked, status),
+        Status::Limit => text_of_limits(alloc, folder, asked),
+        _ => text_of_file(alloc, folder, asked.file, status, Ask::Judge(asked.n)),
     }
 }

@@ -1,7 +1,11 @@
 //! Answers to a protocol file with a kernel file.
 
-use crate::again::{Again, MOST_FILE_BYTES, read_again, tell_once};
-use crate::files::tell_long;
+ghost use Rattle.std.specs.Prelude.{IfOk};
+ghost use Rattle.pb_io.specs.Files.{IsContent};
+ghost use Rattle.pb_explain_source.specs.Pages.{IsPageOf};
+ghost use Rattle.pb_explain.specs.Told.{IsTold};
+
+use crate::again::{Again, MOST_FILE_BYTES, read_again, text_of_loss};
 use crate::protocol::warn;
 use crate::verdict::tell_refused;
 use pb_cli_status::Status;
@@ -34,68 +38,87 @@ fn tell_misfit(
     }
 }
 
-/// Reads the kernel file, and writes why it doesn't fit.
-fn tell_kernel_file<F: Folder>(
+/// What is told of a kernel file.
+fn text_of_misfit(
     alloc: Global,
-    page: &mut Page,
+    protocol: &[u8],
+    kernels: &Source,
+    status: Status,
+) -> Result<Vec<u8>, NoMemory>
+    ensures { IfOk result (λ text. IsPageOf kernels.now.file.now kernels.now.bytes.now text.items) }
+{
+    let mut page = Page::new(alloc);
+    if status == Status::Kernel {
+        tell_misfit(alloc, &mut page, protocol, kernels)?;
+    }
+    page.text(alloc, kernels)
+}
+
+/// Reads the kernel file, and tells why it doesn't fit.
+#[tactic(auto, using(crate::proofs::Pages::of_file, crate::proofs::Pages::of_words))]
+fn text_of_kernels<F: Folder>(
+    alloc: Global,
     folder: &mut F,
     protocol: &[u8],
     kernels: &str,
     status: Status,
-) -> Result<(), NoMemory> {
+) -> Result<Vec<u8>, NoMemory>
+    ensures { IfOk result (λ text. IsTold (F.holds folder.old) text.items) }
+{
     match read_again(alloc, folder, kernels, MOST_FILE_BYTES)? {
-        Again::Bytes(bytes) if status == Status::Kernel => {
+        Again::Bytes(bytes) => {
             let source = Source {
                 file: kernels,
                 bytes: &bytes,
             };
-            tell_misfit(alloc, page, protocol, &source)
+            text_of_misfit(alloc, protocol, &source, status)
         }
-        Again::Bytes(_) => Ok(()),
-        Again::TooLong if status == Status::Limit => tell_long(page, kernels),
-        Again::TooLong => Ok(()),
-        Again::Unread => tell_once(page, kernels),
+        Again::Lost(loss) => text_of_loss(alloc, kernels, loss, status),
     }
 }
 
-/// Explains the answer to a protocol of these bytes with a kernel file.
-fn tell_both<F: Folder>(
+/// What is told of a protocol of these bytes with a kernel file.
+#[tactic(auto, using(crate::proofs::Pages::of_file, crate::proofs::Pages::of_same))]
+fn text_of_both<F: Folder>(
     alloc: Global,
-    page: &mut Page,
     folder: &mut F,
     protocol: &Source,
     kernels: &str,
     status: Status,
-) -> Result<(), NoMemory> {
+) -> Result<Vec<u8>, NoMemory>
+    requires { IsContent (F.holds folder.old) protocol.now.file.now protocol.now.bytes.now }
+    ensures { IfOk result (λ text. IsTold (F.holds folder.old) text.items) }
+{
+    let mut page = Page::new(alloc);
     if status == Status::Done {
-        return warn(alloc, page, protocol);
+        warn(alloc, &mut page, protocol)?;
+        return page.text(alloc, protocol);
     }
-    if tell_refused(alloc, page, protocol, status)? {
-        return Ok(());
+    if tell_refused(alloc, &mut page, protocol, status)? {
+        return page.text(alloc, protocol);
     }
-    tell_kernel_file(alloc, page, folder, protocol.bytes, kernels, status)
+    text_of_kernels(alloc, folder, protocol.bytes, kernels, status)
 }
 
-/// Explains the answer to a protocol file with a kernel file.
-pub fn tell_merge<F: Folder>(
+/// What is told of a protocol file with a kernel file.
+#[tactic(auto, using(crate::proofs::Pages::of_file, crate::proofs::Pages::of_words, crate::proofs::Pages::of_same))]
+pub fn text_of_merge<F: Folder>(
     alloc: Global,
-    page: &mut Page,
     folder: &mut F,
     file: &str,
     kernels: &str,
     status: Status,
-) -> Result<(), NoMemory> {
+) -> Result<Vec<u8>, NoMemory>
+    ensures { IfOk result (λ text. IsTold (F.holds folder.old) text.items) }
+{
     match read_again(alloc, folder, file, MOST_FILE_BYTES)? {
         Again::Bytes(bytes) => {
             let source = Source {
                 file,
                 bytes: &bytes,
             };
-            tell_both(alloc, page, folder, &source, kernels, status)
+            text_of_both(alloc, folder, &source, kernels, status)
         }
-        Again::TooLong if status == Status::Limit => tell_long(page, file),
-        Again::TooLong => Ok(()),
-        Again::Unread if status == Status::Done => Ok(()),
-        Again::Unread => tell_once(page, file),
+        Again::Lost(loss) => text_of_loss(alloc, file, loss, status),
     }
 }

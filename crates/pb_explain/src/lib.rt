@@ -12,6 +12,7 @@ mod entry;
 mod files;
 mod judged;
 mod kernels;
+mod named;
 mod played;
 mod protocol;
 mod running;

@@ -9,7 +9,7 @@ use pb_cli_simulate::Schedule;
 use pb_cli_words::{Options, Shown};
 use pb_ctree::CTree;
 use pb_explain_runs::{help_no_step, tell_no_rank, tell_no_step};
-use pb_explain_source::{NoMemory, Page, Source};
+use pb_explain_source::{NoMemory, Page};
 use pb_explain_waits::{Heard, Standstill, causes_of, seats_of, tell_standstill, value};
 use pb_sim::{Answers, Cause, Sim};
 use pb_sim_play::{Ending, simulate_by_schedule, simulate_by_seed};
@@ -29,7 +29,6 @@ fn causes_in<A: Fn(u64, u32, u64) -> u32 + Drop>(
 /// Writes why the event with this number, from 0, has no step.
 fn tell_refused(
     page: &mut Page,
-    source: &Source,
     schedule: &Schedule,
     n: i64,
     at: u32,
@@ -41,9 +40,9 @@ fn tell_refused(
     let line = at.saturating_add(3);
     let ranks = i64::try_from(it.causes.len()).unwrap_or(i64::MAX);
     if i64::from(turn.rank) >= ranks {
-        tell_no_rank(page, source, line, turn.rank, n, ranks)?;
+        tell_no_rank(page, line, turn.rank, n, ranks)?;
     } else {
-        tell_no_step(page, source, line, turn.rank)?;
+        tell_no_step(page, line, turn.rank)?;
         it.note_rank(page, turn.rank)?;
     }
     help_no_step(page)
@@ -114,7 +113,6 @@ pub fn tell_by_schedule<A: Fn(u64, u32, u64) -> u32 + Drop>(
     alloc: Global,
     page: &mut Page,
     file: &str,
-    source: &Source,
     n: i64,
     tree: CTree,
     schedule: &Schedule,
@@ -140,7 +138,7 @@ pub fn tell_by_schedule<A: Fn(u64, u32, u64) -> u32 + Drop>(
     };
     match ending {
         Ending::Stuck { rank, cause } => tell_standstill(alloc, page, &it, rank, cause),
-        Ending::Refused(at) => tell_refused(page, source, schedule, n, at, &it),
+        Ending::Refused(at) => tell_refused(page, schedule, n, at, &it),
         Ending::Ended | Ending::Turns | Ending::Full | Ending::NoMemory | Ending::WriteFault => Ok(
             (),
         ),

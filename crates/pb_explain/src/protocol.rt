@@ -1,5 +1,8 @@
 //! Answers to a protocol file.
 
+ghost use Rattle.std.specs.Prelude.{IfOk};
+ghost use Rattle.pb_explain_source.specs.Pages.{IsPageOf};
+
 use crate::running::{tell_many, tell_values};
 use crate::verdict::{tell_refused, tree_of};
 use pb_cli_status::Status;
@@ -23,7 +26,7 @@ pub enum Ask {
 /// Writes the warnings on an accepted protocol.
 pub fn warn(alloc: Global, page: &mut Page, source: &Source) -> Result<(), NoMemory> {
     match tree_of(alloc, source.bytes)? {
-        Some(file) => tell_warnings(page, source, &file),
+        Some(file) => tell_warnings(page, &file),
         None => Ok(()),
     }
 }
@@ -45,7 +48,7 @@ fn tell_limits(alloc: Global, page: &mut Page, source: &Source, ask: Ask) -> Res
 /// Explains that N isn't in the protocol's range.
 fn tell_range(alloc: Global, page: &mut Page, source: &Source, n: u32) -> Result<(), NoMemory> {
     match tree_of(alloc, source.bytes)? {
-        Some(file) => tell_values(alloc, page, source, &file, i64::from(n)),
+        Some(file) => tell_values(alloc, page, &file, i64::from(n)),
         None => Ok(()),
     }
 }
@@ -80,23 +83,35 @@ fn tell_at(
 }
 
 /// Explains the answer to a protocol of these bytes.
-pub fn tell_protocol<'x>(
+pub fn tell_protocol(
     alloc: Global,
     page: &mut Page,
-    file: &'x str,
-    bytes: &'x [u8],
+    source: &Source,
     status: Status,
     ask: Ask,
 ) -> Result<(), NoMemory> {
-    let source = Source { file, bytes };
     match status {
-        Status::Done => warn(alloc, page, &source),
+        Status::Done => warn(alloc, page, source),
         Status::Refused => {
-            let _refused = tell_refused(alloc, page, &source, status)?;
+            let _refused = tell_refused(alloc, page, source, status)?;
             Ok(())
         }
-        Status::Limit => tell_limits(alloc, page, &source, ask),
-        Status::Turns | Status::OutOfRange => tell_at(alloc, page, &source, status, ask),
+        Status::Limit => tell_limits(alloc, page, source, ask),
+        Status::Turns | Status::OutOfRange => tell_at(alloc, page, source, status, ask),
         _ => Ok(()),
     }
+}
+
+/// What is told of a protocol file.
+pub fn text_of_protocol(
+    alloc: Global,
+    source: &Source,
+    status: Status,
+    ask: Ask,
+) -> Result<Vec<u8>, NoMemory>
+    ensures { IfOk result (λ text. IsPageOf source.now.file.now source.now.bytes.now text.items) }
+{
+    let mut page = Page::new(alloc);
+    tell_protocol(alloc, &mut page, source, status, ask)?;
+    page.text(alloc, source)
 }

@@ -34,12 +34,11 @@ fn counts_of(alloc: Global, file: &FileTree, n: i64) -> Result<Vec<Count>, NoMem
 pub fn tell_values(
     alloc: Global,
     page: &mut Page,
-    source: &Source,
     file: &FileTree,
     n: i64,
 ) -> Result<(), NoMemory> {
     let counts = counts_of(alloc, file, Values::of(file).nearest(n))?;
-    tell_outside(page, source, file, n, counts.as_slice())
+    tell_outside(page, file, n, counts.as_slice())
 }
 
 /// Writes which limit a simulation of a protocol passes: that on ranks, or else that on words under way.
@@ -99,13 +98,12 @@ fn values_in(tree: &CTree) -> Values {
 pub fn tell_values_in(
     alloc: Global,
     page: &mut Page,
-    source: &Source,
     tree: &CTree,
     n: i64,
 ) -> Result<(), NoMemory> {
     let values = values_in(tree);
     let counts = counts_in(alloc, tree, values.nearest(n))?;
-    tell_outside_text(page, source, values, n, counts.as_slice())
+    tell_outside_text(page, values, n, counts.as_slice())
 }
 
 /// Writes which limit a simulation of a text passes: that on ranks, or else that on words under way.

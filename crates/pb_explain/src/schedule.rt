@@ -1,9 +1,12 @@
 //! Answers to a C text with a schedule.
 
+ghost use Rattle.std.specs.Prelude.{IfOk};
 ghost use Rattle.pb_ctree.specs.Trees.{IsTree};
+ghost use Rattle.pb_io.specs.Files.{IsContent};
+ghost use Rattle.pb_explain_source.specs.Pages.{IsPageOf};
+ghost use Rattle.pb_explain.specs.Told.{IsTold};
 
-use crate::again::{Again, read_again, tell_once};
-use crate::files::tell_long;
+use crate::again::{Again, read_again, text_of_loss};
 use crate::played::tell_by_schedule;
 use crate::running::{tell_many_in, tell_values_in};
 use crate::text::tell_no_text;
@@ -42,12 +45,12 @@ fn tell_no_schedule(
     }
 }
 
-/// Explains the answer to a tree with the schedule of these bytes.
+/// Explains the answer to a tree with a schedule.
 fn tell_schedule<A: Fn(u64, u32, u64) -> u32 + Drop>(
     alloc: Global,
     page: &mut Page,
     asked: &Replay,
-    bytes: &[u8],
+    source: &Source,
     tree: CTree,
     status: Status,
     answers: A,
@@ -55,18 +58,13 @@ fn tell_schedule<A: Fn(u64, u32, u64) -> u32 + Drop>(
     requires callable { A.IsAlwaysCallable answers }
     requires tree { IsTree tree }
 {
-    let source = Source {
-        file: asked.schedule,
-        bytes,
-    };
-    match read_turns(alloc, bytes) {
+    match read_turns(alloc, source.bytes) {
         Ok(schedule) => match status {
             Status::Turns => tell_events(page, asked.schedule),
             Status::Schedule | Status::Stuck => tell_by_schedule(
                 alloc,
                 page,
                 asked.text,
-                &source,
                 i64::from(asked.n),
                 tree,
                 &schedule,
@@ -74,64 +72,117 @@ fn tell_schedule<A: Fn(u64, u32, u64) -> u32 + Drop>(
             ),
             _ => Ok(()),
         },
-        Err(refusal) => tell_no_schedule(page, &source, refusal, status),
+        Err(refusal) => tell_no_schedule(page, source, refusal, status),
     }
 }
 
-/// Explains the answer to a tree and a schedule.
-fn tell_tree<F: Folder, A: Fn(u64, u32, u64) -> u32 + Drop>(
+/// What is told of a schedule, for a tree.
+fn text_of_schedule<A: Fn(u64, u32, u64) -> u32 + Drop>(
     alloc: Global,
-    page: &mut Page,
+    asked: &Replay,
+    source: &Source,
+    tree: CTree,
+    status: Status,
+    answers: A,
+) -> Result<Vec<u8>, NoMemory>
+    requires callable { A.IsAlwaysCallable answers }
+    requires tree { IsTree tree }
+    ensures { IfOk result (λ text. IsPageOf source.now.file.now source.now.bytes.now text.items) }
+{
+    let mut page = Page::new(alloc);
+    tell_schedule(alloc, &mut page, asked, source, tree, status, answers)?;
+    page.text(alloc, source)
+}
+
+/// What is told of a C text that isn't for this N, or whose simulation is too large.
+fn text_of_bounds(
+    alloc: Global,
+    text: &Source,
+    tree: &CTree,
+    n: i64,
+    status: Status,
+) -> Result<Vec<u8>, NoMemory>
+    ensures { IfOk result (λ page. IsPageOf text.now.file.now text.now.bytes.now page.items) }
+{
+    let mut page = Page::new(alloc);
+    if status == Status::OutOfRange {
+        tell_values_in(alloc, &mut page, tree, n)?;
+    } else {
+        tell_many_in(alloc, &mut page, text, tree, n)?;
+    }
+    page.text(alloc, text)
+}
+
+/// What is told of a tree and a schedule.
+#[tactic(auto, using(crate::proofs::Pages::of_file, crate::proofs::Pages::of_words, crate::proofs::Pages::of_same))]
+fn text_of_tree<F: Folder, A: Fn(u64, u32, u64) -> u32 + Drop>(
+    alloc: Global,
     folder: &mut F,
     asked: &Replay,
     text: &Source,
     tree: CTree,
     status: Status,
     answers: A,
-) -> Result<(), NoMemory>
+) -> Result<Vec<u8>, NoMemory>
     requires callable { A.IsAlwaysCallable answers }
     requires tree { IsTree tree }
+    requires content { IsContent (F.holds folder.old) text.now.file.now text.now.bytes.now }
+    ensures { IfOk result (λ page. IsTold (F.holds folder.old) page.items) }
 {
     let n = i64::from(asked.n);
     if status == Status::OutOfRange {
-        return tell_values_in(alloc, page, text, &tree, n);
+        return text_of_bounds(alloc, text, &tree, n, status);
     }
     let bytes = match read_again(alloc, folder, asked.schedule, MOST_TEXT_BYTES)? {
         Again::Bytes(bytes) => bytes,
-        Again::TooLong if status == Status::Limit => return tell_long(page, asked.schedule),
-        Again::TooLong => return Ok(()),
-        Again::Unread => return tell_once(page, asked.schedule),
+        Again::Lost(loss) => return text_of_loss(alloc, asked.schedule, loss, status),
     };
     if status == Status::Limit && read_turns(alloc, &bytes).is_ok() {
-        return tell_many_in(alloc, page, text, &tree, n);
+        return text_of_bounds(alloc, text, &tree, n, status);
     }
-    tell_schedule(alloc, page, asked, &bytes, tree, status, answers)
+    let source = Source {
+        file: asked.schedule,
+        bytes: &bytes,
+    };
+    text_of_schedule(alloc, asked, &source, tree, status, answers)
 }
 
-/// Explains the answer to a C text with a schedule.
-#[tactic(auto, using(pb_cli_simulate::proofs::Taken::made))]
-pub fn tell_replay<F: Folder, A: Fn(u64, u32, u64) -> u32 + Drop>(
+/// What is told of a C text of these bytes that isn't one.
+fn text_of_no_text(
     alloc: Global,
-    page: &mut Page,
+    text: &Source,
+    refusal: Refusal,
+    status: Status,
+) -> Result<Vec<u8>, NoMemory>
+    ensures { IfOk result (λ page. IsPageOf text.now.file.now text.now.bytes.now page.items) }
+{
+    let mut page = Page::new(alloc);
+    tell_no_text(alloc, &mut page, text, refusal, status)?;
+    page.text(alloc, text)
+}
+
+/// What is told of the file of a C text and a schedule.
+#[tactic(auto, using(crate::proofs::Pages::of_file, crate::proofs::Pages::of_words, pb_cli_simulate::proofs::Taken::made, crate::proofs::Pages::of_same))]
+pub fn text_of_replay<F: Folder, A: Fn(u64, u32, u64) -> u32 + Drop>(
+    alloc: Global,
     folder: &mut F,
     asked: &Replay,
     status: Status,
     answers: A,
-) -> Result<(), NoMemory>
+) -> Result<Vec<u8>, NoMemory>
     requires { A.IsAlwaysCallable answers }
+    ensures { IfOk result (λ page. IsTold (F.holds folder.old) page.items) }
 {
     let bytes = match read_again(alloc, folder, asked.text, MOST_TEXT_BYTES)? {
         Again::Bytes(bytes) => bytes,
-        Again::TooLong if status == Status::Limit => return tell_long(page, asked.text),
-        Again::TooLong => return Ok(()),
-        Again::Unread => return tell_once(page, asked.text),
+        Again::Lost(loss) => return text_of_loss(alloc, asked.text, loss, status),
     };
     let source = Source {
         file: asked.text,
         bytes: &bytes,
     };
     match read_text(alloc, &bytes) {
-        Ok(tree) => tell_tree(alloc, page, folder, asked, &source, tree, status, answers),
-        Err(refusal) => tell_no_text(alloc, page, &source, refusal, status),
+        Ok(tree) => text_of_tree(alloc, folder, asked, &source, tree, status, answers),
+        Err(refusal) => text_of_no_text(alloc, &source, refusal, status),
     }
 }

@@ -1,9 +1,11 @@
 //! Answers to a C text.
 
+ghost use Rattle.std.specs.Prelude.{IfOk};
 ghost use Rattle.pb_ctree.specs.Trees.{IsTree};
+ghost use Rattle.pb_explain_source.specs.Pages.{IsPageOf};
+ghost use Rattle.pb_explain.specs.Told.{IsTold};
 
-use crate::again::{Again, read_again, tell_once};
-use crate::files::tell_long;
+use crate::again::{Again, read_again, text_of_loss};
 use crate::played::tell_by_seed;
 use crate::running::{tell_many_in, tell_values_in};
 use pb_cli_simulate::read_text;
@@ -51,7 +53,7 @@ fn tell_simulation<A: Fn(u64, u32, u64) -> u32 + Drop>(
 {
     match status {
         Status::Limit => tell_many_in(alloc, page, source, &tree, i64::from(options.n)),
-        Status::OutOfRange => tell_values_in(alloc, page, source, &tree, i64::from(options.n)),
+        Status::OutOfRange => tell_values_in(alloc, page, &tree, i64::from(options.n)),
         Status::Turns => tell_turns(page, source.file, u64::from(options.turns)),
         Status::Stuck => tell_by_seed(alloc, page, source.file, tree, options, answers),
         Status::Done
@@ -71,31 +73,47 @@ fn tell_simulation<A: Fn(u64, u32, u64) -> u32 + Drop>(
     }
 }
 
-/// Explains the answer to a C text.
+/// What is told of a C text.
 #[tactic(auto, using(pb_cli_simulate::proofs::Taken::made))]
-pub fn tell_text<F: Folder, A: Fn(u64, u32, u64) -> u32 + Drop>(
+fn text_of_source<A: Fn(u64, u32, u64) -> u32 + Drop>(
     alloc: Global,
-    page: &mut Page,
+    source: &Source,
+    status: Status,
+    options: Options,
+    answers: A,
+) -> Result<Vec<u8>, NoMemory>
+    requires { A.IsAlwaysCallable answers }
+    ensures { IfOk result (λ text. IsPageOf source.now.file.now source.now.bytes.now text.items) }
+{
+    let mut page = Page::new(alloc);
+    match read_text(alloc, source.bytes) {
+        Ok(tree) => tell_simulation(alloc, &mut page, source, tree, status, options, answers)?,
+        Err(refusal) => tell_no_text(alloc, &mut page, source, refusal, status)?,
+    }
+    page.text(alloc, source)
+}
+
+/// What is told of the file of a C text.
+#[tactic(auto, using(crate::proofs::Pages::of_file, crate::proofs::Pages::of_words))]
+pub fn text_of_text<F: Folder, A: Fn(u64, u32, u64) -> u32 + Drop>(
+    alloc: Global,
     folder: &mut F,
     file: &str,
     status: Status,
     options: Options,
     answers: A,
-) -> Result<(), NoMemory>
+) -> Result<Vec<u8>, NoMemory>
     requires { A.IsAlwaysCallable answers }
+    ensures { IfOk result (λ text. IsTold (F.holds folder.old) text.items) }
 {
-    let bytes = match read_again(alloc, folder, file, MOST_TEXT_BYTES)? {
-        Again::Bytes(bytes) => bytes,
-        Again::TooLong if status == Status::Limit => return tell_long(page, file),
-        Again::TooLong => return Ok(()),
-        Again::Unread => return tell_once(page, file),
-    };
-    let source = Source {
-        file,
-        bytes: &bytes,
-    };
-    match read_text(alloc, &bytes) {
-        Ok(tree) => tell_simulation(alloc, page, &source, tree, status, options, answers),
-        Err(refusal) => tell_no_text(alloc, page, &source, refusal, status),
+    match read_again(alloc, folder, file, MOST_TEXT_BYTES)? {
+        Again::Bytes(bytes) => {
+            let source = Source {
+                file,
+                bytes: &bytes,
+            };
+            text_of_source(alloc, &source, status, options, answers)
+        }
+        Again::Lost(loss) => text_of_loss(alloc, file, loss, status),
     }
 }

@@ -55,7 +55,7 @@ fn tokens_of(alloc: Global, bytes: &[u8]) -> Result<Option<Vec<Token>>, NoMemory
 fn tell_lexical(page: &mut Page, source: &Source, error: LexError) -> Result<(), NoMemory> {
     match error {
         LexError::BadByte(place) => tell_byte(page, source, place),
-        LexError::OpenComment(place) => tell_comment(page, source, place),
+        LexError::OpenComment(place) => tell_comment(page, place),
         LexError::NumberTooLarge(place) => {
             tell_limit(page, source, Quantity::NumberSize, Some(place))
         }
@@ -72,7 +72,7 @@ fn tell_unexpected(
     place: Place,
 ) -> Result<(), NoMemory> {
     match tokens_of(alloc, source.bytes)? {
-        Some(tokens) => tell_syntax(alloc, page, source, tokens.as_slice(), place),
+        Some(tokens) => tell_syntax(alloc, page, tokens.as_slice(), place),
         None => Ok(()),
     }
 }
@@ -89,7 +89,6 @@ struct Breach {
 fn tell_setting(
     alloc: Global,
     page: &mut Page,
-    source: &Source,
     setting: &Setting,
     breach: Breach,
 ) -> Result<(), NoMemory> {
@@ -97,14 +96,13 @@ fn tell_setting(
         (10 | 11 | 12, Some((role, index))) => tell_choice_rule(
             alloc,
             page,
-            source,
             setting,
             breach.rule,
             breach.place,
             role,
             index,
         ),
-        (rule, at) => tell_rank_rule(alloc, page, source, setting, rule, breach.place, at),
+        (rule, at) => tell_rank_rule(alloc, page, setting, rule, breach.place, at),
     }
 }
 
@@ -118,10 +116,10 @@ fn tell_broken(
         return Ok(());
     };
     match breach.n {
-        None => tell_file_rule(alloc, page, source, &file, breach.rule, breach.place),
+        None => tell_file_rule(alloc, page, &file, breach.rule, breach.place),
         Some(n) => {
             let setting = Setting { file: &file, n };
-            tell_setting(alloc, page, source, &setting, breach)
+            tell_setting(alloc, page, &setting, breach)
         }
     }
 }

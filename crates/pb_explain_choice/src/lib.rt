@@ -11,5 +11,5 @@ mod scope;
 mod seat;
 mod tell;
 
-pub use pb_explain_source::{NoMemory, Page, Place, Source};
+pub use pb_explain_source::{NoMemory, Page, Place};
 pub use rule::tell_choice_rule;

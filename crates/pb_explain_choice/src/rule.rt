@@ -4,7 +4,7 @@ use crate::scope::{Open, loops_on};
 use crate::seat::Seat;
 use crate::tell::{tell_labels, tell_nothing, tell_other, tell_sources};
 use pb_explain_ranks::Setting;
-use pb_explain_source::{Page, Source};
+use pb_explain_source::Page;
 use pb_explain_tree::path_to;
 use pb_syntax::{Block, End, Statement};
 use pb_text::{Name, NoMemory, Place};
@@ -79,7 +79,6 @@ fn other(found: &[Found]) -> Option<Found> {
 fn tell_ten(
     alloc: Global,
     page: &mut Page,
-    source: &Source,
     seat: &Seat,
     place: Place,
     chooser: &End,
@@ -88,10 +87,10 @@ fn tell_ten(
     loops: &mut Vec<Open>,
 ) -> Result<(), NoMemory> {
     match other(here) {
-        Some(found) => tell_other(page, source, seat, place, chooser, &found),
+        Some(found) => tell_other(page, seat, place, chooser, &found),
         None => {
             let elsewhere = found_elsewhere(alloc, branches, seat, loops)?;
-            tell_nothing(page, source, seat, place, chooser, elsewhere.as_ref())
+            tell_nothing(page, seat, place, chooser, elsewhere.as_ref())
         }
     }
 }
@@ -99,7 +98,6 @@ fn tell_ten(
 fn tell_eleven(
     alloc: Global,
     page: &mut Page,
-    source: &Source,
     seat: &Seat,
     place: Place,
     branches: &[Block],
@@ -108,7 +106,7 @@ fn tell_eleven(
 ) -> Result<(), NoMemory> {
     let mut all = found_before(alloc, branches, place, seat, loops)?;
     let _is_open = firsts_in(branch, seat, loops, &mut all)?;
-    tell_sources(page, source, seat, place, all.as_slice())
+    tell_sources(page, seat, place, all.as_slice())
 }
 
 /// Writes why the branch that opens at the place breaks this rule, one from 10 to 12, at the N of the setting for this rank.
@@ -116,7 +114,6 @@ fn tell_eleven(
 pub fn tell_choice_rule(
     alloc: Global,
     page: &mut Page,
-    source: &Source,
     setting: &Setting,
     rule: u8,
     place: Place,
@@ -144,7 +141,6 @@ pub fn tell_choice_rule(
         10 => tell_ten(
             alloc,
             page,
-            source,
             &seat,
             place,
             at,
@@ -152,19 +148,10 @@ pub fn tell_choice_rule(
             here.as_slice(),
             &mut loops,
         ),
-        11 => tell_eleven(
-            alloc, page, source, &seat, place, branches, branch, &mut loops,
-        ),
+        11 => tell_eleven(alloc, page, &seat, place, branches, branch, &mut loops),
         12 => {
             let before = found_before(alloc, branches, place, &seat, &mut loops)?;
-            tell_labels(
-                page,
-                source,
-                &seat,
-                place,
-                before.as_slice(),
-                here.as_slice(),
-            )
+            tell_labels(page, &seat, place, before.as_slice(), here.as_slice())
         }
         _ => Ok(()),
     }

@@ -3,7 +3,7 @@
 use crate::found::{Deed, Found, From};
 use crate::seat::Seat;
 use pb_explain_ranks::say_rank;
-use pb_explain_source::{Page, Part, Source};
+use pb_explain_source::{Page, Part};
 use pb_explain_tree::is_same;
 use pb_syntax::End;
 use pb_text::{NoMemory, Place};
@@ -34,14 +34,8 @@ fn say_deed(page: &mut Page, found: &Found) -> Result<(), NoMemory> {
 }
 
 /// The beginning of each message: the rule, N and the rank.
-fn begin(
-    page: &mut Page,
-    source: &Source,
-    seat: &Seat,
-    place: Place,
-    rule: u8,
-) -> Result<(), NoMemory> {
-    page.open(source, place)?;
+fn begin(page: &mut Page, seat: &Seat, place: Place, rule: u8) -> Result<(), NoMemory> {
+    page.open(place)?;
     page.say(&[
         Part::Text("rule "),
         Part::Number(i64::from(rule)),
@@ -73,35 +67,33 @@ fn say_from(page: &mut Page, from: &From) -> Result<(), NoMemory> {
 /// Points at what the rank does first somewhere.
 fn note_found(
     page: &mut Page,
-    source: &Source,
     seat: &Seat,
     found: &Found,
     front: &'static str,
 ) -> Result<(), NoMemory> {
-    page.open(source, found.place)?;
+    page.open(found.place)?;
     page.say(&[Part::Text("note: "), Part::Text(front)])?;
     say_seat(page, seat)?;
     say_deed(page, found)?;
     if let Some(from) = &found.source {
         say_from(page, from)?;
     }
-    page.close(source, found.place)
+    page.close(found.place)
 }
 
 /// The rank finds something else than a message in this branch.
 pub fn tell_other(
     page: &mut Page,
-    source: &Source,
     seat: &Seat,
     place: Place,
     chooser: &End,
     found: &Found,
 ) -> Result<(), NoMemory> {
-    begin(page, source, seat, place, 10)?;
+    begin(page, seat, place, 10)?;
     page.say(&[Part::Text(" isn't told of this branch before it ")])?;
     say_deed(page, found)?;
-    page.close(source, place)?;
-    note_found(page, source, seat, found, "in this branch ")?;
+    page.close(place)?;
+    note_found(page, seat, found, "in this branch ")?;
     page.help(&[
         Part::Text("let it receive a message first, such as one from the chooser, `"),
         Part::End(chooser),
@@ -112,19 +104,18 @@ pub fn tell_other(
 /// The rank finds nothing in this branch, and something in another.
 pub fn tell_nothing(
     page: &mut Page,
-    source: &Source,
     seat: &Seat,
     place: Place,
     chooser: &End,
     elsewhere: Option<&Found>,
 ) -> Result<(), NoMemory> {
-    begin(page, source, seat, place, 10)?;
+    begin(page, seat, place, 10)?;
     page.say(&[Part::Text(
         " isn't told of this branch: no message reaches it here, and it takes part in another branch",
     )])?;
-    page.close(source, place)?;
+    page.close(place)?;
     if let Some(found) = elsewhere {
-        note_found(page, source, seat, found, "in another branch ")?;
+        note_found(page, seat, found, "in another branch ")?;
     }
     page.help(&[
         Part::Text("send it a message in this branch too, such as one from the chooser, `"),
@@ -170,7 +161,6 @@ fn two_sources(found: &[Found]) -> Option<(Found, Found)> {
 /// The rank hears from two ranks.
 pub fn tell_sources(
     page: &mut Page,
-    source: &Source,
     seat: &Seat,
     place: Place,
     found: &[Found],
@@ -178,13 +168,13 @@ pub fn tell_sources(
     let Some((first, second)) = two_sources(found) else {
         return Ok(());
     };
-    begin(page, source, seat, place, 11)?;
+    begin(page, seat, place, 11)?;
     page.say(&[Part::Text(
         " would be told of this choice by two ranks, and can't tell from which to receive first",
     )])?;
-    page.close(source, place)?;
-    note_found(page, source, seat, &first, "")?;
-    note_found(page, source, seat, &second, "")?;
+    page.close(place)?;
+    note_found(page, seat, &first, "")?;
+    note_found(page, seat, &second, "")?;
     page.help(&[Part::Text("let one rank send the first message that it gets in every branch")])
 }
 
@@ -213,7 +203,6 @@ fn clash(before: &[Found], here: &[Found]) -> Option<(Found, Found)> {
 /// Two branches begin with one label.
 pub fn tell_labels(
     page: &mut Page,
-    source: &Source,
     seat: &Seat,
     place: Place,
     before: &[Found],
@@ -222,12 +211,12 @@ pub fn tell_labels(
     let Some((first, second)) = clash(before, here) else {
         return Ok(());
     };
-    begin(page, source, seat, place, 12)?;
+    begin(page, seat, place, 12)?;
     page.say(&[Part::Text(
         " can't tell this branch from an earlier one: both begin with the same label for it",
     )])?;
-    page.close(source, place)?;
-    note_found(page, source, seat, &first, "in the earlier branch ")?;
-    note_found(page, source, seat, &second, "in this branch ")?;
+    page.close(place)?;
+    note_found(page, seat, &first, "in the earlier branch ")?;
+    note_found(page, seat, &second, "in this branch ")?;
     page.help(&[Part::Text("rename one of the two labels")])
 }

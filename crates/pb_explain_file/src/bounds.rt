@@ -1,30 +1,23 @@
 //! Rule 5: there are enough numbers, and each N has its own number of ranks.
 
-use pb_explain_source::{Page, Part, Source};
+use pb_explain_source::{Page, Part};
 use pb_syntax::{FileTree, High};
 use pb_text::{NoMemory, Place};
 
-fn tell_low(page: &mut Page, source: &Source, place: Place) -> Result<(), NoMemory> {
+fn tell_low(page: &mut Page, place: Place) -> Result<(), NoMemory> {
     page.point(
-        source,
         place,
         &[Part::Text("rule 5: the constant begins at 0, and its least value is 1")],
     )?;
     page.help(&[Part::Text("begin at 1 or higher")])
 }
 
-fn tell_high(
-    page: &mut Page,
-    source: &Source,
-    file: &FileTree,
-    place: Place,
-) -> Result<(), NoMemory> {
+fn tell_high(page: &mut Page, file: &FileTree, place: Place) -> Result<(), NoMemory> {
     let high = match file.high {
         High::Upto(high) => i64::from(high),
         High::Max => i64::from(file.low),
     };
     page.point(
-        source,
         place,
         &[
             Part::Text("rule 5: the constant has no value: from "),
@@ -37,15 +30,9 @@ fn tell_high(
     page.help(&[Part::Text("write the lesser number first, or `max` where there is no upper end")])
 }
 
-fn tell_total(
-    page: &mut Page,
-    source: &Source,
-    file: &FileTree,
-    place: Place,
-) -> Result<(), NoMemory> {
+fn tell_total(page: &mut Page, file: &FileTree, place: Place) -> Result<(), NoMemory> {
     let constant = Part::Name(&file.constant.name);
     page.point(
-        source,
         place,
         &[
             Part::Text("rule 5: the number of ranks doesn't grow with `"),
@@ -65,17 +52,12 @@ fn tell_total(
 }
 
 /// Writes why the file breaks rule 5 at the place.
-pub fn tell_bounds(
-    page: &mut Page,
-    source: &Source,
-    file: &FileTree,
-    place: Place,
-) -> Result<(), NoMemory> {
+pub fn tell_bounds(page: &mut Page, file: &FileTree, place: Place) -> Result<(), NoMemory> {
     if place == file.low_place {
-        tell_low(page, source, place)
+        tell_low(page, place)
     } else if place == file.high_place {
-        tell_high(page, source, file, place)
+        tell_high(page, file, place)
     } else {
-        tell_total(page, source, file, place)
+        tell_total(page, file, place)
     }
 }

@@ -1,6 +1,6 @@
 //! Rule 3: a `continue` is last and inside its loop.
 
-use pb_explain_source::{Page, Part, Source};
+use pb_explain_source::{Page, Part};
 use pb_explain_tree::{Step, is_same, path_to, place_of};
 use pb_syntax::{FileTree, Statement};
 use pb_text::{Name, NoMemory, Place, Spot};
@@ -52,13 +52,11 @@ fn help_open(page: &mut Page, name: &Name) -> Result<(), NoMemory> {
 fn tell_outside(
     alloc: Global,
     page: &mut Page,
-    source: &Source,
     path: &[Step],
     name: &Spot,
     place: Place,
 ) -> Result<(), NoMemory> {
     page.point(
-        source,
         place,
         &[
             Part::Text("rule 3: this `continue` stands in no loop `"),
@@ -71,24 +69,17 @@ fn tell_outside(
     if count == 0 {
         return help_open(page, &name.name);
     }
-    help_around(page, loops.bytes())
+    help_around(page, loops.words())
 }
 
 /// The `continue` isn't the last statement of its block.
-fn tell_early(
-    page: &mut Page,
-    source: &Source,
-    next: Option<&Statement>,
-    place: Place,
-) -> Result<(), NoMemory> {
+fn tell_early(page: &mut Page, next: Option<&Statement>, place: Place) -> Result<(), NoMemory> {
     page.point(
-        source,
         place,
         &[Part::Text("rule 3: this `continue` isn't the last statement of its block")],
     )?;
     if let Some(next) = next {
         page.note(
-            source,
             place_of(next),
             &[Part::Text("what stands behind it would never be done")],
         )?;
@@ -102,7 +93,6 @@ fn tell_early(
 pub fn tell_continue(
     alloc: Global,
     page: &mut Page,
-    source: &Source,
     file: &FileTree,
     place: Place,
 ) -> Result<(), NoMemory> {
@@ -114,8 +104,8 @@ pub fn tell_continue(
         return Ok(());
     };
     if is_inside(path.as_slice(), name) {
-        tell_early(page, source, step.next, place)
+        tell_early(page, step.next, place)
     } else {
-        tell_outside(alloc, page, source, path.as_slice(), name, place)
+        tell_outside(alloc, page, path.as_slice(), name, place)
     }
 }

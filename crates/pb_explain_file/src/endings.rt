@@ -1,6 +1,6 @@
 //! Rule 4: what another statement follows can end.
 
-use pb_explain_source::{Page, Part, Source};
+use pb_explain_source::{Page, Part};
 use pb_explain_tree::{can_end, path_to, place_of};
 use pb_syntax::{Block, FileTree, Statement};
 use pb_text::{NoMemory, Place};
@@ -66,12 +66,7 @@ fn called(statement: &Statement) -> &'static str {
 }
 
 /// Says which loop inside never ends, where it isn't the statement itself.
-fn note_endless(
-    page: &mut Page,
-    source: &Source,
-    statement: &Statement,
-    place: Place,
-) -> Result<(), NoMemory> {
+fn note_endless(page: &mut Page, statement: &Statement, place: Place) -> Result<(), NoMemory> {
     let Some(endless) = endless_at(statement) else {
         return Ok(());
     };
@@ -79,14 +74,13 @@ fn note_endless(
     if at == place {
         return Ok(());
     }
-    page.note(source, at, &[Part::Text("this loop in it never ends")])
+    page.note(at, &[Part::Text("this loop in it never ends")])
 }
 
 /// Writes why the statement at the place breaks rule 4.
 pub fn tell_ending(
     alloc: Global,
     page: &mut Page,
-    source: &Source,
     file: &FileTree,
     place: Place,
 ) -> Result<(), NoMemory> {
@@ -96,7 +90,6 @@ pub fn tell_ending(
     };
     let statement = step.statement;
     page.point(
-        source,
         place,
         &[
             Part::Text("rule 4: "),
@@ -106,10 +99,9 @@ pub fn tell_ending(
             ),
         ],
     )?;
-    note_endless(page, source, statement, place)?;
+    note_endless(page, statement, place)?;
     if let Some(next) = step.next {
         page.note(
-            source,
             place_of(next),
             &[Part::Text("this one would never be reached")],
         )?;

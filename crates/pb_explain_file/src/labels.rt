@@ -1,7 +1,7 @@
 //! Rule 2: a label has one payload.
 
 use crate::words::say_payload;
-use pb_explain_source::{Page, Part, Source};
+use pb_explain_source::{Page, Part};
 use pb_explain_tree::is_same;
 use pb_syntax::{Block, FileTree, Op, Payload, Statement};
 use pb_text::{NoMemory, Place, Spot};
@@ -96,9 +96,8 @@ fn first_of(all: &[Labelled], here: &Labelled) -> Option<Labelled> {
 }
 
 /// A collective without numbers.
-fn tell_empty(page: &mut Page, source: &Source, here: &Labelled) -> Result<(), NoMemory> {
+fn tell_empty(page: &mut Page, here: &Labelled) -> Result<(), NoMemory> {
     page.point(
-        source,
         here.label.place,
         &[
             Part::Text("rule 2: `"),
@@ -112,9 +111,8 @@ fn tell_empty(page: &mut Page, source: &Source, here: &Labelled) -> Result<(), N
 }
 
 /// A sum of signed numbers.
-fn tell_sum(page: &mut Page, source: &Source, here: &Labelled) -> Result<(), NoMemory> {
+fn tell_sum(page: &mut Page, here: &Labelled) -> Result<(), NoMemory> {
     page.point(
-        source,
         here.label.place,
         &[
             Part::Text("rule 2: `"),
@@ -128,13 +126,8 @@ fn tell_sum(page: &mut Page, source: &Source, here: &Labelled) -> Result<(), NoM
 }
 
 /// Two payloads of one label.
-fn tell_two(
-    page: &mut Page,
-    source: &Source,
-    here: &Labelled,
-    first: &Labelled,
-) -> Result<(), NoMemory> {
-    page.open(source, here.label.place)?;
+fn tell_two(page: &mut Page, here: &Labelled, first: &Labelled) -> Result<(), NoMemory> {
+    page.open(here.label.place)?;
     page.say(&[
         Part::Text("rule 2: `"),
         Part::Name(&here.label.name),
@@ -144,12 +137,8 @@ fn tell_two(
     page.say(&[Part::Text(" here, and ")])?;
     say_payload(page, first.payload)?;
     page.say(&[Part::Text(" where it stands first")])?;
-    page.close(source, here.label.place)?;
-    page.note(
-        source,
-        first.label.place,
-        &[Part::Text("it stands first here")],
-    )?;
+    page.close(here.label.place)?;
+    page.note(first.label.place, &[Part::Text("it stands first here")])?;
     page.help(&[Part::Text(
         "a label has one payload in the whole file: write the same one, or take another label",
     )])
@@ -159,7 +148,6 @@ fn tell_two(
 pub fn tell_label(
     alloc: Global,
     page: &mut Page,
-    source: &Source,
     file: &FileTree,
     place: Place,
 ) -> Result<(), NoMemory> {
@@ -169,13 +157,13 @@ pub fn tell_label(
         return Ok(());
     };
     if !matches!(here.sort, Sort::Message) && here.payload == Payload::Unit {
-        return tell_empty(page, source, &here);
+        return tell_empty(page, &here);
     }
     if matches!(here.sort, Sort::Reduction(Op::Sum)) && matches!(here.payload, Payload::Int32(_)) {
-        return tell_sum(page, source, &here);
+        return tell_sum(page, &here);
     }
     match first_of(all.as_slice(), &here) {
-        Some(first) => tell_two(page, source, &here, &first),
+        Some(first) => tell_two(page, &here, &first),
         None => Ok(()),
     }
 }

@@ -9,5 +9,5 @@ mod names;
 mod rule;
 mod words;
 
-pub use pb_explain_source::{NoMemory, Page, Place, Source};
+pub use pb_explain_source::{NoMemory, Page, Place};
 pub use rule::tell_file_rule;

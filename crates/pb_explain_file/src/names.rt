@@ -1,7 +1,7 @@
 //! Rule 1: names are declared once, used in scope, and have one kind each.
 
 use crate::words::kind;
-use pb_explain_source::{Page, Part, Source};
+use pb_explain_source::{Page, Part};
 use pb_explain_tree::{Duty, Kind, Seen, is_same, names_of};
 use pb_syntax::FileTree;
 use pb_text::{Name, NoMemory, Place};
@@ -81,14 +81,12 @@ fn say_roles(page: &mut Page, file: &FileTree) -> Result<(), NoMemory> {
 fn tell_no_role(
     alloc: Global,
     page: &mut Page,
-    source: &Source,
     file: &FileTree,
     seen: &[Seen],
     here: &Seen,
 ) -> Result<(), NoMemory> {
     let name = &here.spot.name;
     page.point(
-        source,
         here.spot.place,
         &[
             Part::Text("rule 1: no role is called `"),
@@ -120,9 +118,8 @@ fn say_neither<'x>(page: &mut Page, name: &'x Name, constant: &'x Name) -> Resul
 }
 
 /// Points at where else the name is bound.
-fn note_bound(page: &mut Page, source: &Source, name: &Name, place: Place) -> Result<(), NoMemory> {
+fn note_bound(page: &mut Page, name: &Name, place: Place) -> Result<(), NoMemory> {
     page.note(
-        source,
         place,
         &[
             Part::Text("`"),
@@ -152,25 +149,23 @@ fn help_bind<'x>(page: &mut Page, name: &'x Name, constant: &'x Name) -> Result<
 /// A name in a lin is neither the constant nor a variable in scope.
 fn tell_no_variable(
     page: &mut Page,
-    source: &Source,
     file: &FileTree,
     seen: &[Seen],
     here: &Seen,
 ) -> Result<(), NoMemory> {
-    page.open(source, here.spot.place)?;
+    page.open(here.spot.place)?;
     say_neither(page, &here.spot.name, &file.constant.name)?;
-    page.close(source, here.spot.place)?;
+    page.close(here.spot.place)?;
     match bound_elsewhere(seen, here) {
-        Some(bound) => note_bound(page, source, &here.spot.name, bound.spot.place),
+        Some(bound) => note_bound(page, &here.spot.name, bound.spot.place),
         None => help_bind(page, &here.spot.name, &file.constant.name),
     }
 }
 
 /// The name stood before as another kind.
-fn tell_kinds(page: &mut Page, source: &Source, here: &Seen, first: &Seen) -> Result<(), NoMemory> {
+fn tell_kinds(page: &mut Page, here: &Seen, first: &Seen) -> Result<(), NoMemory> {
     let name = &here.spot.name;
     page.point(
-        source,
         here.spot.place,
         &[
             Part::Text("rule 1: `"),
@@ -182,7 +177,6 @@ fn tell_kinds(page: &mut Page, source: &Source, here: &Seen, first: &Seen) -> Re
         ],
     )?;
     page.note(
-        source,
         first.spot.place,
         &[Part::Text("here it is "), Part::Text(kind(first.kind))],
     )?;
@@ -190,10 +184,9 @@ fn tell_kinds(page: &mut Page, source: &Source, here: &Seen, first: &Seen) -> Re
 }
 
 /// The name is declared, or bound in its own scope, a second time.
-fn tell_again(page: &mut Page, source: &Source, here: &Seen, first: &Seen) -> Result<(), NoMemory> {
+fn tell_again(page: &mut Page, here: &Seen, first: &Seen) -> Result<(), NoMemory> {
     let inner = here.duty == Duty::Binds;
     page.point(
-        source,
         here.spot.place,
         &[
             Part::Text("rule 1: `"),
@@ -205,11 +198,7 @@ fn tell_again(page: &mut Page, source: &Source, here: &Seen, first: &Seen) -> Re
             }),
         ],
     )?;
-    page.note(
-        source,
-        first.spot.place,
-        &[Part::Text("it stands first here")],
-    )?;
+    page.note(first.spot.place, &[Part::Text("it stands first here")])?;
     page.help(&[Part::Text("rename one of the two")])
 }
 
@@ -217,7 +206,6 @@ fn tell_again(page: &mut Page, source: &Source, here: &Seen, first: &Seen) -> Re
 pub fn tell_name(
     alloc: Global,
     page: &mut Page,
-    source: &Source,
     file: &FileTree,
     place: Place,
 ) -> Result<(), NoMemory> {
@@ -229,13 +217,13 @@ pub fn tell_name(
     if let Some(first) = &first
         && first.kind != here.kind
     {
-        return tell_kinds(page, source, &here, first);
+        return tell_kinds(page, &here, first);
     }
     match here.duty {
-        Duty::Seats => tell_no_role(alloc, page, source, file, seen.as_slice(), &here),
-        Duty::Counts => tell_no_variable(page, source, file, seen.as_slice(), &here),
+        Duty::Seats => tell_no_role(alloc, page, file, seen.as_slice(), &here),
+        Duty::Counts => tell_no_variable(page, file, seen.as_slice(), &here),
         Duty::Declares | Duty::Binds | Duty::Mentions => match &first {
-            Some(first) => tell_again(page, source, &here, first),
+            Some(first) => tell_again(page, &here, first),
             None => Ok(()),
         },
     }

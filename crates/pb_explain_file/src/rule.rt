@@ -3,7 +3,7 @@ use crate::continues::tell_continue;
 use crate::endings::tell_ending;
 use crate::labels::tell_label;
 use crate::names::tell_name;
-use pb_explain_source::{Page, Source};
+use pb_explain_source::Page;
 use pb_syntax::FileTree;
 use pb_text::{NoMemory, Place};
 use std::alloc::Global;
@@ -13,17 +13,16 @@ use std::alloc::Global;
 pub fn tell_file_rule(
     alloc: Global,
     page: &mut Page,
-    source: &Source,
     file: &FileTree,
     rule: u8,
     place: Place,
 ) -> Result<(), NoMemory> {
     match rule {
-        1 => tell_name(alloc, page, source, file, place),
-        2 => tell_label(alloc, page, source, file, place),
-        3 => tell_continue(alloc, page, source, file, place),
-        4 => tell_ending(alloc, page, source, file, place),
-        5 => tell_bounds(page, source, file, place),
+        1 => tell_name(alloc, page, file, place),
+        2 => tell_label(alloc, page, file, place),
+        3 => tell_continue(alloc, page, file, place),
+        4 => tell_ending(alloc, page, file, place),
+        5 => tell_bounds(page, file, place),
         _ => Ok(()),
     }
 }

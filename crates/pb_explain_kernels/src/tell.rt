@@ -27,8 +27,8 @@ fn remedy(slip: Slip) -> &'static str {
     }
 }
 
-fn tell_slip(page: &mut Page, source: &Source, fault: Slip, line: u32) -> Result<(), NoMemory> {
-    page.point(source, Place { line, col: 1 }, &[Part::Text(slip(fault))])?;
+fn tell_slip(page: &mut Page, fault: Slip, line: u32) -> Result<(), NoMemory> {
+    page.point(Place { line, col: 1 }, &[Part::Text(slip(fault))])?;
     page.help(&[Part::Text(remedy(fault))])
 }
 
@@ -132,7 +132,7 @@ pub fn tell_kernels(
 ) -> Result<(), NoMemory> {
     let marks = marks_of(alloc, source.bytes)?;
     if let Some((fault, line)) = marks.slip {
-        return tell_slip(page, source, fault, line);
+        return tell_slip(page, fault, line);
     }
     let functions = functions_of(alloc, labels, kernels)?;
     tell_missing(page, source, &marks, functions.as_slice())?;

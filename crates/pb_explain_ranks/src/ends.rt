@@ -1,7 +1,7 @@
 //! Rule 7: each end has an index of its role.
 
 use crate::setting::{Setting, Span};
-use pb_explain_source::{Page, Part, Source};
+use pb_explain_source::{Page, Part};
 use pb_explain_tree::{Step, is_same, path_to};
 use pb_syntax::{End, IndexText, LinText, RangeText, RoleText, Statement};
 use pb_text::{Name, NoMemory, Place};
@@ -257,7 +257,6 @@ fn help_role(page: &mut Page, role: &RoleText) -> Result<(), NoMemory> {
 pub fn tell_end(
     alloc: Global,
     page: &mut Page,
-    source: &Source,
     setting: &Setting,
     place: Place,
     index: i64,
@@ -274,18 +273,17 @@ pub fn tell_end(
     };
     let span = setting.indices(role).unwrap_or(Span { low: 0, high: 0 });
     let moved = variable_of(setting, end);
-    page.open(source, place)?;
+    page.open(place)?;
     page.say(&[Part::Text("rule 7: at N = "), Part::Number(setting.n)])?;
     say_end(page, end, moved.as_ref(), index)?;
     say_range(page, role, span)?;
-    page.close(source, place)?;
+    page.close(place)?;
     match &moved {
         Some(moved) => {
             if let Some(range) = range_around(path.as_slice())
                 && range.low.place.line != place.line
             {
                 page.note(
-                    source,
                     range.low.place,
                     &[Part::Text("this is the variable's range")],
                 )?;

@@ -11,6 +11,6 @@ mod rule;
 mod same;
 mod setting;
 
-pub use pb_explain_source::{NoMemory, Page, Place, Source};
+pub use pb_explain_source::{NoMemory, Page, Place};
 pub use rule::tell_rank_rule;
 pub use setting::{Bound, Setting, Span, say_rank};

@@ -1,7 +1,7 @@
 //! Rule 6: each role has an index.
 
 use crate::setting::{Setting, Span};
-use pb_explain_source::{Page, Part, Source};
+use pb_explain_source::{Page, Part};
 use pb_explain_tree::is_same;
 use pb_syntax::{LinText, RangeText, RoleText};
 use pb_text::{NoMemory, Place};
@@ -48,12 +48,7 @@ fn help_range(page: &mut Page, setting: &Setting, range: &RangeText) -> Result<(
 }
 
 /// Writes why the role declared at the place breaks rule 6.
-pub fn tell_role(
-    page: &mut Page,
-    source: &Source,
-    setting: &Setting,
-    place: Place,
-) -> Result<(), NoMemory> {
+pub fn tell_role(page: &mut Page, setting: &Setting, place: Place) -> Result<(), NoMemory> {
     let Some(role) = role_at(setting, place) else {
         return Ok(());
     };
@@ -62,7 +57,6 @@ pub fn tell_role(
     };
     let span = setting.span(range).unwrap_or(Span { low: 0, high: 0 });
     page.point(
-        source,
         place,
         &[
             Part::Text("rule 6: at N = "),

@@ -2,7 +2,7 @@
 
 use crate::empty::add_empty_in;
 use crate::setting::{Setting, Span};
-use pb_explain_source::{Page, Part, Source};
+use pb_explain_source::{Page, Part};
 use pb_explain_tree::path_to;
 use pb_syntax::{Block, RangeText, Statement};
 use pb_text::{NoMemory, Place};
@@ -11,15 +11,9 @@ use std::alloc::Global;
 /// How many places are shown at most.
 const MOST_NOTES: usize = 3;
 
-fn note_range(
-    page: &mut Page,
-    source: &Source,
-    setting: &Setting,
-    range: &RangeText,
-) -> Result<(), NoMemory> {
+fn note_range(page: &mut Page, setting: &Setting, range: &RangeText) -> Result<(), NoMemory> {
     let span = setting.span(range).unwrap_or(Span { low: 0, high: 0 });
     page.note(
-        source,
         range.low.place,
         &[
             Part::Text("this range is empty at N = "),
@@ -33,17 +27,12 @@ fn note_range(
 }
 
 /// Points at the first few ranges.
-fn note_ranges(
-    page: &mut Page,
-    source: &Source,
-    setting: &Setting,
-    ranges: &[&RangeText],
-) -> Result<(), NoMemory> {
+fn note_ranges(page: &mut Page, setting: &Setting, ranges: &[&RangeText]) -> Result<(), NoMemory> {
     for (i, range) in ranges.iter().enumerate() {
         if i >= MOST_NOTES {
             break;
         }
-        note_range(page, source, setting, range)?;
+        note_range(page, setting, range)?;
     }
     Ok(())
 }
@@ -52,13 +41,12 @@ fn note_ranges(
 fn note_body(
     alloc: Global,
     page: &mut Page,
-    source: &Source,
     setting: &Setting,
     body: &Block,
 ) -> Result<(), NoMemory> {
     let mut ranges = Vec::new(alloc);
     add_empty_in(body, setting, &mut ranges)?;
-    note_ranges(page, source, setting, ranges.as_slice())?;
+    note_ranges(page, setting, ranges.as_slice())?;
     if ranges.is_empty() {
         return page.help(&[Part::Text(
             "the loop has no message, no compute and no collective: put into it what is to be repeated",
@@ -77,7 +65,6 @@ fn note_body(
 pub fn tell_round(
     alloc: Global,
     page: &mut Page,
-    source: &Source,
     setting: &Setting,
     place: Place,
 ) -> Result<(), NoMemory> {
@@ -89,7 +76,6 @@ pub fn tell_round(
         return Ok(());
     };
     page.point(
-        source,
         place,
         &[
             Part::Text("rule 9: at N = "),
@@ -99,5 +85,5 @@ pub fn tell_round(
             Part::Text("`, and it would go round for ever"),
         ],
     )?;
-    note_body(alloc, page, source, setting, body)
+    note_body(alloc, page, setting, body)
 }

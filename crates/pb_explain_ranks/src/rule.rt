@@ -3,7 +3,7 @@ use crate::roles::tell_role;
 use crate::rounds::tell_round;
 use crate::same::tell_same;
 use crate::setting::Setting;
-use pb_explain_source::{Page, Source};
+use pb_explain_source::Page;
 use pb_text::{Name, NoMemory, Place};
 use std::alloc::Global;
 
@@ -12,17 +12,16 @@ use std::alloc::Global;
 pub fn tell_rank_rule(
     alloc: Global,
     page: &mut Page,
-    source: &Source,
     setting: &Setting,
     rule: u8,
     place: Place,
     rank: Option<(Name, i64)>,
 ) -> Result<(), NoMemory> {
     match (rule, rank) {
-        (6, _) => tell_role(page, source, setting, place),
-        (7, Some((_, index))) => tell_end(alloc, page, source, setting, place, index),
-        (8, Some((role, index))) => { tell_same(alloc, page, source, setting, place, &role, index) }
-        (9, _) => tell_round(alloc, page, source, setting, place),
+        (6, _) => tell_role(page, setting, place),
+        (7, Some((_, index))) => tell_end(alloc, page, setting, place, index),
+        (8, Some((role, index))) => { tell_same(alloc, page, setting, place, &role, index) }
+        (9, _) => tell_round(alloc, page, setting, place),
         _ => Ok(()),
     }
 }

@@ -2,7 +2,7 @@
 
 use crate::ends::{Moved, range_around, say_moved, say_with, variable_of};
 use crate::setting::{Setting, say_rank};
-use pb_explain_source::{Page, Part, Source};
+use pb_explain_source::{Page, Part};
 use pb_explain_tree::path_to;
 use pb_syntax::{End, RangeText, Statement};
 use pb_text::{Name, NoMemory, Place};
@@ -79,7 +79,6 @@ fn help_ends(page: &mut Page, setting: &Setting, from: &End, to: &End) -> Result
 pub fn tell_same(
     alloc: Global,
     page: &mut Page,
-    source: &Source,
     setting: &Setting,
     place: Place,
     role: &Name,
@@ -102,7 +101,7 @@ pub fn tell_same(
         Some(moved) => Some(moved),
         None => variable_of(setting, to),
     };
-    page.open(source, place)?;
+    page.open(place)?;
     page.say(&[Part::Text("rule 8: at N = "), Part::Number(setting.n)])?;
     if let Some(moved) = &moved {
         say_with(page, moved, index)?;
@@ -118,7 +117,7 @@ pub fn tell_same(
         Part::End(to),
         Part::Text("`"),
     ])?;
-    page.close(source, place)?;
+    page.close(place)?;
     match &moved {
         Some(moved) => {
             let value = index.saturating_sub(moved.off);

@@ -7,7 +7,6 @@ use pb_text::{NoMemory, Place};
 /// Writes that this line is no line of a log of the protocol.
 pub fn tell_log_line(page: &mut Page, source: &Source, line: u32) -> Result<(), NoMemory> {
     page.point(
-        source,
         Place { line, col: 1 },
         &[Part::Text("this is no line of a log of the protocol at this N")],
     )?;
@@ -20,14 +19,8 @@ pub fn tell_log_line(page: &mut Page, source: &Source, line: u32) -> Result<(), 
 }
 
 /// Writes that the protocol has another action for the rank in the place of that in this line.
-pub fn tell_differs(
-    page: &mut Page,
-    source: &Source,
-    line: u32,
-    rank: u32,
-) -> Result<(), NoMemory> {
+pub fn tell_differs(page: &mut Page, line: u32, rank: u32) -> Result<(), NoMemory> {
     page.point(
-        source,
         Place { line, col: 1 },
         &[
             Part::Text("where rank "),
@@ -41,9 +34,8 @@ pub fn tell_differs(
 }
 
 /// Writes that the protocol has no more actions for the rank, from this line on.
-pub fn tell_beyond(page: &mut Page, source: &Source, line: u32, rank: u32) -> Result<(), NoMemory> {
+pub fn tell_beyond(page: &mut Page, line: u32, rank: u32) -> Result<(), NoMemory> {
     page.point(
-        source,
         Place { line, col: 1 },
         &[
             Part::Text("rank "),

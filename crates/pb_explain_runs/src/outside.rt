@@ -1,7 +1,7 @@
 //! Which N there are.
 
 use crate::counts::{Count, note_counts};
-use pb_explain_source::{Page, Part, Source};
+use pb_explain_source::{Page, Part};
 use pb_syntax::{FileTree, High};
 use pb_text::{NoMemory, Place};
 
@@ -63,7 +63,6 @@ fn say_values(page: &mut Page, values: Values) -> Result<(), NoMemory> {
 /// Writes that the protocol isn't for this N, and how many ranks there are at the nearest one that it is for.
 pub fn tell_outside(
     page: &mut Page,
-    source: &Source,
     file: &FileTree,
     n: i64,
     counts: &[Count],
@@ -74,7 +73,7 @@ pub fn tell_outside(
     } else {
         file.high_place
     };
-    page.open(source, place)?;
+    page.open(place)?;
     page.say(&[
         Part::Text("`--n "),
         Part::Number(n),
@@ -83,7 +82,7 @@ pub fn tell_outside(
         Part::Text("` is one of "),
     ])?;
     say_values(page, values)?;
-    page.close(source, place)?;
+    page.close(place)?;
     note_counts(page, values.nearest(n), counts)?;
     help_values(page, values, n)
 }
@@ -91,20 +90,19 @@ pub fn tell_outside(
 /// The same for a C text, whose third line has the range.
 pub fn tell_outside_text(
     page: &mut Page,
-    source: &Source,
     values: Values,
     n: i64,
     counts: &[Count],
 ) -> Result<(), NoMemory> {
     let place = Place { line: 3, col: 1 };
-    page.open(source, place)?;
+    page.open(place)?;
     page.say(&[
         Part::Text("`--n "),
         Part::Number(n),
         Part::Text("` is out of range: the text is for N of "),
     ])?;
     say_values(page, values)?;
-    page.close(source, place)?;
+    page.close(place)?;
     note_counts(page, values.nearest(n), counts)?;
     help_values(page, values, n)
 }

@@ -32,7 +32,7 @@ pub fn is_open(source: &Source, line: u32) -> bool {
 /// Writes that this line of the schedule is malformed.
 pub fn tell_schedule_line(page: &mut Page, source: &Source, line: u32) -> Result<(), NoMemory> {
     let place = Place { line, col: 1 };
-    page.point(source, place, &[Part::Text(wanted(source, line))])?;
+    page.point(place, &[Part::Text(wanted(source, line))])?;
     if is_open(source, line) {
         return page.help(&[Part::Text("each line ends with a line feed, the last too")]);
     }
@@ -42,14 +42,12 @@ pub fn tell_schedule_line(page: &mut Page, source: &Source, line: u32) -> Result
 /// Writes that there is no rank of this line's event, where there are so many ranks at this N.
 pub fn tell_no_rank(
     page: &mut Page,
-    source: &Source,
     line: u32,
     rank: u32,
     n: i64,
     ranks: i64,
 ) -> Result<(), NoMemory> {
     page.point(
-        source,
         Place { line, col: 1 },
         &[
             Part::Text("there is no rank "),
@@ -64,14 +62,8 @@ pub fn tell_no_rank(
 }
 
 /// Writes that the rank of this line's event has no step.
-pub fn tell_no_step(
-    page: &mut Page,
-    source: &Source,
-    line: u32,
-    rank: u32,
-) -> Result<(), NoMemory> {
+pub fn tell_no_step(page: &mut Page, line: u32, rank: u32) -> Result<(), NoMemory> {
     page.point(
-        source,
         Place { line, col: 1 },
         &[
             Part::Text("rank "),

@@ -14,6 +14,6 @@ fn tells_what_a_schedule_has(rt: HostRuntime) -> Result<(), Fail> {
       | ^
 help: each line ends with a line feed, the last too
 ";
-    assert!(rt; page.bytes() == wanted.as_slice());
+    assert!(rt; page.text(rt.alloc(), &source)?.as_slice() == wanted.as_slice());
     Ok(())
 }

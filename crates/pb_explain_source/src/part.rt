@@ -1,5 +1,5 @@
 use pb_syntax::{End, IndexText, LinText, RangeText};
-use pb_text::{Name, NoMemory, Place, push_number};
+use pb_text::{Name, NoMemory, push_number};
 
 /// A part of a sentence.
 #[derive(Clone, Copy)]
@@ -12,8 +12,6 @@ pub enum Part<'a> {
     Name(&'a Name),
     /// A number in decimal.
     Number(i64),
-    /// `L:C`.
-    Place(Place),
     /// A number, or a name with an offset, as `i+1`.
     Lin(&'a LinText),
     /// Both ends of a range, as `0..N-1`.
@@ -28,13 +26,6 @@ pub enum Part<'a> {
 pub fn push_bytes(out: &mut Vec<u8>, bytes: &[u8]) -> Result<(), NoMemory> {
     out.extend_from_slice(bytes)?;
     Ok(())
-}
-
-/// Appends `L:C`.
-pub fn push_place(out: &mut Vec<u8>, place: Place) -> Result<(), NoMemory> {
-    push_number(out, i64::from(place.line))?;
-    push_bytes(out, b":")?;
-    push_number(out, i64::from(place.col))
 }
 
 /// Appends a lin as it is printed: without spaces, and without an offset 0.
@@ -96,7 +87,6 @@ pub fn push_part(out: &mut Vec<u8>, part: &Part) -> Result<(), NoMemory> {
         Part::Bytes(bytes) => push_bytes(out, bytes),
         Part::Name(name) => push_bytes(out, name.bytes()),
         Part::Number(n) => push_number(out, *n),
-        Part::Place(place) => push_place(out, *place),
         Part::Lin(lin) => push_lin(out, lin),
         Part::Range(range) => push_range(out, range),
         Part::End(end) => push_end(out, end),

@@ -1,3 +1,7 @@
+ghost use Rattle.std.specs.Prelude.{◌≡◌, true, []};
+ghost use Rattle.pb_text.specs.Places.{place_behind};
+ghost use Rattle.pb_explain_source.specs.Pages.{IsPlaceOf};
+
 use pb_text::Place;
 
 /// A file that messages point into.
@@ -7,6 +11,26 @@ pub struct Source<'a> {
     pub file: &'a str,
     /// Its bytes.
     pub bytes: &'a [u8],
+}
+
+/// The place of the first byte.
+const FIRST: Place = Place { line: 1, col: 1 };
+
+/// The place behind a byte.
+fn place_behind(place: Place, byte: u8) -> Place
+    ensures { result ≡ place_behind place byte }
+{
+    if byte == b'\n' {
+        Place {
+            line: place.line.saturating_add(1),
+            col: 1,
+        }
+    } else {
+        Place {
+            line: place.line,
+            col: place.col.saturating_add(1),
+        }
+    }
 }
 
 /// Whether a byte stands in names, keywords and numbers.
@@ -68,6 +92,28 @@ fn behind_lines(bytes: &[u8], lines: u32) -> &[u8] {
 }
 
 impl<'a> Source<'a> {
+    /// A file whose bytes aren't known. Of its places only the first is one.
+    pub fn unread(file: &'a str) -> Source<'a>
+        ensures file { result.file.now ≡ file.now }
+        ensures bytes { result.bytes.now ≡ [] }
+    {
+        Source { file, bytes: &[] }
+    }
+
+    /// Whether a place is that of one of the file's bytes, or the one behind the last.
+    pub fn has(&self, place: Place) -> bool
+        ensures { result ≡ true → IsPlaceOf self.now.bytes.now place }
+    {
+        let mut here = FIRST;
+        for byte in self.bytes {
+            if here == place {
+                return true;
+            }
+            here = place_behind(here, *byte);
+        }
+        here == place
+    }
+
     /// The bytes of a line, counted from 1, without its line feed. None where the file has no such line.
     pub fn line(&self, line: u32) -> &'a [u8] {
         let rest = behind_lines(self.bytes, line.saturating_sub(1));
@@ -75,11 +121,22 @@ impl<'a> Source<'a> {
         rest.get(..len).unwrap_or_default()
     }
 
-    /// How many bytes the word at a place has, with the brackets right behind it; 1 where there is none.
-    pub fn width(&self, place: Place) -> usize {
+    /// What stands at a place and behind it, up to the end of the line.
+    fn behind(&self, place: Place) -> &'a [u8] {
         let line = self.line(place.line);
         let at = (place.col as usize).saturating_sub(1);
-        let rest = line.get(at..).unwrap_or_default();
+        line.get(at..).unwrap_or_default()
+    }
+
+    /// The word at a place, without brackets; no bytes where none begins there.
+    pub fn word(&self, place: Place) -> &'a [u8] {
+        let rest = self.behind(place);
+        rest.get(..word_len(rest)).unwrap_or_default()
+    }
+
+    /// How many bytes the word at a place has, with the brackets right behind it; 1 where there is none.
+    pub fn width(&self, place: Place) -> usize {
+        let rest = self.behind(place);
         let word = word_len(rest);
         let behind = rest.get(word..).unwrap_or_default();
         word.saturating_add(brackets_len(behind)).max(1)

@@ -28,12 +28,11 @@ pub fn tell_byte(page: &mut Page, source: &Source, place: Place) -> Result<(), N
     let line = source.line(place.line);
     let at = (place.col as usize).saturating_sub(1);
     let Some(byte) = line.get(at) else {
-        return page.point(source, place, &[Part::Text("no token begins here")]);
+        return page.point(place, &[Part::Text("no token begins here")]);
     };
     let byte = *byte;
     if byte > b' ' && byte < 127 {
         page.point(
-            source,
             place,
             &[
                 Part::Text("no token begins with `"),
@@ -43,7 +42,6 @@ pub fn tell_byte(page: &mut Page, source: &Source, place: Place) -> Result<(), N
         )?;
     } else {
         page.point(
-            source,
             place,
             &[
                 Part::Text("no token begins with the byte "),
@@ -55,9 +53,8 @@ pub fn tell_byte(page: &mut Page, source: &Source, place: Place) -> Result<(), N
 }
 
 /// Writes that a comment isn't closed.
-pub fn tell_comment(page: &mut Page, source: &Source, place: Place) -> Result<(), NoMemory> {
+pub fn tell_comment(page: &mut Page, place: Place) -> Result<(), NoMemory> {
     page.point(
-        source,
         place,
         &[Part::Text("this comment isn't closed: no `*/` stands behind its `/*`")],
     )?;

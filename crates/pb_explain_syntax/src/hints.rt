@@ -167,7 +167,14 @@ fn foreign_near(tokens: &[Token], at: usize) -> Option<&'static str> {
 /// The remedy at a keyword.
 fn at_key(key: Key, stop: &Stop) -> Option<&'static str> {
     if key == Key::Do {
-        return Some("`do` is kept for later; no statement has it");
+        return Some(
+            "`do` stands in a file with subprotocols: `pabble expand FILE` gives the protocol without them",
+        );
+    }
+    if key == Key::Protocol && wants_key(stop, Key::Global) {
+        return Some(
+            "a `protocol` without `global` is a subprotocol: `pabble expand FILE` gives the protocol without subprotocols",
+        );
     }
     if matches!(stop.form, Form::Items) {
         return Some(
@@ -279,8 +286,50 @@ fn word_at(tokens: &[Token], at: Option<usize>) -> Option<Name> {
     }
 }
 
+/// Whether `columns (j:` stands there, which begins a statement in a file with strips.
+fn is_columns(tokens: &[Token], at: usize) -> bool {
+    match (
+        word_at(tokens, at.checked_sub(2)),
+        tokens.get(at.saturating_add(1)),
+    ) {
+        (Some(word), Some(next)) => {
+            word.bytes() == b"columns".as_slice() && next.kind == TokenKind::Mark(Mark::Colon)
+        }
+        _ => false,
+    }
+}
+
+/// Whether brackets stand there behind those of a role or an end, as a strip has them.
+fn is_column(tokens: &[Token], at: usize) -> bool {
+    match (tokens.get(at.saturating_sub(1)), tokens.get(at)) {
+        (Some(before), Some(here)) => {
+            before.kind == TokenKind::Mark(Mark::RightBracket)
+                && here.kind == TokenKind::Mark(Mark::LeftBracket)
+        }
+        _ => false,
+    }
+}
+
+/// The remedy for what a file with strips has there.
+fn strips_near(tokens: &[Token], stop: &Stop) -> Option<&'static str> {
+    if is_columns(tokens, stop.at) {
+        return Some(
+            "`columns` stands in a file with strips: `pabble strips FILE` gives the protocol without them",
+        );
+    }
+    if is_column(tokens, stop.at) && !matches!(stop.form, Form::Count) {
+        return Some(
+            "a second `[..]` behind a role has the columns of a strip: `pabble strips FILE` gives the protocol without strips",
+        );
+    }
+    None
+}
+
 /// Appends a remedy, where there is a likely one.
 pub fn help(alloc: Global, page: &mut Page, tokens: &[Token], stop: &Stop) -> Result<(), NoMemory> {
+    if let Some(text) = strips_near(tokens, stop) {
+        return page.help(&[Part::Text(text)]);
+    }
     if let Some(text) = foreign_near(tokens, stop.at) {
         return page.help(&[Part::Text(text)]);
     }

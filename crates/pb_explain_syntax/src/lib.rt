@@ -15,6 +15,6 @@ mod tests;
 mod walk;
 
 pub use bytes::{tell_byte, tell_comment};
-pub use limits::tell_limit;
+pub use limits::{tell_excess, tell_limit};
 pub use pb_explain_source::{NoMemory, Page, Part, Place, Source};
 pub use tell::tell_syntax;

@@ -62,8 +62,8 @@ fn remedy(limit: Quantity) -> Option<&'static str> {
     }
 }
 
-/// Writes which limit is passed; at a place where it is counted on tokens or lines.
-pub fn tell_limit(
+/// Writes which limit is passed, without a remedy; at a place where it is counted on tokens or lines.
+pub fn tell_excess(
     page: &mut Page,
     source: &Source,
     limit: Quantity,
@@ -71,14 +71,24 @@ pub fn tell_limit(
 ) -> Result<(), NoMemory> {
     let why = Part::Text(reason(limit));
     match place {
-        Some(place) => page.point(source, place, &[why])?,
+        Some(place) => page.point(place, &[why]),
         None => page.say(&[
             Part::Text(source.file),
             Part::Text(": "),
             why,
             Part::Text("\n"),
-        ])?,
+        ]),
     }
+}
+
+/// Writes which limit is passed, and a remedy where there is one.
+pub fn tell_limit(
+    page: &mut Page,
+    source: &Source,
+    limit: Quantity,
+    place: Option<Place>,
+) -> Result<(), NoMemory> {
+    tell_excess(page, source, limit, place)?;
     match remedy(limit) {
         Some(text) => page.help(&[Part::Text(text)]),
         None => Ok(()),

@@ -3,7 +3,7 @@
 use crate::hints::help;
 use crate::symbol::{Noun, Symbol};
 use crate::walk::{Stop, stop_of};
-use pb_explain_source::{Page, Part, Source};
+use pb_explain_source::{Page, Part};
 use pb_text::{Key, Mark, NoMemory, Place, Token, TokenKind};
 use std::alloc::Global;
 
@@ -144,13 +144,9 @@ fn open_brace(tokens: &[Token]) -> Option<Place> {
 }
 
 /// Points at the brace that isn't closed, where the file ends too early.
-fn note_open(page: &mut Page, source: &Source, tokens: &[Token]) -> Result<(), NoMemory> {
+fn note_open(page: &mut Page, tokens: &[Token]) -> Result<(), NoMemory> {
     match open_brace(tokens) {
-        Some(place) => page.note(
-            source,
-            place,
-            &[Part::Text("this `{` isn't closed by a `}`")],
-        ),
+        Some(place) => page.note(place, &[Part::Text("this `{` isn't closed by a `}`")]),
         None => Ok(()),
     }
 }
@@ -159,16 +155,15 @@ fn note_open(page: &mut Page, source: &Source, tokens: &[Token]) -> Result<(), N
 pub fn tell_syntax(
     alloc: Global,
     page: &mut Page,
-    source: &Source,
     tokens: &[Token],
     place: Place,
 ) -> Result<(), NoMemory> {
     let stop = stop_of(alloc, tokens)?;
     let mut found = Page::new(alloc);
     say_found(&mut found, tokens, &stop)?;
-    page.point(source, place, &[Part::Bytes(found.bytes())])?;
+    page.point(place, &[Part::Bytes(found.words())])?;
     match tokens.get(stop.at) {
         Some(_) => help(alloc, page, tokens, &stop),
-        None => note_open(page, source, tokens),
+        None => note_open(page, tokens),
     }
 }

@@ -21,12 +21,12 @@ fn says_what_could_stand(rt: HostRuntime) -> Result<(), Fail> {
         },
     ];
     let mut page = Page::new(rt.alloc());
-    tell_syntax(rt.alloc(), &mut page, &source, &tokens, place)?;
+    tell_syntax(rt.alloc(), &mut page, &tokens, place)?;
     let wanted = b"p:1:7: found the keyword `max`, where this must stand: the constant's name
     1 | const max
       |       ^^^
 help: a keyword is no name: take another one
 ";
-    assert!(rt; page.bytes() == wanted.as_slice());
+    assert!(rt; page.text(rt.alloc(), &source)?.as_slice() == wanted.as_slice());
     Ok(())
 }

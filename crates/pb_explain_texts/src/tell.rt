@@ -85,10 +85,10 @@ pub fn tell_text_line(
     source: &Source,
     place: Place,
 ) -> Result<(), NoMemory> {
-    page.open(source, place)?;
+    page.open(place)?;
     page.say(&[Part::Text("`gen` doesn't print this line here; ")])?;
     say_wanted(alloc, page, source, place)?;
-    page.close(source, place)?;
+    page.close(place)?;
     if place.line == 1 && is_protocol(source.bytes) {
         return page.help(&[Part::Text(
             "a text is what `pabble gen FILE` writes; a protocol is simulated by `pabble run FILE --n A`",

@@ -14,6 +14,6 @@ fn tells_what_a_text_has(rt: HostRuntime) -> Result<(), Fail> {
       | ^^^
 help: a text may be edited between its markers `/*@ kernel NAME */` and `/*@ end */` alone; `pabble gen FILE KERNELS` puts bodies into a new one
 ";
-    assert!(rt; page.bytes() == wanted.as_slice());
+    assert!(rt; page.text(rt.alloc(), &source)?.as_slice() == wanted.as_slice());
     Ok(())
 }

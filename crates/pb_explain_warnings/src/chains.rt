@@ -1,6 +1,6 @@
 //! Exchanges in one role that are written as chains.
 
-use pb_explain_source::{Page, Part, Source};
+use pb_explain_source::{Page, Part};
 use pb_explain_tree::is_same;
 use pb_syntax::{End, IndexText, Statement};
 use pb_text::{Name, NoMemory, Spot};
@@ -74,7 +74,6 @@ fn is_exchange(up: &Shift, down: &Shift) -> bool {
 /// Writes a warning where the statement passes a message up one role, and the next one the same label down.
 pub fn warn_chain(
     page: &mut Page,
-    source: &Source,
     statement: &Statement,
     next: Option<&Statement>,
 ) -> Result<(), NoMemory> {
@@ -88,7 +87,6 @@ pub fn warn_chain(
         return Ok(());
     }
     page.warn(
-        source,
         up.label.place,
         &[
             Part::Text("these messages go one after the other: each rank of `"),
@@ -97,7 +95,6 @@ pub fn warn_chain(
         ],
     )?;
     page.note(
-        source,
         down.label.place,
         &[Part::Text("the next statement goes the other way, as in an exchange")],
     )?;

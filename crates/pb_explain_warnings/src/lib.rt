@@ -11,5 +11,5 @@ mod unused;
 mod uses;
 mod walk;
 
-pub use pb_explain_source::{NoMemory, Page, Place, Source};
+pub use pb_explain_source::{NoMemory, Page, Place};
 pub use walk::tell_warnings;

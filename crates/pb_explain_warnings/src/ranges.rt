@@ -1,6 +1,6 @@
 //! Ranges that are empty.
 
-use pb_explain_source::{Page, Part, Source};
+use pb_explain_source::{Page, Part};
 use pb_explain_tree::is_same;
 use pb_syntax::{FileTree, High, LinText, RangeText};
 use pb_text::NoMemory;
@@ -68,17 +68,11 @@ fn emptiness(file: &FileTree, range: &RangeText) -> Empty {
 }
 
 /// Writes a warning on a range that is empty.
-pub fn warn_range(
-    page: &mut Page,
-    source: &Source,
-    file: &FileTree,
-    range: &RangeText,
-) -> Result<(), NoMemory> {
+pub fn warn_range(page: &mut Page, file: &FileTree, range: &RangeText) -> Result<(), NoMemory> {
     let place = range.low.place;
     match emptiness(file, range) {
         Empty::Never => return Ok(()),
         Empty::Always => page.warn(
-            source,
             place,
             &[
                 Part::Text("the range "),
@@ -87,7 +81,6 @@ pub fn warn_range(
             ],
         )?,
         Empty::From(n) => page.warn(
-            source,
             place,
             &[
                 Part::Text("the range "),

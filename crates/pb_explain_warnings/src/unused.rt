@@ -1,22 +1,16 @@
 //! Roles, loops and variables that are never used.
 
 use crate::uses::{continues_in, items_use, seats_in};
-use pb_explain_source::{Page, Part, Source};
+use pb_explain_source::{Page, Part};
 use pb_syntax::{Block, FileTree, RoleText};
 use pb_text::{NoMemory, Spot};
 
 /// Writes a warning on a loop that nothing continues.
-pub fn warn_loop(
-    page: &mut Page,
-    source: &Source,
-    name: &Spot,
-    body: &Block,
-) -> Result<(), NoMemory> {
+pub fn warn_loop(page: &mut Page, name: &Spot, body: &Block) -> Result<(), NoMemory> {
     if continues_in(body, &name.name) {
         return Ok(());
     }
     page.warn(
-        source,
         name.place,
         &[
             Part::Text("nothing continues the loop `"),
@@ -32,17 +26,11 @@ pub fn warn_loop(
 }
 
 /// Writes a warning on a `foreach` whose items don't use its variable.
-pub fn warn_variable(
-    page: &mut Page,
-    source: &Source,
-    variable: &Spot,
-    items: &Block,
-) -> Result<(), NoMemory> {
+pub fn warn_variable(page: &mut Page, variable: &Spot, items: &Block) -> Result<(), NoMemory> {
     if items_use(items, &variable.name) {
         return Ok(());
     }
     page.warn(
-        source,
         variable.place,
         &[
             Part::Text("no end in this `foreach` has its variable `"),
@@ -58,17 +46,11 @@ pub fn warn_variable(
 }
 
 /// Writes a warning on a role that does nothing.
-pub fn warn_role(
-    page: &mut Page,
-    source: &Source,
-    file: &FileTree,
-    role: &RoleText,
-) -> Result<(), NoMemory> {
+pub fn warn_role(page: &mut Page, file: &FileTree, role: &RoleText) -> Result<(), NoMemory> {
     if seats_in(&file.body, &role.role.name) {
         return Ok(());
     }
     page.warn(
-        source,
         role.role.place,
         &[
             Part::Text("nothing is done by the role `"),

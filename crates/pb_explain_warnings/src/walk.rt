@@ -1,66 +1,51 @@
 use crate::chains::warn_chain;
 use crate::ranges::warn_range;
 use crate::unused::{warn_loop, warn_role, warn_variable};
-use pb_explain_source::{Page, Source};
+use pb_explain_source::Page;
 use pb_syntax::{Block, End, FileTree, IndexText, Statement};
 use pb_text::NoMemory;
 
-/// How many bytes of warnings are enough.
-const MOST_BYTES: usize = 8192;
+/// How many bytes of warnings are enough, without the lines of the file.
+const MOST_BYTES: usize = 4096;
 
 /// Whether there are warnings enough: each looks for its line from the file's first one.
 fn is_full(page: &Page) -> bool {
-    page.bytes().len() > MOST_BYTES
+    page.words().len() > MOST_BYTES
 }
 
-fn warn_end(page: &mut Page, source: &Source, file: &FileTree, end: &End) -> Result<(), NoMemory> {
+fn warn_end(page: &mut Page, file: &FileTree, end: &End) -> Result<(), NoMemory> {
     match &end.index {
-        IndexText::Bind(_, range) => warn_range(page, source, file, range),
+        IndexText::Bind(_, range) => warn_range(page, file, range),
         IndexText::Zero | IndexText::At(_) => Ok(()),
     }
 }
 
 #[cycle(warn)]
-fn warn_in(
-    block: &Block,
-    page: &mut Page,
-    source: &Source,
-    file: &FileTree,
-) -> Result<(), NoMemory> {
+fn warn_in(block: &Block, page: &mut Page, file: &FileTree) -> Result<(), NoMemory> {
     for (i, statement) in block.list.iter().enumerate() {
         if is_full(page) {
             break;
         }
-        warn_chain(page, source, statement, block.list.get(i.saturating_add(1)))?;
-        warn_at(statement, page, source, file)?;
+        warn_chain(page, statement, block.list.get(i.saturating_add(1)))?;
+        warn_at(statement, page, file)?;
     }
     Ok(())
 }
 
 #[cycle(warn)]
-fn warn_among(
-    branches: &[Block],
-    page: &mut Page,
-    source: &Source,
-    file: &FileTree,
-) -> Result<(), NoMemory> {
+fn warn_among(branches: &[Block], page: &mut Page, file: &FileTree) -> Result<(), NoMemory> {
     for branch in branches {
-        warn_in(branch, page, source, file)?;
+        warn_in(branch, page, file)?;
     }
     Ok(())
 }
 
 #[cycle(warn)]
-fn warn_at(
-    statement: &Statement,
-    page: &mut Page,
-    source: &Source,
-    file: &FileTree,
-) -> Result<(), NoMemory> {
+fn warn_at(statement: &Statement, page: &mut Page, file: &FileTree) -> Result<(), NoMemory> {
     match statement {
         Statement::Message { from, to, .. } => {
-            warn_end(page, source, file, from)?;
-            warn_end(page, source, file, to)
+            warn_end(page, file, from)?;
+            warn_end(page, file, to)
         }
         Statement::Foreach {
             var,
@@ -68,14 +53,14 @@ fn warn_at(
             items,
             ..
         } => {
-            warn_range(page, source, file, range)?;
-            warn_variable(page, source, var, items)
+            warn_range(page, file, range)?;
+            warn_variable(page, var, items)
         }
         Statement::Rec { name, body, .. } => {
-            warn_loop(page, source, name, body)?;
-            warn_in(body, page, source, file)
+            warn_loop(page, name, body)?;
+            warn_in(body, page, file)
         }
-        Statement::Choice { branches, .. } => warn_among(branches, page, source, file),
+        Statement::Choice { branches, .. } => warn_among(branches, page, file),
         Statement::Continue { .. }
         | Statement::Compute { .. }
         | Statement::Barrier { .. }
@@ -86,9 +71,9 @@ fn warn_at(
 }
 
 /// Writes a warning for each thing in the file that is lawful and mostly a mistake.
-pub fn tell_warnings(page: &mut Page, source: &Source, file: &FileTree) -> Result<(), NoMemory> {
+pub fn tell_warnings(page: &mut Page, file: &FileTree) -> Result<(), NoMemory> {
     for role in &file.roles {
-        warn_role(page, source, file, role)?;
+        warn_role(page, file, role)?;
     }
-    warn_in(&file.body, page, source, file)
+    warn_in(&file.body, page, file)
 }

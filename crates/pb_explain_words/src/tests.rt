@@ -9,6 +9,6 @@ fn names_the_word(rt: HostRuntime) -> Result<(), Fail> {
     let mut page = Page::new(rt.alloc());
     tell_usage(rt.alloc(), &mut page, &reading)?;
     let wanted = b"there is no command `chek`; perhaps `check` is meant\nforms:\n";
-    assert!(rt; page.bytes().starts_with(wanted));
+    assert!(rt; page.words().starts_with(wanted));
     Ok(())
 }

@@ -1,0 +1,5 @@
+use Rattle.pb_explain_source.specs.Pages.{IsPage}
+use Rattle.pb_explain_source.proofs.draft.Draft.say.Given as goal
+
+abbrev pub invariant-loop-byte : goal.invariant-loop-byte
+invariant-loop-byte l = IsPage l.source.file.now l.source.bytes.now l.self.tail l.self.text.items
