@@ -1,4 +1,3 @@
 pub mod Complete
 pub mod Program
 pub mod Reply
-pub mod Words

@@ -1,7 +1,7 @@
 //! `demo`.
 
 use crate::call::pabble;
-use crate::word;
+use pb_cli_answers::word;
 use pb_cli_status::Status;
 use pb_io::{MemFolder, MemSink};
 use std::alloc::Global;

@@ -1,7 +1,7 @@
 //! `gen` with a kernel file.
 
 use crate::call::pabble;
-use crate::word;
+use pb_cli_answers::word;
 use pb_cli_status::Status;
 use pb_io::{MemFile, MemFolder, MemSink};
 use std::alloc::{AllocError, Global};

@@ -9,7 +9,6 @@ ghost use Rattle.std.specs.Process.{exit_status};
 ghost use Rattle.pb_cli_status.specs.Codes.{code_of};
 ghost use Rattle.pb_cli_status.specs.Lines.{line_of};
 ghost use Rattle.pb_cli_status.specs.Written.{Says};
-ghost use Rattle.pb_cli.specs.Words.{word};
 
 mod call;
 #[cfg(test)]
@@ -28,12 +27,11 @@ mod strips_tests;
 mod tests;
 
 use call::pabble;
+use pb_cli_answers::Generators;
 use pb_cli_status::{Refusal, Status, refuse};
 use pb_explain::{RegularFolder, explain};
 use pb_io::{Folder, HostFolder, HostSink, Sink};
 use pb_text::NoMemory;
-use rand_core::utils::NextWord;
-use rand_pcg::Pcg32;
 use std::alloc::Global;
 use std::process::ExitCode;
 use std::{env, io};
@@ -47,15 +45,6 @@ fn words(rt: &HostRuntime) -> Result<Vec<String>, NoMemory> {
     }
 }
 
-/// Word number `count`, from 0, of the generator PCG-XSH-RR 64/32 with this seed and the rank as its stream.
-fn word(seed: u64, rank: u32, count: u64) -> u32
-    ensures { result ≡ word seed rank count }
-{
-    let mut generator = Pcg32::new(seed, u64::from(rank));
-    generator.advance(count);
-    generator.next_word()
-}
-
 /// Does what the words say, or tells that there was no memory for them.
 fn respond<F: Folder, O: Sink>(
     alloc: Global,
@@ -66,7 +55,12 @@ fn respond<F: Folder, O: Sink>(
     ensures wanting { OnErr words (Says Status.NoMemory (line_of Refusal.NoMemory) result (O.taken out.old) (O.taken out.new)) }
 {
     match words {
-        Ok(all) => pabble(alloc, all.as_slice(), folder, out, word),
+        Ok(all) => {
+            let generators = Generators::new();
+            pabble(alloc, all.as_slice(), folder, out, |seed, rank, count| {
+                generators.word(seed, rank, count)
+            })
+        }
         Err(NoMemory) => refuse(out, Refusal::NoMemory),
     }
 }
@@ -76,13 +70,14 @@ fn tell(rt: &HostRuntime, words: Result<Vec<String>, NoMemory>, status: Status) 
     if let Ok(all) = words {
         let mut folder = RegularFolder::new(rt);
         let mut err = HostSink::new(rt.stderr());
+        let generators = Generators::new();
         explain(
             rt.alloc(),
             all.as_slice(),
             status,
             &mut folder,
             &mut err,
-            word,
+            |seed, rank, count| generators.word(seed, rank, count),
         );
     }
 }

@@ -1,7 +1,7 @@
 ghost use Rattle.std.specs.Prelude.{◌≡◌};
 
 use crate::call::pabble;
-use crate::word;
+use pb_cli_answers::word;
 use pb_cli_status::Status;
 use pb_io::{MemFile, MemFolder, MemSink, SureFolder, SureSink};
 use std::alloc::{AllocError, Global};
@@ -815,17 +815,4 @@ fn sure_ones_have_no_fault(rt: HostRuntime) -> Result<(), Fail> {
         assert_eq!(rt; out.count(), count as u64);
     }
     Ok(())
-}
-
-/// The first words that the generator's authors print for the seed 42 and the stream 54.
-#[test]
-fn words_are_those_of_the_generator(rt: HostRuntime) {
-    for (count, expected) in [
-        (0, 0xa15c02b7),
-        (1, 0x7b47f409),
-        (4, 0xbfa4784b),
-        (5, 0xcbed606e),
-    ] {
-        assert_eq!(rt; word(42, 54, count), expected);
-    }
 }
