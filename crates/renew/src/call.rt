@@ -139,7 +139,7 @@ fn tell_done<F: Folder, T: Sink>(
     told: &mut T,
 ) {
     if let Ok(page) = changes(alloc, again, request.out, before) {
-        tell(told, page.bytes());
+        tell(told, page.words());
     }
     warn(alloc, request, again, told);
 }

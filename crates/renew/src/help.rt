@@ -197,6 +197,6 @@ fn page_on(alloc: Global, request: &Request<'_>, advice: &Advice) -> Result<Page
 
 fn say<T: Sink>(told: &mut T, page: Result<Page, NoMemory>) {
     if let Ok(page) = page {
-        let _written = write_all(told, page.bytes());
+        let _written = write_all(told, page.words());
     }
 }

@@ -234,7 +234,7 @@ fn what_has_changed_is_told(rt: HostRuntime) -> Result<(), Fail> {
     let before = bodies_in(alloc, &mut old, "o.c");
     let page = changes(alloc, &mut new, "o.c", &before)?;
     assert_eq!(rt;
-        page.bytes(),
+        page.words(),
         b"o.c.left: bodies whose functions are gone: k_K\n".as_slice()
     );
     let before = bodies_in(alloc, &mut new, "o.c");
@@ -244,7 +244,7 @@ fn what_has_changed_is_told(rt: HostRuntime) -> Result<(), Fail> {
 o.c.left: bodies whose functions are back: k_K
 help: copy them to their places in o.c, and take them out of o.c.left
 ";
-    assert_eq!(rt; page.bytes(), wanted.as_bytes());
+    assert_eq!(rt; page.words(), wanted.as_bytes());
     Ok(())
 }
 
