@@ -5,8 +5,6 @@ mod guard;
 mod guards;
 mod lin;
 mod range;
-#[cfg(test)]
-mod tests;
 
 pub use guard::Guard;
 pub use guards::Guards;

@@ -16,8 +16,6 @@ mod guesses;
 mod region;
 mod roles;
 mod spans;
-#[cfg(test)]
-mod tests;
 
 pub use bad::Bad;
 pub use cases::Cases;

@@ -7,8 +7,6 @@
 mod answer;
 mod command;
 mod lines;
-#[cfg(test)]
-mod tests;
 
 pub use answer::lines_in;
 pub use command::cost;

@@ -9,8 +9,6 @@ mod command;
 mod log;
 mod ruled;
 mod start;
-#[cfg(test)]
-mod tests;
 
 pub use answer::line_in;
 pub use command::judge;

@@ -8,8 +8,6 @@
 mod constraint;
 mod system;
 mod table;
-#[cfg(test)]
-mod tests;
 
 pub use constraint::Constraint;
 pub use system::System;

@@ -7,7 +7,5 @@
 mod apart;
 mod facts;
 mod term;
-#[cfg(test)]
-mod tests;
 
 pub use apart::{first_apart, first_apart_other};

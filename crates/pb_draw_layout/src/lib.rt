@@ -11,11 +11,7 @@ mod cut;
 mod endings;
 mod layout;
 mod numbers;
-#[cfg(test)]
-mod slow;
 mod sums;
-#[cfg(test)]
-mod tests;
 
 pub use bands::Band;
 pub use chain::Link;

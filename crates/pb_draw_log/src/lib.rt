@@ -11,8 +11,6 @@ mod heads;
 mod line;
 mod log;
 mod parts;
-#[cfg(test)]
-mod tests;
 mod words;
 
 pub use entry::{Deed, Entry, Log, Step};

@@ -14,8 +14,6 @@ mod lines;
 mod pen;
 mod scale;
 mod sums;
-#[cfg(test)]
-mod tests;
 mod tooltip;
 mod whole;
 

@@ -11,11 +11,7 @@ mod fault;
 mod links;
 mod mates;
 mod ordinals;
-#[cfg(test)]
-mod slow;
 mod sorting;
-#[cfg(test)]
-mod tests;
 mod times;
 mod tops;
 

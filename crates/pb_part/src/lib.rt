@@ -5,8 +5,6 @@
 mod kinds;
 mod listed;
 mod parts;
-#[cfg(test)]
-mod tests;
 mod whole;
 
 pub use kinds::{First, FirstKind};

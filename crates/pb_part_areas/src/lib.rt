@@ -12,8 +12,6 @@ mod join;
 mod numbers;
 mod pair;
 mod sets;
-#[cfg(test)]
-mod tests;
 
 pub use area::{Area, nowhere, since, until};
 pub use cut::Two;

@@ -1,7 +1,9 @@
-//! Tests of what `cost` tells of protocol files: against a slow program that makes every sequential run at one N, and on files with
-//! as many pieces as may be, and one more.
+//! Tests of what `cost` tells of protocol files: as written down by hand, against a slow program that makes every sequential run at
+//! one N, and on files with as many pieces as may be, and one more.
 #![tactic(auto)]
 
+#[cfg(test)]
+mod cost_tests;
 #[cfg(test)]
 mod lines;
 #[cfg(test)]

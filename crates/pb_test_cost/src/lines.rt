@@ -15,13 +15,18 @@ pub fn protocol(alloc: Global, range: &str, body: &str) -> Result<String, AllocE
 
 /// The status of `cost` on a file with this text, and what is written.
 pub fn told(alloc: Global, text: &str) -> Result<(Status, String), Fail> {
+    told_within(alloc, text, ROOM)
+}
+
+/// The same, where only so many bytes can be written.
+pub fn told_within(alloc: Global, text: &str, room: usize) -> Result<(Status, String), Fail> {
     let mut files = Vec::new(alloc);
     files.push(MemFile {
         name: String::from_str(alloc, "p")?,
         bytes: Vec::from_slice(alloc, text.as_bytes())?,
     })?;
     let mut folder = MemFolder::new(files, Vec::new(alloc));
-    let mut out = MemSink::new(alloc, ROOM, ROOM, Vec::new(alloc))?;
+    let mut out = MemSink::new(alloc, room, ROOM, Vec::new(alloc))?;
     let status = cost(alloc, "p", &mut folder, &mut out);
     Ok((
         status,

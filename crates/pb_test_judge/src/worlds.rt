@@ -3,7 +3,7 @@
 ghost use Rattle.std.specs.Prelude.{◌≤◌, IfOk};
 ghost use Rattle.pb_ctree.specs.Trees.{IsTree};
 
-use pb_cli_judge::judge;
+use pb_cli_judge::{Status, judge};
 use pb_cli_simulate::{CTree, Options, simulate_tree};
 use pb_compile::{Compiled, Core, accept, compile};
 use pb_io::{MemFile, MemFolder, MemSink};
@@ -55,20 +55,30 @@ pub fn log_of(alloc: Global, file: &str, options: Options) -> Result<String, Fai
     Ok(String::from_str(alloc, std::str::from_utf8(out.taken())?)?)
 }
 
-fn file_of(alloc: Global, name: &str, text: &str) -> Result<MemFile, AllocError> {
+/// The file with this name and text.
+pub fn file_of(alloc: Global, name: &str, text: &str) -> Result<MemFile, AllocError> {
     Ok(MemFile {
         name: String::from_str(alloc, name)?,
         bytes: Vec::from_slice(alloc, text.as_bytes())?,
     })
 }
 
-/// What `judge` writes of a protocol file and a log at N = n.
-pub fn ruled(alloc: Global, file: &str, log: &str, n: u32) -> Result<String, Fail> {
+/// The status of `judge` on a protocol file and a log at N = n, and what it writes.
+pub fn judged(alloc: Global, file: &str, log: &str, n: u32) -> Result<(Status, String), Fail> {
     let mut files = Vec::new(alloc);
     files.push(file_of(alloc, "p", file)?)?;
     files.push(file_of(alloc, "l", log)?)?;
     let mut folder = MemFolder::new(files, Vec::new(alloc));
     let mut out = MemSink::new(alloc, ROOM, ROOM, Vec::new(alloc))?;
-    let _status = judge(alloc, "p", "l", n, &mut folder, &mut out);
-    Ok(String::from_str(alloc, std::str::from_utf8(out.taken())?)?)
+    let status = judge(alloc, "p", "l", n, &mut folder, &mut out);
+    Ok((
+        status,
+        String::from_str(alloc, std::str::from_utf8(out.taken())?)?,
+    ))
+}
+
+/// What `judge` writes of a protocol file and a log at N = n.
+pub fn ruled(alloc: Global, file: &str, log: &str, n: u32) -> Result<String, Fail> {
+    let (_status, line) = judged(alloc, file, log, n)?;
+    Ok(line)
 }

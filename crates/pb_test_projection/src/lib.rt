@@ -8,4 +8,6 @@ mod part_firsts_tests;
 #[cfg(test)]
 mod part_takers_tests;
 #[cfg(test)]
+mod part_tests;
+#[cfg(test)]
 mod project_piece_tests;
