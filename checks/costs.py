@@ -5,16 +5,13 @@ range, or at all where there are fewer, the runs under all answers are made, ite
 most of their messages and words are those that the lines say. The lines are looked at, too: each list goes through the range without
 a gap, each piece goes as far as it can, and none but the last is of one number. The last line is 'N passed, M failed'.
 """
-import os
 import random
 import re
-import subprocess
 import sys
-import tempfile
-from pathlib import Path
 
-TOP = Path(__file__).resolve().parent.parent
-SHOWN, NUMBERS, FAR, CHOICES = 5, 10, 150, 6
+from random_files import answer, run
+
+NUMBERS, FAR, CHOICES = 10, 150, 6
 LISTS = ["least messages", "most messages", "least words", "most words"]
 LINE = re.compile(r"(least messages|most messages|least words|most words) (\d+) to (\d+|max): (-?\d+) \* N \+ (-?\d+)")
 
@@ -306,34 +303,20 @@ def wrong(program, path, rng):
     maker = Maker(rng)
     body = maker.block(3, 6, "all", 1)
     path.write_text(text(maker, body))
-    done = subprocess.run([program, "cost", path], capture_output=True, text=True)
-    lists = pieces(done.stdout.splitlines())
-    if done.returncode or isinstance(lists, str):
-        return f"{done.returncode}, {done.stdout}{lists}\nof\n{path.read_text()}"
+    status, written = answer(program, "cost", path)
+    lists = pieces(written.splitlines())
+    if status or isinstance(lists, str):
+        return f"{status}, {written}{lists}\nof\n{path.read_text()}"
     for name, these in zip(LISTS, lists):
         why = out_of_form(maker.low, maker.high, these)
         if why:
-            return f"{name}: {why}\nin\n{done.stdout}of\n{path.read_text()}"
+            return f"{name}: {why}\nin\n{written}of\n{path.read_text()}"
     for n in numbers(maker, rng):
         got, want = [value(these, n) for these in lists], wanted(body, n)
         if got != want:
-            return f"N = {n}: {got} and not {want}\nin\n{done.stdout}of\n{path.read_text()}"
+            return f"N = {n}: {got} and not {want}\nin\n{written}of\n{path.read_text()}"
     return None
 
 
-def main(words):
-    count, seed = (words + ["300", "1"][len(words):])[:2]
-    program = os.path.abspath(os.environ.get("PABBLE") or subprocess.check_output([TOP / "scripts/program.sh"], text=True).strip())
-    failures = []
-    with tempfile.TemporaryDirectory() as room:
-        path = Path(room) / "costs.pbl"
-        for k in range(int(count)):
-            why = wrong(program, path, random.Random(f"costs {seed} {k}"))
-            failures += [f"file {k}: {why}"] if why else []
-    print(*failures[:SHOWN], sep="\n")
-    print(f"{int(count) - len(failures)} passed, {len(failures)} failed")
-    return 1 if failures else 0
-
-
 if __name__ == "__main__":
-    sys.exit(main(sys.argv[1:]))
+    sys.exit(run("costs", wrong, sys.argv[1:]))

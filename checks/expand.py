@@ -5,16 +5,13 @@ statements, their places and what its calls give are known without a parser. Abo
 of nothing, with an argument too many, of a stranger, in a circle, or too many statements or braces. What is expanded must be expanded
 to itself. The last line is 'N passed, M failed'.
 """
-import os
 import random
-import subprocess
 import sys
-import tempfile
-from pathlib import Path
 
-TOP = Path(__file__).resolve().parent.parent
+from random_files import examples_of, rewritten, run
+
 sys.setrecursionlimit(100_000)
-STATEMENTS, BRACES, SHOWN = 4000, 64, 5
+STATEMENTS, BRACES = 4000, 64
 
 
 class Excess(Exception):
@@ -271,11 +268,6 @@ def expected(subs, roles, body, printer):
     return 0, Printer().file([], roles, block)
 
 
-def answer(program, *words):
-    done = subprocess.run([program, *words], capture_output=True, text=True)
-    return done.returncode, done.stdout
-
-
 def wrong(program, path, rng):
     """What is wrong of a random file, or nothing."""
     subs, roles, body = Maker(rng).file()
@@ -284,33 +276,8 @@ def wrong(program, path, rng):
     printer = Printer()
     path.write_text(printer.file(subs, roles, body))
     want = expected(subs, roles, body, printer)
-    got = answer(program, "expand", path)
-    if got != want:
-        return f"{got}\nand not\n{want}\nof\n{path.read_text()}"
-    if want[0] == 0:
-        path.write_text(want[1])
-        if answer(program, "expand", path) != want:
-            return f"what is expanded is expanded otherwise:\n{want[1]}"
-    return None
-
-
-def main(words):
-    count, seed = (words + ["300", "1"][len(words):])[:2]
-    program = os.path.abspath(os.environ.get("PABBLE") or subprocess.check_output([TOP / "scripts/program.sh"], text=True).strip())
-    failures = []
-    with tempfile.TemporaryDirectory() as room:
-        path = Path(room) / "calls"
-        for k in range(int(count)):
-            why = wrong(program, path, random.Random(f"expand {seed} {k}"))
-            failures += [f"file {k}: {why}"] if why else []
-    examples = sorted(TOP.glob("examples/*/*.calls"))
-    for it in examples:
-        got, want = answer(program, "expand", it), (0, it.with_suffix(".pbl").read_text())
-        failures += [] if got == want else [f"{it}: {got}"]
-    print(*failures[:SHOWN], sep="\n")
-    print(f"{int(count) + len(examples) - len(failures)} passed, {len(failures)} failed")
-    return 1 if failures else 0
+    return rewritten(program, "expand", path, want)
 
 
 if __name__ == "__main__":
-    sys.exit(main(sys.argv[1:]))
+    sys.exit(run("expand", wrong, sys.argv[1:], examples_of("expand", ".calls")))

@@ -5,15 +5,12 @@ statements, their places and what its columns give are known without a parser. A
 doesn't ascend, an end without its column, a variable of nothing, a column beyond the last, a name that is a column's, a long name, or
 too many roles or statements. What is flattened must be flattened to itself. The last line is 'N passed, M failed'.
 """
-import os
 import random
-import subprocess
 import sys
-import tempfile
-from pathlib import Path
 
-TOP = Path(__file__).resolve().parent.parent
-STATEMENTS, ROLES, NAME, LAST, SHOWN = 4000, 64, 60, 63, 5
+from random_files import examples_of, rewritten, run
+
+STATEMENTS, ROLES, NAME, LAST = 4000, 64, 60, 63
 CHANGES = ["width", "plain", "column", "beyond", "variable", "clash", "long", "roles", "many", "empty"]
 
 
@@ -287,11 +284,6 @@ def spoiled(rng, maker, roles, body):
         body.insert(rng.randint(0, len(body)), ["columns", "c", 0, 99_999, []])
 
 
-def answer(program, *words):
-    done = subprocess.run([program, *words], capture_output=True, text=True)
-    return done.returncode, done.stdout
-
-
 def wrong(program, path, rng):
     """What is wrong of a random file, or nothing."""
     maker = Maker(rng)
@@ -301,33 +293,8 @@ def wrong(program, path, rng):
     printer = Printer()
     path.write_text(printer.file(roles, body))
     want = expected(roles, body, printer)
-    got = answer(program, "strips", path)
-    if got != want:
-        return f"{got}\nand not\n{want}\nof\n{path.read_text()}"
-    if want[0] == 0:
-        path.write_text(want[1])
-        if answer(program, "strips", path) != want:
-            return f"what is flattened is flattened otherwise:\n{want[1]}"
-    return None
-
-
-def main(words):
-    count, seed = (words + ["300", "1"][len(words):])[:2]
-    program = os.path.abspath(os.environ.get("PABBLE") or subprocess.check_output([TOP / "scripts/program.sh"], text=True).strip())
-    failures = []
-    with tempfile.TemporaryDirectory() as room:
-        path = Path(room) / "strips"
-        for k in range(int(count)):
-            why = wrong(program, path, random.Random(f"strips {seed} {k}"))
-            failures += [f"file {k}: {why}"] if why else []
-    examples = sorted(TOP.glob("examples/*/*.strips"))
-    for it in examples:
-        got, want = answer(program, "strips", it), (0, it.with_suffix(".pbl").read_text())
-        failures += [] if got == want else [f"{it}: {got}"]
-    print(*failures[:SHOWN], sep="\n")
-    print(f"{int(count) + len(examples) - len(failures)} passed, {len(failures)} failed")
-    return 1 if failures else 0
+    return rewritten(program, "strips", path, want)
 
 
 if __name__ == "__main__":
-    sys.exit(main(sys.argv[1:]))
+    sys.exit(run("strips", wrong, sys.argv[1:], examples_of("strips", ".strips")))
