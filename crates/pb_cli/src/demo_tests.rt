@@ -1,7 +1,7 @@
 //! `demo`.
 
 use crate::call::pabble;
-use pb_cli_answers::word;
+use crate::tests::answer;
 use pb_cli_status::Status;
 use pb_io::{MemFolder, MemSink};
 use std::alloc::Global;
@@ -16,7 +16,7 @@ fn shown(alloc: Global, rest: &[&str], room: usize) -> Result<(Status, Vec<u8>),
     }
     let mut folder = MemFolder::new(Vec::new(alloc), Vec::new(alloc));
     let mut out = MemSink::new(alloc, room, 8192, Vec::new(alloc))?;
-    let status = pabble(alloc, &words, &mut folder, &mut out, word);
+    let status = pabble(alloc, &words, &mut folder, &mut out, answer);
     Ok((status, Vec::from_slice(alloc, out.taken())?))
 }
 

@@ -1,7 +1,7 @@
 //! `judge`.
 
 use crate::call::pabble;
-use pb_cli_answers::word;
+use crate::tests::answer;
 use pb_cli_status::Status;
 use pb_io::{MemFile, MemFolder, MemSink};
 use std::alloc::{AllocError, Global};
@@ -56,7 +56,7 @@ fn answered(
     files.push(file(alloc, "l", log)?)?;
     let mut folder = MemFolder::new(files, Vec::new(alloc));
     let mut out = MemSink::new(alloc, 8192, 8192, Vec::new(alloc))?;
-    let status = pabble(alloc, &words, &mut folder, &mut out, word);
+    let status = pabble(alloc, &words, &mut folder, &mut out, answer);
     Ok((status, Vec::from_slice(alloc, out.taken())?))
 }
 

@@ -1,7 +1,7 @@
 //! `gen` with a kernel file.
 
 use crate::call::pabble;
-use pb_cli_answers::word;
+use crate::tests::answer;
 use pb_cli_status::Status;
 use pb_io::{MemFile, MemFolder, MemSink};
 use std::alloc::{AllocError, Global};
@@ -54,7 +54,7 @@ fn answered(alloc: Global, words: &[&str], files: Vec<MemFile>) -> Result<(Statu
     let words = strings(alloc, words)?;
     let mut folder = MemFolder::new(files, Vec::new(alloc));
     let mut out = MemSink::new(alloc, 8192, 8192, Vec::new(alloc))?;
-    let status = pabble(alloc, &words, &mut folder, &mut out, word);
+    let status = pabble(alloc, &words, &mut folder, &mut out, answer);
     Ok((status, Vec::from_slice(alloc, out.taken())?))
 }
 

@@ -1,7 +1,7 @@
 //! `strips`.
 
 use crate::call::pabble;
-use pb_cli_answers::word;
+use crate::tests::answer;
 use pb_cli_status::Status;
 use pb_io::{MemFile, MemFolder, MemSink};
 use std::alloc::Global;
@@ -19,7 +19,7 @@ fn told(alloc: Global, text: &str) -> Result<(Status, Vec<u8>), Fail> {
     })?;
     let mut folder = MemFolder::new(files, Vec::new(alloc));
     let mut out = MemSink::new(alloc, 8192, 8192, Vec::new(alloc))?;
-    let status = pabble(alloc, &words, &mut folder, &mut out, word);
+    let status = pabble(alloc, &words, &mut folder, &mut out, answer);
     Ok((status, Vec::from_slice(alloc, out.taken())?))
 }
 

@@ -7,6 +7,11 @@ use pb_io::{MemFile, MemFolder, MemSink, SureFolder, SureSink};
 use std::alloc::{AllocError, Global};
 use std::test::Fail;
 
+/// What kernels answer, word by word.
+pub fn answer(seed: u64, rank: u32, count: u64) -> u32 {
+    word(seed, rank, count)
+}
+
 /// One message from the first rank to the last.
 const FIRST: &str = "const N = 2..max;
 global protocol P(role W[0..N-1]) {
@@ -787,7 +792,7 @@ fn check_has_the_faults_of_its_files(rt: HostRuntime) -> Result<(), Fail> {
 
 /// The status over a folder and a sink in memory.
 fn called(alloc: Global, words: &[String], folder: &mut MemFolder, out: &mut MemSink) -> Status {
-    pabble(alloc, words, folder, out, word)
+    pabble(alloc, words, folder, out, answer)
 }
 
 /// The status over a folder and a sink that never fail.
@@ -795,7 +800,7 @@ fn sure(alloc: Global, words: &[String], folder: &mut SureFolder, out: &mut Sure
     ensures read { result ≡ Status.ReadFault → ⊥ }
     ensures write { result ≡ Status.WriteFault → ⊥ }
 {
-    pabble(alloc, words, folder, out, word)
+    pabble(alloc, words, folder, out, answer)
 }
 
 #[test]
