@@ -1,8 +1,8 @@
-use super::*;
 use pb_core_language::{
     Base, CoreBlock, CoreEnd, CoreKind, CoreLabel, CoreRole, CoreStmt, Lin, NRange, Name, Payload,
 };
 use pb_core_sound::is_sound;
+use pb_plain::{Core, Held, Outcome, Place, can_end, firsts, flat_of, range, seats, takes_part};
 use std::alloc::Global;
 use std::test::Fail;
 

@@ -1,9 +1,9 @@
-use super::*;
 use pb_core_language::{
     Base, CoreBlock, CoreEnd, CoreKernel, CoreKind, CoreLabel, CoreRole, CoreStmt, KernelKind, Lin,
     NRange, Name, Payload,
 };
 use pb_core_sound::is_sound;
+use pb_plain_rules::{Breach, Core, Mark, Place, Seat, breaches};
 use std::alloc::Global;
 use std::test::Fail;
 

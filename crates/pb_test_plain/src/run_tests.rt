@@ -1,6 +1,9 @@
-use super::*;
 use pb_core_language::Place;
 use pb_plain::{Ends, Mark, Origin};
+use pb_plain_run::{
+    Answers, Branches, Collective, CoreLabel, Flat, FullAction, Op, RankAction, Sequence, Setting,
+    Words, sequential_run,
+};
 use pb_syntax::{Name, Payload};
 use std::alloc::Global;
 use std::fmt::Write;
