@@ -69,7 +69,7 @@ global protocol P(role W[0..N-3]) {
 #[test]
 fn ends_meet_at_a_far_n(rt: HostRuntime) -> Result<(), Fail> {
     let text = b"const N = 1..100000;
-global protocol P(role W[0..100000]) {
+global protocol P(role W[0..100000], role V[0..N]) {
   A() from W[N] to W[99999];
 }
 ";
