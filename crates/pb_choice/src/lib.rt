@@ -15,6 +15,8 @@ mod past;
 mod round;
 mod rule;
 mod setting;
+#[cfg(test)]
+mod tests;
 mod told;
 mod walk;
 

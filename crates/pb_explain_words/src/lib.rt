@@ -7,6 +7,8 @@ mod command;
 mod numbers;
 mod options;
 mod reading;
+#[cfg(test)]
+mod tests;
 mod usage;
 
 pub use command::Verb;

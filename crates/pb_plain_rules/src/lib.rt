@@ -24,3 +24,6 @@ pub use round::holds_again;
 pub use tell_rule::TellRule;
 pub use told::misfits;
 pub use within::Within;
+
+#[cfg(test)]
+mod tests;

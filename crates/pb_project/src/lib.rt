@@ -7,6 +7,8 @@ mod continues;
 mod local;
 mod numbers;
 mod takers;
+#[cfg(test)]
+mod tests;
 mod told;
 
 pub use local::project;

@@ -10,6 +10,8 @@ mod index;
 mod line;
 mod offsets;
 mod span;
+#[cfg(test)]
+mod tests;
 mod trap;
 mod walk;
 
