@@ -15,8 +15,6 @@ mod past;
 mod round;
 mod rule;
 mod setting;
-#[cfg(test)]
-mod tests;
 mod told;
 mod walk;
 

@@ -5,8 +5,9 @@ use Rattle.std.proofs.lemmas.List.{append-nil}
 use Rattle.std.specs.Io.KnownBytes.{Appends}
 use Rattle.pb_io.specs.Files.{File}
 use Rattle.pb_io.specs.Sinks.{AppendsFront}
-use Rattle.pb_explain.specs.Told.{AppendsSome, IsTold, Tells}
-use Rattle.pb_explain.proofs.Pages.{of_nothing}
+use Rattle.pb_explain_again.specs.Told.{IsTold}
+use Rattle.pb_explain.specs.Told.{AppendsSome, Tells}
+use Rattle.pb_explain_again.proofs.Pages.{of_nothing}
 
 pub of_result : {T E : Type 0} (r : Result T E) (before after : Option (List ℕ)) (text : List ℕ) → OnOk r (Appends before after text)
     → OnErr r (AppendsFront before after text) → AppendsSome before after text

@@ -1,22 +1,8 @@
--- What a person is told of files.
-use Rattle.std.specs.Prelude.{⊤, ℕ, List, take, Option}
+-- What a person is told of files, as far as it was written.
+use Rattle.std.specs.Prelude.{ℕ, List, take, Option}
 use Rattle.std.specs.Io.KnownBytes.{Appends}
-use Rattle.pb_io.specs.Files.{File, IsContent}
-use Rattle.pb_explain_source.specs.Pages.{IsPageOf}
-use Rattle.pb_explain.specs.declared.again.Again.{Again}
-use Rattle.pb_explain.specs.declared.again.Again.TheVariants.{Bytes, Lost}
-
--- what was read is the whole file
-abbrev pub IsAgain : Option (List File) → List ℕ → Again → Type 0
-IsAgain holds name (Bytes bytes) = IsContent holds name bytes.items
-IsAgain holds name (Lost loss) = ⊤
-
--- a page on a file, which has these bytes where the folder tells what it holds
-pub record IsTold (holds : Option (List File)) (text : List ℕ) : Type 0 where
-  pub file : List ℕ
-  pub bytes : List ℕ
-  pub content : IsContent holds file bytes
-  pub page : IsPageOf file bytes text
+use Rattle.pb_io.specs.Files.{File}
+use Rattle.pb_explain_again.specs.Told.{IsTold}
 
 -- some first bytes of the text were appended, or all of them, or none
 pub record AppendsSome (before after : Option (List ℕ)) (text : List ℕ) : Type 0 where

@@ -2,12 +2,12 @@
 
 ghost use Rattle.std.specs.Prelude.{IfOk};
 ghost use Rattle.pb_explain_source.specs.Pages.{IsPageOf};
-ghost use Rattle.pb_explain.specs.Told.{IsTold};
+ghost use Rattle.pb_explain_again.specs.Told.{IsTold};
 
-use crate::again::{Again, MOST_FILE_BYTES, read_again, text_of_loss};
 use crate::named::{Sentence, point_at_word};
 use pb_cli_expand::refusal_in;
 use pb_cli_status::{CallWrong, Refusal, Status};
+use pb_explain_again::{Again, MOST_FILE_BYTES, read_again, text_of_loss};
 use pb_explain_source::{NoMemory, Page, Part, Source};
 use pb_explain_syntax::tell_limit;
 use pb_io::Folder;
@@ -102,7 +102,7 @@ fn text_of_calls(alloc: Global, source: &Source, status: Status) -> Result<Vec<u
 }
 
 /// What is told of a file with subprotocols.
-#[tactic(auto, using(crate::proofs::Pages::of_file, crate::proofs::Pages::of_words))]
+#[tactic(auto, using(pb_explain_again::proofs::Pages::of_file, pb_explain_again::proofs::Pages::of_words))]
 pub fn text_of_expand<F: Folder>(
     alloc: Global,
     folder: &mut F,

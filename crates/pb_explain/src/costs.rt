@@ -2,12 +2,12 @@
 
 ghost use Rattle.std.specs.Prelude.{IfOk};
 ghost use Rattle.pb_explain_source.specs.Pages.{IsPageOf};
-ghost use Rattle.pb_explain.specs.Told.{IsTold};
+ghost use Rattle.pb_explain_again.specs.Told.{IsTold};
 
-use crate::again::{Again, MOST_FILE_BYTES, read_again, text_of_loss};
-use crate::protocol::{Ask, tell_protocol};
 use pb_cli_cost::lines_in;
 use pb_cli_status::{Quantity, Refusal, Status};
+use pb_explain_again::{Again, MOST_FILE_BYTES, read_again, text_of_loss};
+use pb_explain_protocol::{Ask, tell_protocol};
 use pb_explain_source::{NoMemory, Page, Part, Source};
 use pb_explain_syntax::tell_limit;
 use pb_io::Folder;
@@ -59,7 +59,7 @@ fn text_of_counts<F: Folder>(
 }
 
 /// What is told of the costs of the protocol in a file.
-#[tactic(auto, using(crate::proofs::Pages::of_file, crate::proofs::Pages::of_words))]
+#[tactic(auto, using(pb_explain_again::proofs::Pages::of_file, pb_explain_again::proofs::Pages::of_words))]
 pub fn text_of_cost<F: Folder>(
     alloc: Global,
     folder: &mut F,

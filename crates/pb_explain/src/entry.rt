@@ -2,12 +2,13 @@
 
 ghost use Rattle.std.specs.Prelude.{[], IfOk};
 ghost use Rattle.pb_explain_source.specs.Pages.{IsPageOf};
-ghost use Rattle.pb_explain.specs.Told.{AppendsSome, IsTold, Tells};
+ghost use Rattle.pb_explain_again.specs.Told.{IsTold};
+ghost use Rattle.pb_explain.specs.Told.{AppendsSome, Tells};
 
-use crate::again::text_of_words;
 use crate::files::{text_of_files, text_of_read_fault};
 use pb_cli_status::Status;
 use pb_cli_words::command_in;
+use pb_explain_again::text_of_words;
 use pb_explain_source::{NoMemory, Page};
 use pb_explain_words::{read_words, tell_usage, tell_version};
 use pb_io::{Folder, Sink, write_all};
@@ -46,7 +47,7 @@ fn write_text<E: Sink>(err: &mut E, text: &[u8])
 }
 
 /// What is to be written.
-#[tactic(auto, using(crate::proofs::Pages::of_words))]
+#[tactic(auto, using(pb_explain_again::proofs::Pages::of_words))]
 fn text_of<F: Folder, A: Fn(u64, u32, u64) -> u32 + Drop>(
     alloc: Global,
     words: &[String],
@@ -92,7 +93,7 @@ fn text_of_usage(alloc: Global, words: &[String]) -> Result<Vec<u8>, NoMemory>
 }
 
 /// Words in a form.
-#[tactic(auto, using(crate::proofs::Pages::of_words))]
+#[tactic(auto, using(pb_explain_again::proofs::Pages::of_words))]
 fn text_of_call<F: Folder, A: Fn(u64, u32, u64) -> u32 + Drop>(
     alloc: Global,
     words: &[String],

@@ -2,48 +2,21 @@
 
 ghost use Rattle.std.specs.Prelude.{[], IfOk};
 ghost use Rattle.pb_explain_source.specs.Pages.{IsPageOf};
-ghost use Rattle.pb_explain.specs.Told.{IsTold};
+ghost use Rattle.pb_explain_again.specs.Told.{IsTold};
 
-use crate::again::{
-    Again, Loss, MOST_FILE_BYTES, read_again, text_of_loss, text_of_words, text_unread,
-};
 use crate::calls::text_of_expand;
 use crate::costs::text_of_cost;
 use crate::judged::{Judged, text_of_judged};
-use crate::kernels::text_of_merge;
-use crate::protocol::{Ask, text_of_protocol};
-use crate::schedule::{Replay, text_of_replay};
 use crate::strips::text_of_strips;
-use crate::text::text_of_text;
 use pb_cli_status::Status;
 use pb_cli_words::Command;
-use pb_explain_source::{NoMemory, Page, Source};
+use pb_explain_again::{Again, Loss, read_again, text_of_words, text_unread};
+use pb_explain_protocol::{Ask, text_of_file, text_of_merge};
+use pb_explain_simulation::{Replay, text_of_replay, text_of_text};
+use pb_explain_source::{NoMemory, Page};
 use pb_io::Folder;
 use pb_text::MOST_TEXT_BYTES;
 use std::alloc::Global;
-
-/// What is told of a protocol file.
-#[tactic(auto, using(crate::proofs::Pages::of_file, crate::proofs::Pages::of_words))]
-pub fn text_of_file<F: Folder>(
-    alloc: Global,
-    folder: &mut F,
-    file: &str,
-    status: Status,
-    ask: Ask,
-) -> Result<Vec<u8>, NoMemory>
-    ensures { IfOk result (λ text. IsTold (F.holds folder.old) text.items) }
-{
-    match read_again(alloc, folder, file, MOST_FILE_BYTES)? {
-        Again::Bytes(bytes) => {
-            let source = Source {
-                file,
-                bytes: &bytes,
-            };
-            text_of_protocol(alloc, &source, status, ask)
-        }
-        Again::Lost(loss) => text_of_loss(alloc, file, loss, status),
-    }
-}
 
 /// Whether warnings come with what the command writes.
 fn is_warned(command: Command) -> bool {
@@ -61,7 +34,7 @@ fn is_warned(command: Command) -> bool {
 }
 
 /// What is told of a command that ended so.
-#[tactic(auto, using(crate::proofs::Pages::of_words))]
+#[tactic(auto, using(pb_explain_again::proofs::Pages::of_words))]
 pub fn text_of_files<F: Folder, A: Fn(u64, u32, u64) -> u32 + Drop>(
     alloc: Global,
     folder: &mut F,

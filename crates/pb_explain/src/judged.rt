@@ -2,13 +2,12 @@
 
 ghost use Rattle.std.specs.Prelude.{IfOk};
 ghost use Rattle.pb_explain_source.specs.Pages.{IsPageOf};
-ghost use Rattle.pb_explain.specs.Told.{IsTold};
+ghost use Rattle.pb_explain_again.specs.Told.{IsTold};
 
-use crate::again::{Again, MOST_FILE_BYTES, read_again, tell_long, tell_once, text_of_loss};
-use crate::files::text_of_file;
-use crate::protocol::{Ask, tell_protocol};
 use pb_cli_judge::line_in;
 use pb_cli_status::{Refusal, Status};
+use pb_explain_again::{Again, MOST_FILE_BYTES, read_again, tell_long, tell_once, text_of_loss};
+use pb_explain_protocol::{Ask, tell_protocol, text_of_file};
 use pb_explain_runs::{tell_beyond, tell_differs, tell_log_line};
 use pb_explain_source::{NoMemory, Page, Source};
 use pb_io::Folder;
@@ -65,7 +64,7 @@ fn text_of_ruling<F: Folder>(
 }
 
 /// What is told of a log.
-#[tactic(auto, using(crate::proofs::Pages::of_file, crate::proofs::Pages::of_words))]
+#[tactic(auto, using(pb_explain_again::proofs::Pages::of_file, pb_explain_again::proofs::Pages::of_words))]
 fn text_of_log<F: Folder>(
     alloc: Global,
     folder: &mut F,
@@ -124,7 +123,7 @@ fn text_of_excess<F: Folder>(
 }
 
 /// What is told of a limit.
-#[tactic(auto, using(crate::proofs::Pages::of_file, crate::proofs::Pages::of_words))]
+#[tactic(auto, using(pb_explain_again::proofs::Pages::of_file, pb_explain_again::proofs::Pages::of_words))]
 fn text_of_limits<F: Folder>(
     alloc: Global,
     folder: &mut F,

@@ -5,23 +5,13 @@
 //! messages; this one finds out which is due.
 #![tactic(auto)]
 
-mod again;
 mod calls;
 mod costs;
 mod entry;
 mod files;
 mod judged;
-mod kernels;
 mod named;
-mod played;
-mod protocol;
-mod running;
-mod schedule;
 mod strips;
-#[cfg(test)]
-mod tests;
-mod text;
-mod verdict;
 
 pub use entry::explain;
 pub use pb_cli_status::Status;

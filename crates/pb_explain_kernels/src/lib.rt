@@ -6,8 +6,6 @@ mod functions;
 mod lines;
 mod markers;
 mod tell;
-#[cfg(test)]
-mod tests;
 
 pub use pb_explain_source::{NoMemory, Page, Place, Source};
 pub use tell::tell_kernels;

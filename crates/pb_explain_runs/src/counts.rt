@@ -4,7 +4,7 @@ use pb_explain_source::{Page, Part};
 use pb_text::{Name, NoMemory};
 
 /// How many ranks a simulation has at most.
-const MOST_RANKS: i64 = 1024;
+pub const MOST_RANKS: i64 = 1024;
 
 /// How many ranks a role has at some N.
 #[derive(Clone, Copy)]

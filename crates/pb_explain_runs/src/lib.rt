@@ -6,12 +6,10 @@ mod counts;
 mod logs;
 mod outside;
 mod schedules;
-#[cfg(test)]
-mod tests;
 mod unended;
 mod waits;
 
-pub use counts::{Count, tell_many_ranks};
+pub use counts::{Count, MOST_RANKS, tell_many_ranks};
 pub use logs::{tell_beyond, tell_differs, tell_log_line};
 pub use outside::{Values, tell_outside, tell_outside_text};
 pub use pb_explain_source::{NoMemory, Page, Place, Source};

@@ -11,8 +11,6 @@ mod page;
 mod part;
 mod source;
 mod tail;
-#[cfg(test)]
-mod tests;
 
 pub use page::Page;
 pub use part::Part;

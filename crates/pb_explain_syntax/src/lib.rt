@@ -10,8 +10,6 @@ mod hints;
 mod limits;
 mod symbol;
 mod tell;
-#[cfg(test)]
-mod tests;
 mod walk;
 
 pub use bytes::{tell_byte, tell_comment};

@@ -8,8 +8,6 @@ mod sections;
 mod settled;
 mod statements;
 mod tell;
-#[cfg(test)]
-mod tests;
 
 pub use pb_explain_source::{NoMemory, Page, Place, Source};
 pub use tell::tell_text_line;

@@ -5,8 +5,6 @@ mod endings;
 mod names;
 mod path;
 mod statements;
-#[cfg(test)]
-mod tests;
 
 pub use endings::can_end;
 pub use names::{Duty, Kind, Seen, names_of};

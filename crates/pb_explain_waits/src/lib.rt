@@ -5,8 +5,6 @@
 mod chain;
 mod seats;
 mod standstill;
-#[cfg(test)]
-mod tests;
 
 pub use chain::{Chain, Last, causes_of};
 pub use pb_explain_again::Heard;

@@ -7,8 +7,6 @@ mod command;
 mod numbers;
 mod options;
 mod reading;
-#[cfg(test)]
-mod tests;
 mod usage;
 
 pub use command::Verb;

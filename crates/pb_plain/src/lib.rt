@@ -29,6 +29,3 @@ pub use pb_text::NoMemory;
 pub use ranks::{is_same, number_in, seats};
 pub use site::{Site, asked, from_one, from_two, mark, rank_of};
 pub use takes::{can_end, some_can_end, takes_part, takes_part_among};
-
-#[cfg(test)]
-mod tests;

@@ -24,6 +24,3 @@ pub use round::holds_again;
 pub use tell_rule::TellRule;
 pub use told::misfits;
 pub use within::Within;
-
-#[cfg(test)]
-mod tests;

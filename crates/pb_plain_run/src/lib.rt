@@ -22,6 +22,3 @@ pub use pb_plain::{Branches, Collective, Flat};
 pub use pb_text::{NoMemory, Words};
 pub use sequence::{Sequence, sequential_run};
 pub use setting::Setting;
-
-#[cfg(test)]
-mod tests;

@@ -7,8 +7,6 @@ mod continues;
 mod local;
 mod numbers;
 mod takers;
-#[cfg(test)]
-mod tests;
 mod told;
 
 pub use local::project;

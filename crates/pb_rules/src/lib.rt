@@ -10,8 +10,6 @@ mod index;
 mod line;
 mod offsets;
 mod span;
-#[cfg(test)]
-mod tests;
 mod trap;
 mod walk;
 

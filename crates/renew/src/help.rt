@@ -3,7 +3,8 @@
 use crate::fault::Fault;
 use crate::request::Request;
 use pb_cli_status::Status;
-use pb_explain::explain;
+use pb_explain_again::text_unread;
+use pb_explain_protocol::{Ask, text_of_file, text_of_merge};
 use pb_explain_source::{Page, Part};
 use pb_io::{Folder, Sink, read_all, write_all};
 use pb_kernels::KernelFault;
@@ -46,12 +47,8 @@ fn help_out<F: Folder, T: Sink>(
         Unrenewed::ReadFault => explain_unread(alloc, request, again, told),
         Unrenewed::TooLong => say(told, page_on(alloc, request, &TOO_LONG)),
         Unrenewed::Out(KernelFault::Missing(_)) => say(told, page_on(alloc, request, &NO_BODY)),
-        Unrenewed::Out(_) => {
-            explain_kernels(alloc, request, request.out, Status::Kernel, again, told);
-        }
-        Unrenewed::Left(KernelFault::BadMarker(_)) => {
-            explain_left(alloc, request, Status::Kernel, again, told);
-        }
+        Unrenewed::Out(_) => explain_kernels(alloc, request, request.out, again, told),
+        Unrenewed::Left(KernelFault::BadMarker(_)) => explain_left(alloc, request, again, told),
         Unrenewed::Left(_) => say(told, page_on(alloc, request, &ANOTHER)),
         Unrenewed::WriteFault => say(told, page_on(alloc, request, &UNWRITTEN)),
         Unrenewed::Halfway => say(told, page_on(alloc, request, &HALFWAY)),
@@ -60,7 +57,7 @@ fn help_out<F: Folder, T: Sink>(
 
 // ---- what the compiler explains
 
-/// Writes why the call `check FILE` of `pabble` ends with this status.
+/// Writes why FILE isn't accepted, or of what it warns there.
 fn explain_file<F: Folder, T: Sink>(
     alloc: Global,
     request: &Request<'_>,
@@ -68,35 +65,35 @@ fn explain_file<F: Folder, T: Sink>(
     again: &mut F,
     told: &mut T,
 ) {
-    if let Ok(words) = words_of(alloc, "check", request.file, None) {
-        explain(alloc, &words, status, again, told, no_word);
-    }
+    let text = if status == Status::ReadFault {
+        text_unread(alloc, request.file)
+    } else {
+        text_of_file(alloc, again, request.file, status, Ask::Verdict)
+    };
+    write_text(told, text);
 }
 
-/// Writes why the call `gen FILE KERNELS` of `pabble` ends with this status.
+/// Writes why a kernel file doesn't fit FILE.
 fn explain_kernels<F: Folder, T: Sink>(
     alloc: Global,
     request: &Request<'_>,
     kernels: &str,
-    status: Status,
     again: &mut F,
     told: &mut T,
 ) {
-    if let Ok(words) = words_of(alloc, "gen", request.file, Some(kernels)) {
-        explain(alloc, &words, status, again, told, no_word);
-    }
+    let text = text_of_merge(alloc, again, request.file, kernels, Status::Kernel);
+    write_text(told, text);
 }
 
 /// The same of OUT.left as the kernel file.
 fn explain_left<F: Folder, T: Sink>(
     alloc: Global,
     request: &Request<'_>,
-    status: Status,
     again: &mut F,
     told: &mut T,
 ) {
     if let Ok(left) = left_name(alloc, request.out) {
-        explain_kernels(alloc, request, &left, status, again, told);
+        explain_kernels(alloc, request, &left, again, told);
     }
 }
 
@@ -107,32 +104,18 @@ fn explain_unread<F: Folder, T: Sink>(
     again: &mut F,
     told: &mut T,
 ) {
-    if read_all(alloc, again, request.out, MOST_TEXT_BYTES).is_ok() {
-        explain_left(alloc, request, Status::ReadFault, again, told);
-    } else {
-        explain_kernels(alloc, request, request.out, Status::ReadFault, again, told);
+    if read_all(alloc, again, request.out, MOST_TEXT_BYTES).is_err() {
+        write_text(told, text_unread(alloc, request.out));
+    } else if let Ok(left) = left_name(alloc, request.out) {
+        write_text(told, text_unread(alloc, &left));
     }
 }
 
-/// The words of a call of `pabble`.
-fn words_of(
-    alloc: Global,
-    command: &str,
-    file: &str,
-    kernels: Option<&str>,
-) -> Result<Vec<String>, NoMemory> {
-    let mut words = Vec::new(alloc);
-    words.push(String::from_str(alloc, command)?)?;
-    words.push(String::from_str(alloc, file)?)?;
-    if let Some(kernels) = kernels {
-        words.push(String::from_str(alloc, kernels)?)?;
+/// Writes a text, as far as the sink takes it.
+fn write_text<T: Sink>(told: &mut T, text: Result<Vec<u8>, NoMemory>) {
+    if let Ok(text) = text {
+        let _written = write_all(told, &text);
     }
-    Ok(words)
-}
-
-/// The answers of kernels, which no check asks for.
-fn no_word(_seed: u64, _rank: u32, _count: u64) -> u32 {
-    0
 }
 
 // ---- what is told of OUT

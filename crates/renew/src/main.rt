@@ -19,7 +19,7 @@ mod tests;
 
 use call::respond;
 use pb_cli_status::Status;
-use pb_explain::RegularFolder;
+use pb_explain_again::RegularFolder;
 use pb_io::HostSink;
 use pb_renew_store::HostStore;
 use pb_text::NoMemory;

@@ -1,4 +1,4 @@
-use Rattle.pb_explain.proofs.Pages.{of_file, read_file}
+use Rattle.pb_explain_again.proofs.Pages.{of_file, read_file}
 use Rattle.pb_explain.proofs.calls.text_of_expand.Goals as goal
 
 pub returns-in-Bytes : goal.returns-in-Bytes

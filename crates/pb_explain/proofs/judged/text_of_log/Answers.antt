@@ -1,4 +1,4 @@
-use Rattle.pb_explain.proofs.Pages.{of_file, read_file}
+use Rattle.pb_explain_again.proofs.Pages.{of_file, read_file}
 use Rattle.pb_explain.proofs.judged.text_of_log.Goals as goal
 
 pub returns-in-Bytes : goal.returns-in-Bytes

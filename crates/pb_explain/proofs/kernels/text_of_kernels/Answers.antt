@@ -1,6 +1,0 @@
-use Rattle.pb_explain.proofs.Pages.{of_file, read_file}
-use Rattle.pb_explain.proofs.kernels.text_of_kernels.Goals as goal
-
-pub returns-in-Bytes : goal.returns-in-Bytes
-returns-in-Bytes g c =
-    of_file c.text_of_misfit.result _ _ _ (read_file _ _ _ c.in-Bytes.bytes _ c.in_ok-bytes.ensures.again c.in-Bytes.is c.deref.ensures.value) c.text_of_misfit.ensures

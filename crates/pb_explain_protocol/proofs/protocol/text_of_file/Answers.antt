@@ -1,0 +1,6 @@
+use Rattle.pb_explain_again.proofs.Pages.{of_file, read_file}
+use Rattle.pb_explain_protocol.proofs.protocol.text_of_file.Goals as goal
+
+pub returns-in-Bytes : goal.returns-in-Bytes
+returns-in-Bytes g c =
+    of_file c.text_of_protocol.result _ _ _ (read_file _ _ _ c.in-Bytes.bytes _ c.in_ok-bytes.ensures.again c.in-Bytes.is c.deref.ensures.value) c.text_of_protocol.ensures
