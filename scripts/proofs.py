@@ -83,7 +83,8 @@ class Run:
         wanted = {below for it in every if it.name in names for below in [it, *it.below()]}
         crates = [it for it in every if it in wanted]
         self.kept, self.done, self.begun, self.turn = store(every), {}, set(), threading.Condition()
-        self.above = {it.name: sum(it in other.below() for other in crates) for it in crates}
+        below = [name for it in crates for name in {dep.name for dep in it.below()}]
+        self.above = {it.name: below.count(it.name) for it in crates}
         self.tasks = [(it, False) for it in crates] + [(it, True) for it in crates if with_tests and it.name in names and it.has_tests()]
 
     def take(self, crate, tests, key):
