@@ -72,9 +72,9 @@ fn tells_why_there_is_no_picture(rt: HostRuntime) -> Result<(), Fail> {
 #[test]
 fn a_picture_that_is_not_written(rt: HostRuntime) -> Result<(), Fail> {
     let answer = answered(rt.alloc(), &["log"], b"0 run K\n", &[0])?;
-    assert_eq!(rt; answer.status, Status::WriteFault);
+    assert!(rt; answer.status == Status::WriteFault);
     assert!(rt; answer.out.is_empty());
-    assert_eq!(rt; answer.told.as_slice(), b"draw: write fault\n".as_slice());
+    assert!(rt; answer.told.as_slice() == b"draw: write fault\n".as_slice());
     Ok(())
 }
 
@@ -91,12 +91,12 @@ fn long_log(alloc: Global) -> Result<Vec<u8>, NoMemory> {
 fn draws_the_first_2000_events(rt: HostRuntime) -> Result<(), Fail> {
     let text = long_log(rt.alloc())?;
     let answer = answered(rt.alloc(), &["log"], &text, &[])?;
-    assert_eq!(rt; answer.status, Status::Done);
+    assert!(rt; answer.status == Status::Done);
     let line = b"draw: the first 2000 of 2001 events are drawn; --from and --to choose others\n";
-    assert_eq!(rt; answer.told.as_slice(), line.as_slice());
+    assert!(rt; answer.told.as_slice() == line.as_slice());
     assert!(rt; answer.out.starts_with(b"<svg ") && answer.out.ends_with(b"</svg>\n"));
     let all = answered(rt.alloc(), &["log", "--from", "1"], &text, &[])?;
-    assert_eq!(rt; all.status, Status::Done);
+    assert!(rt; all.status == Status::Done);
     assert!(rt; all.told.is_empty() && answer.out.len() < all.out.len());
     Ok(())
 }

@@ -47,8 +47,8 @@ global protocol P(role M, role W[0..N-1]) {
 fn expands_calls(rt: HostRuntime) -> Result<(), Fail> {
     for calls in [ASKED_TWICE, EXPANDED] {
         let (status, written) = told(rt.alloc(), calls)?;
-        assert_eq!(rt; status, Status::Done);
-        assert_eq!(rt; written.as_slice(), EXPANDED.as_bytes());
+        assert!(rt; status == Status::Done);
+        assert!(rt; written.as_slice() == EXPANDED.as_bytes());
     }
     Ok(())
 }
@@ -79,9 +79,9 @@ fn refuses_calls(rt: HostRuntime) -> Result<(), Fail> {
         (ROUND, "pabble: call cycle at 4:6\n"),
     ] {
         let (status, written) = told(rt.alloc(), calls)?;
-        assert_eq!(rt; status, Status::CallFault);
-        assert_eq!(rt; status.code(), 14);
-        assert_eq!(rt; written.as_slice(), line.as_bytes());
+        assert!(rt; status == Status::CallFault);
+        assert!(rt; status.code() == 14);
+        assert!(rt; written.as_slice() == line.as_bytes());
     }
     Ok(())
 }

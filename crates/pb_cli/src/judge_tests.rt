@@ -118,8 +118,8 @@ fn rules_on_logs(rt: HostRuntime) -> Result<(), Fail> {
             protocol,
             log.as_bytes(),
         )?;
-        assert_eq!(rt; written.as_slice(), line.as_bytes());
-        assert_eq!(rt; status.code(), code);
+        assert!(rt; written.as_slice() == line.as_bytes());
+        assert!(rt; status.code() == code);
     }
     Ok(())
 }
@@ -137,8 +137,8 @@ fn the_log_of_a_run_is_whole_or_covered(rt: HostRuntime) -> Result<(), Fail> {
         let (_status, log) = answered(rt.alloc(), &run, ROUNDS, b"")?;
         let judge = ["judge", "p", "l", "--n", "4"];
         let (status, written) = answered(rt.alloc(), &judge, ROUNDS, &log)?;
-        assert_eq!(rt; written.as_slice(), line.as_bytes());
-        assert_eq!(rt; status, Status::Done);
+        assert!(rt; written.as_slice() == line.as_bytes());
+        assert!(rt; status == Status::Done);
     }
     Ok(())
 }
@@ -148,14 +148,14 @@ fn the_protocol_comes_first(rt: HostRuntime) -> Result<(), Fail> {
     let broken = "const N = 2..max;\nglobal protocol P(role W[0..N-1]) { barrier }\n";
     let judge = ["judge", "p", "l", "--n", "1"];
     let (status, written) = answered(rt.alloc(), &judge, broken, b"?")?;
-    assert_eq!(rt; status, Status::Refused);
-    assert_eq!(rt; written.as_slice(), b"pabble: syntax at 2:45\n".as_slice());
+    assert!(rt; status == Status::Refused);
+    assert!(rt; written.as_slice() == b"pabble: syntax at 2:45\n".as_slice());
     let missing = ["judge", "p", "none", "--n", "1"];
     let (status, _written) = answered(rt.alloc(), &missing, FIRST, b"")?;
-    assert_eq!(rt; status, Status::OutOfRange);
+    assert!(rt; status == Status::OutOfRange);
     let missing = ["judge", "p", "none", "--n", "2"];
     let (status, written) = answered(rt.alloc(), &missing, FIRST, b"")?;
-    assert_eq!(rt; status, Status::ReadFault);
-    assert_eq!(rt; written.as_slice(), b"pabble: read fault\n".as_slice());
+    assert!(rt; status == Status::ReadFault);
+    assert!(rt; written.as_slice() == b"pabble: read fault\n".as_slice());
     Ok(())
 }

@@ -110,15 +110,15 @@ fn answered(alloc: Global, command: &str, text: &[u8]) -> Result<(Status, Vec<u8
 #[test]
 fn gen_writes_the_text(rt: HostRuntime) -> Result<(), Fail> {
     let (status, text) = generated(rt.alloc(), FIRST.as_bytes())?;
-    assert_eq!(rt; status, Status::Done);
-    assert_eq!(rt; text.as_slice(), FIRST_TEXT.as_bytes());
+    assert!(rt; status == Status::Done);
+    assert!(rt; text.as_slice() == FIRST_TEXT.as_bytes());
     Ok(())
 }
 
 #[test]
 fn gen_writes_each_form_of_an_end(rt: HostRuntime) -> Result<(), Fail> {
     let (status, bytes) = generated(rt.alloc(), SECOND.as_bytes())?;
-    assert_eq!(rt; status, Status::Done);
+    assert!(rt; status == Status::Done);
     let text = std::str::from_utf8(&bytes)?;
     for lines in [
         "/* protocol Q_1 */\n/* N 3 to 9 */\n/* role _r 0 to N - 1 */\n/* label B () */\n/* label A () */\n#include <mpi.h>\n",
@@ -137,7 +137,7 @@ fn gen_writes_each_form_of_an_end(rt: HostRuntime) -> Result<(), Fail> {
 fn gen_of_one_value_of_n(rt: HostRuntime) -> Result<(), Fail> {
     let file = b"const N = 3..3;global protocol P(role W[0..N-1]){}";
     let (status, bytes) = generated(rt.alloc(), file)?;
-    assert_eq!(rt; status, Status::Done);
+    assert!(rt; status == Status::Done);
     let text = std::str::from_utf8(&bytes)?;
     for lines in [
         "\n/* N 3 to 3 */\n/* role W 0 to N - 1 */\n#include <mpi.h>\n",
@@ -366,8 +366,8 @@ fn each_command_on_accepted_forms(rt: HostRuntime) -> Result<(), Fail> {
     ] {
         let text = file_of(rt.alloc(), range, roles, body)?;
         let (status, line) = checked(rt.alloc(), text.as_bytes())?;
-        assert_eq!(rt; status, Status::Done, "{text}");
-        assert_eq!(rt; line.as_slice(), b"accepted\n".as_slice(), "{text}");
+        assert!(rt; status == Status::Done, "{text}");
+        assert!(rt; line.as_slice() == b"accepted\n".as_slice(), "{text}");
         for (command, begin, end) in [
             (
                 "gen",
@@ -377,7 +377,7 @@ fn each_command_on_accepted_forms(rt: HostRuntime) -> Result<(), Fail> {
             ("project", "local P\nN ", "\ndone\n"),
         ] {
             let (status, written) = answered(rt.alloc(), command, text.as_bytes())?;
-            assert_eq!(rt; status, Status::Done, "{command} {text}");
+            assert!(rt; status == Status::Done, "{command} {text}");
             assert!(rt; written.starts_with(begin.as_bytes()), "{command} {text}");
             assert!(rt; written.ends_with(end.as_bytes()), "{command} {text}");
         }
@@ -476,9 +476,9 @@ fn project_writes_the_layout(rt: HostRuntime) -> Result<(), Fail> {
     for (range, roles, body, layout) in LAYOUTS {
         let text = file_of(rt.alloc(), range, roles, body)?;
         let (status, written) = answered(rt.alloc(), "project", text.as_bytes())?;
-        assert_eq!(rt; status, Status::Done, "{text}");
+        assert!(rt; status == Status::Done, "{text}");
         let written = std::str::from_utf8(&written)?;
-        assert_eq!(rt; written, layout, "{text}");
+        assert!(rt; written == layout, "{text}");
     }
     Ok(())
 }
@@ -493,10 +493,9 @@ fn too_many_breakpoints(rt: HostRuntime) -> Result<(), Fail> {
     let text = file_of(rt.alloc(), "1..max", "role W[0..N+100000]", &body)?;
     for command in COMMANDS {
         let (status, line) = answered(rt.alloc(), command, text.as_bytes())?;
-        assert_eq!(rt; status, Status::Limit, "{command}");
-        assert_eq!(rt;
-            line.as_slice(),
-            b"pabble: limit breakpoints\n".as_slice(),
+        assert!(rt; status == Status::Limit, "{command}");
+        assert!(rt;
+            line.as_slice() == b"pabble: limit breakpoints\n".as_slice(),
             "{command}"
         );
     }
@@ -530,8 +529,8 @@ fn faults_and_limits_at_their_places(rt: HostRuntime) -> Result<(), Fail> {
         let line = format!(in rt.alloc(); "pabble: {what}\n")?;
         for command in COMMANDS {
             let (status, written) = answered(rt.alloc(), command, text.as_bytes())?;
-            assert_eq!(rt; status, expected, "{command} {text}");
-            assert_eq!(rt; written.as_slice(), line.as_bytes(), "{command} {text}");
+            assert!(rt; status == expected, "{command} {text}");
+            assert!(rt; written.as_slice() == line.as_bytes(), "{command} {text}");
         }
     }
     Ok(())
@@ -567,8 +566,8 @@ fn words_in_no_form(rt: HostRuntime) -> Result<(), Fail> {
         let mut folder = MemFolder::new(files(rt.alloc(), FIRST.as_bytes())?, Vec::new(rt.alloc()));
         let mut out = MemSink::new(rt.alloc(), 64, 1, Vec::new(rt.alloc()))?;
         let status = called(rt.alloc(), &words, &mut folder, &mut out);
-        assert_eq!(rt; status, Status::Usage);
-        assert_eq!(rt; out.taken(), b"pabble: usage\n".as_slice());
+        assert!(rt; status == Status::Usage);
+        assert!(rt; out.taken() == b"pabble: usage\n".as_slice());
     }
     Ok(())
 }
@@ -595,8 +594,8 @@ fn simulating_the_text_of_a_file(rt: HostRuntime) -> Result<(), Fail> {
         let mut folder = MemFolder::new(files(rt.alloc(), text.as_bytes())?, Vec::new(rt.alloc()));
         let mut out = MemSink::new(rt.alloc(), 64, 64, Vec::new(rt.alloc()))?;
         let status = called(rt.alloc(), &words, &mut folder, &mut out);
-        assert_eq!(rt; status, expected);
-        assert_eq!(rt; out.taken(), log.as_bytes());
+        assert!(rt; status == expected);
+        assert!(rt; out.taken() == log.as_bytes());
     }
     Ok(())
 }
@@ -639,10 +638,10 @@ fn ran(alloc: Global, text: &str, options: &[&str]) -> Result<(Status, Vec<u8>),
 fn run_goes_round_in_each_mode(rt: HostRuntime) -> Result<(), Fail> {
     for mode in ["eager", "waiting", "mixed"] {
         let (status, log) = ran(rt.alloc(), RING, &["--n", "3", "--mode", mode])?;
-        assert_eq!(rt; status, Status::Done, "{mode}");
-        assert_eq!(rt;
-            log.as_slice(),
-            b"0 send 1 A\n1 recv 0 A\n1 send 2 A\n2 recv 1 A\n2 send 0 A\n0 recv 2 A\nended\n".as_slice(),
+        assert!(rt; status == Status::Done, "{mode}");
+        assert!(rt;
+            log.as_slice()
+                == b"0 send 1 A\n1 recv 0 A\n1 send 2 A\n2 recv 1 A\n2 send 0 A\n0 recv 2 A\nended\n".as_slice(),
             "{mode}"
         );
     }
@@ -668,8 +667,8 @@ fn run_of_what_cannot_be_run(rt: HostRuntime) -> Result<(), Fail> {
         ("", "2", Status::Refused, "pabble: syntax at 1:1\n"),
     ] {
         let (status, written) = ran(rt.alloc(), text, &["--n", n])?;
-        assert_eq!(rt; status, expected, "{line}");
-        assert_eq!(rt; written.as_slice(), line.as_bytes(), "{line}");
+        assert!(rt; status == expected, "{line}");
+        assert!(rt; written.as_slice() == line.as_bytes(), "{line}");
     }
     Ok(())
 }
@@ -677,7 +676,7 @@ fn run_of_what_cannot_be_run(rt: HostRuntime) -> Result<(), Fail> {
 #[test]
 fn run_of_a_loop_ends_after_the_events_asked_for(rt: HostRuntime) -> Result<(), Fail> {
     let (status, written) = ran(rt.alloc(), ENDLESS, &["--n", "2", "--turns", "100"])?;
-    assert_eq!(rt; status, Status::Turns);
+    assert!(rt; status == Status::Turns);
     assert!(rt; written.starts_with(b"0 send 1 A\n"));
     assert!(rt; written.ends_with(b"\npabble: turns 100\n"));
     Ok(())
@@ -700,8 +699,8 @@ fn words_behind_two_dashes_are_files(rt: HostRuntime) -> Result<(), Fail> {
         let mut folder = MemFolder::new(files(rt.alloc(), FIRST.as_bytes())?, Vec::new(rt.alloc()));
         let mut out = MemSink::new(rt.alloc(), 64, 64, Vec::new(rt.alloc()))?;
         let status = called(rt.alloc(), &words, &mut folder, &mut out);
-        assert_eq!(rt; status, expected);
-        assert_eq!(rt; out.taken(), line.as_bytes());
+        assert!(rt; status == expected);
+        assert!(rt; out.taken() == line.as_bytes());
     }
     Ok(())
 }
@@ -719,9 +718,12 @@ fn each_failing_read_is_a_read_fault(rt: HostRuntime) -> Result<(), Fail> {
         let mut folder = MemFolder::new(files(rt.alloc(), FIRST.as_bytes())?, fails);
         let mut out = MemSink::new(rt.alloc(), 8192, 8192, Vec::new(rt.alloc()))?;
         let status = called(rt.alloc(), &words, &mut folder, &mut out);
-        assert_eq!(rt; status, expected, "call {failing}");
+        assert!(rt; status == expected, "call {failing}");
         let is_line = out.taken() == b"pabble: read fault\n".as_slice();
-        assert_eq!(rt; is_line, expected == Status::ReadFault, "call {failing}");
+        assert!(rt;
+            is_line == (expected == Status::ReadFault),
+            "call {failing}"
+        );
     }
     Ok(())
 }
@@ -742,13 +744,15 @@ fn a_failing_write_leaves_a_front(rt: HostRuntime) -> Result<(), Fail> {
         let mut out = MemSink::new(rt.alloc(), room, most, fails)?;
         let status = called(rt.alloc(), &words, &mut folder, &mut out);
         let is_whole = expected == FIRST_TEXT.len();
-        assert_eq!(rt; status == Status::Done, is_whole, "{room} {most} {failing}");
-        assert_eq!(rt;
-            status == Status::WriteFault,
-            !is_whole,
+        assert!(rt;
+            (status == Status::Done) == is_whole,
             "{room} {most} {failing}"
         );
-        assert_eq!(rt; out.taken().len(), expected, "{room} {most} {failing}");
+        assert!(rt;
+            (status == Status::WriteFault) == !is_whole,
+            "{room} {most} {failing}"
+        );
+        assert!(rt; out.taken().len() == expected, "{room} {most} {failing}");
         assert!(rt;
             FIRST_TEXT.as_bytes().starts_with(out.taken()),
             "{room} {most} {failing}"
@@ -763,9 +767,9 @@ fn a_file_may_have_1048576_bytes(rt: HostRuntime) -> Result<(), Fail> {
         let mut text = Vec::from_slice(rt.alloc(), FIRST.as_bytes())?;
         text.resize(blanks, b' ')?;
         let (status, written) = generated(rt.alloc(), &text)?;
-        assert_eq!(rt; status, expected);
+        assert!(rt; status == expected);
         let is_line = written.as_slice() == b"pabble: limit file bytes\n".as_slice();
-        assert_eq!(rt; is_line, expected == Status::Limit);
+        assert!(rt; is_line == (expected == Status::Limit));
     }
     Ok(())
 }
@@ -784,8 +788,8 @@ fn check_has_the_faults_of_its_files(rt: HostRuntime) -> Result<(), Fail> {
         let mut folder = MemFolder::new(files(rt.alloc(), FIRST.as_bytes())?, fails);
         let mut out = MemSink::new(rt.alloc(), room, 64, Vec::new(rt.alloc()))?;
         let status = called(rt.alloc(), &words, &mut folder, &mut out);
-        assert_eq!(rt; status, expected, "{failing} {room}");
-        assert_eq!(rt; out.taken(), taken.as_bytes(), "{failing} {room}");
+        assert!(rt; status == expected, "{failing} {room}");
+        assert!(rt; out.taken() == taken.as_bytes(), "{failing} {room}");
     }
     Ok(())
 }
@@ -816,8 +820,8 @@ fn sure_ones_have_no_fault(rt: HostRuntime) -> Result<(), Fail> {
         let words = strings(rt.alloc(), &[command, file])?;
         let mut out = SureSink::new();
         let status = sure(rt.alloc(), &words, &mut folder, &mut out);
-        assert_eq!(rt; status, expected);
-        assert_eq!(rt; out.count(), count as u64);
+        assert!(rt; status == expected);
+        assert!(rt; out.count() == count as u64);
     }
     Ok(())
 }

@@ -8,7 +8,7 @@ fn a_name_that_stands_twice_comes_first(rt: HostRuntime) -> Result<(), Fail> {
     let one = sub(alloc, b"Ask", b"A", 2, barrier(3), None)?;
     let other = sub(alloc, b"Ask", b"A", 5, barrier(6), None)?;
     let tree = file(alloc, one, other, call(alloc, b"Say", &[b"M"], 10)?, None)?;
-    assert_eq!(rt; inline(alloc, &tree).err(), Some(DoFault::Twice(at(5))));
+    assert!(rt; inline(alloc, &tree).err() == Some(DoFault::Twice(at(5))));
     Ok(())
 }
 
@@ -25,7 +25,7 @@ fn an_unknown_call_comes_before_a_wrong_count(rt: HostRuntime) -> Result<(), Fai
         call(alloc, b"Tell", &[b"M"], 10)?,
         Some(last),
     )?;
-    assert_eq!(rt; inline(alloc, &tree).err(), Some(DoFault::Unknown(at(10))));
+    assert!(rt; inline(alloc, &tree).err() == Some(DoFault::Unknown(at(10))));
     Ok(())
 }
 
@@ -42,7 +42,7 @@ fn a_wrong_count_comes_before_a_stranger(rt: HostRuntime) -> Result<(), Fail> {
         None,
     )?;
     let tree = file(alloc, one, other, call(alloc, b"Ask", &[], 10)?, None)?;
-    assert_eq!(rt; inline(alloc, &tree).err(), Some(DoFault::Arity(at(6))));
+    assert!(rt; inline(alloc, &tree).err() == Some(DoFault::Arity(at(6))));
     Ok(())
 }
 
@@ -59,7 +59,7 @@ fn a_subprotocol_that_nobody_calls_is_checked(rt: HostRuntime) -> Result<(), Fai
         Some(again(b"X", 7)?),
     )?;
     let tree = file(alloc, one, other, call(alloc, b"Ask", &[b"W"], 10)?, None)?;
-    assert_eq!(rt; inline(alloc, &tree).err(), Some(DoFault::Stranger(at(6))));
+    assert!(rt; inline(alloc, &tree).err() == Some(DoFault::Stranger(at(6))));
     Ok(())
 }
 
@@ -83,7 +83,7 @@ fn the_first_call_that_leads_back(rt: HostRuntime) -> Result<(), Fail> {
         None,
     )?;
     let tree = file(alloc, one, other, call(alloc, b"Ask", &[b"M"], 10)?, None)?;
-    assert_eq!(rt; inline(alloc, &tree).err(), Some(DoFault::Cycle(at(4))));
+    assert!(rt; inline(alloc, &tree).err() == Some(DoFault::Cycle(at(4))));
     Ok(())
 }
 
@@ -108,6 +108,6 @@ fn a_subprotocol_called_twice_stands_twice(rt: HostRuntime) -> Result<(), Fail> 
         Some(last),
     )?;
     let inlined = inline(alloc, &tree).ok().ok_or("a file")?;
-    assert_eq!(rt; inlined.body.list.len(), 2);
+    assert!(rt; inlined.body.list.len() == 2);
     Ok(())
 }

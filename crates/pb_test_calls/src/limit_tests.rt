@@ -46,7 +46,7 @@ fn counts_the_statements_of_all_blocks(rt: HostRuntime) -> Result<(), Fail> {
         push(&mut text, MAIN, 1)?;
         push(&mut text, b"do A(M); ", second)?;
         push(&mut text, b"}", 1)?;
-        assert_eq!(rt; fault_of(alloc, &text), want);
+        assert!(rt; fault_of(alloc, &text) == want);
     }
     Ok(())
 }
@@ -66,7 +66,7 @@ fn counts_the_roles_of_the_protocol(rt: HostRuntime) -> Result<(), Fail> {
         push(&mut text, b"role B) {}\nglobal protocol P(", 1)?;
         push(&mut text, b"role W, ", roles)?;
         push(&mut text, b"role M) {}", 1)?;
-        assert_eq!(rt; fault_of(alloc, &text), want);
+        assert!(rt; fault_of(alloc, &text) == want);
     }
     Ok(())
 }
@@ -88,7 +88,7 @@ fn counts_the_braces_of_each_block(rt: HostRuntime) -> Result<(), Fail> {
         push(&mut text, b"rec X {", second)?;
         push(&mut text, b"}", second)?;
         push(&mut text, b"}", 1)?;
-        assert_eq!(rt; fault_of(alloc, &text), want);
+        assert!(rt; fault_of(alloc, &text) == want);
     }
     Ok(())
 }
@@ -110,7 +110,7 @@ fn counts_the_branches_of_each_choice(rt: HostRuntime) -> Result<(), Fail> {
         push(&mut text, b"choice K at M {} ", 1)?;
         push(&mut text, b"or {} ", second)?;
         push(&mut text, b"}", 1)?;
-        assert_eq!(rt; fault_of(alloc, &text), want);
+        assert!(rt; fault_of(alloc, &text) == want);
     }
     Ok(())
 }
@@ -127,7 +127,7 @@ fn puts_the_grammar_before_the_limits(rt: HostRuntime) -> Result<(), Fail> {
         line: 2,
         col: 32_012,
     };
-    assert_eq!(rt; fault_of(alloc, &text), Some(ParseFault::Unexpected(place)));
+    assert!(rt; fault_of(alloc, &text) == Some(ParseFault::Unexpected(place)));
     Ok(())
 }
 
@@ -138,9 +138,6 @@ fn tells_the_earlier_token(rt: HostRuntime) -> Result<(), Fail> {
     push(&mut text, SUB, 1)?;
     push(&mut text, b"do A(B);", 4000)?;
     push(&mut text, b"do do", 1)?;
-    assert_eq!(rt;
-        fault_of(alloc, &text),
-        too_many(Quantity::Statements, 2, 32_001)
-    );
+    assert!(rt; fault_of(alloc, &text) == too_many(Quantity::Statements, 2, 32_001));
     Ok(())
 }

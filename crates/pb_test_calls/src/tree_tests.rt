@@ -71,16 +71,16 @@ fn is(spot: &Spot, name: &[u8], place: Place) -> bool {
 #[test]
 fn reads_a_subprotocol(rt: HostRuntime) -> Result<(), Fail> {
     let tree = tree_of(rt.alloc(), ASK).ok_or("tree")?;
-    assert_eq!(rt; tree.subs.len(), 1);
+    assert!(rt; tree.subs.len() == 1);
     let sub = tree.subs.first().ok_or("sub")?;
     assert!(rt; is(&sub.name, b"Ask", at(2, 10)));
-    assert_eq!(rt; sub.params.len(), 2);
+    assert!(rt; sub.params.len() == 2);
     let first = sub.params.first().ok_or("first")?;
     let last = sub.params.last().ok_or("last")?;
     assert!(rt; is(first, b"A", at(2, 19)));
     assert!(rt; is(last, b"B", at(2, 27)));
-    assert_eq!(rt; sub.body.place, at(2, 30));
-    assert_eq!(rt; sub.body.list.len(), 2);
+    assert!(rt; sub.body.place == at(2, 30));
+    assert!(rt; sub.body.list.len() == 2);
     Ok(())
 }
 
@@ -102,8 +102,8 @@ fn calls_ask(statement: &CallStatement, line: u32) -> bool {
 fn reads_a_call(rt: HostRuntime) -> Result<(), Fail> {
     let tree = tree_of(rt.alloc(), ASK).ok_or("tree")?;
     assert!(rt; is(&tree.protocol, b"P", at(6, 17)));
-    assert_eq!(rt; tree.roles.len(), 2);
-    assert_eq!(rt; tree.body.list.len(), 2);
+    assert!(rt; tree.roles.len() == 2);
+    assert!(rt; tree.body.list.len() == 2);
     assert!(rt; calls_ask(tree.body.list.first().ok_or("first")?, 7));
     assert!(rt; calls_ask(tree.body.list.last().ok_or("last")?, 8));
     Ok(())
@@ -112,12 +112,12 @@ fn reads_a_call(rt: HostRuntime) -> Result<(), Fail> {
 #[test]
 fn reads_each_statement(rt: HostRuntime) -> Result<(), Fail> {
     let tree = tree_of(rt.alloc(), WHOLE).ok_or("tree")?;
-    assert_eq!(rt; tree.subs.len(), 2);
+    assert!(rt; tree.subs.len() == 2);
     let one = tree.subs.first().ok_or("one")?;
     assert!(rt; one.body.list.is_empty());
     let every = tree.subs.last().ok_or("every")?;
-    assert_eq!(rt; every.body.list.len(), 7);
-    assert_eq!(rt; tree.body.list.len(), 1);
+    assert!(rt; every.body.list.len() == 7);
+    assert!(rt; tree.body.list.len() == 1);
     Ok(())
 }
 
@@ -125,7 +125,7 @@ fn reads_each_statement(rt: HostRuntime) -> Result<(), Fail> {
 fn reads_a_file_without_subprotocols(rt: HostRuntime) -> Result<(), Fail> {
     let tree = tree_of(rt.alloc(), PLAIN).ok_or("tree")?;
     assert!(rt; tree.subs.is_empty());
-    assert_eq!(rt; tree.body.list.len(), 1);
+    assert!(rt; tree.body.list.len() == 1);
     Ok(())
 }
 
@@ -134,7 +134,7 @@ fn needs_the_last_brace(rt: HostRuntime) {
     let alloc = rt.alloc();
     for (len, _) in WHOLE.iter().enumerate() {
         let whole = tree_of(alloc, &WHOLE[..len]).is_some();
-        assert_eq!(rt; whole, len + 1 >= WHOLE.len());
+        assert!(rt; whole == (len + 1 >= WHOLE.len()));
     }
 }
 
@@ -151,7 +151,7 @@ fn takes_no_keyword_for_a_subprotocol(rt: HostRuntime) -> Result<(), Fail> {
             return Ok(());
         }
         let fault = read_calls(alloc, &text).err();
-        assert_eq!(rt; fault, Some(ParseFault::Unexpected(at(1, 28))));
+        assert!(rt; fault == Some(ParseFault::Unexpected(at(1, 28))));
     }
     Ok(())
 }

@@ -59,9 +59,9 @@ fn file(alloc: Global, from: &[u32]) -> Result<String, AllocError> {
 fn has_as_many_pieces_as_may_be(rt: HostRuntime) -> Result<(), Fail> {
     let alloc = rt.alloc();
     let (status, lines) = told(alloc, file(alloc, &[8])?.as_str())?;
-    assert_eq!(rt; status, Status::Done);
-    assert_eq!(rt; pieces(lines.as_str(), "least words "), 4_096);
-    assert_eq!(rt; pieces(lines.as_str(), "least messages "), 685);
+    assert!(rt; status == Status::Done);
+    assert!(rt; pieces(lines.as_str(), "least words ") == 4_096);
+    assert!(rt; pieces(lines.as_str(), "least messages ") == 685);
     Ok(())
 }
 
@@ -69,8 +69,8 @@ fn has_as_many_pieces_as_may_be(rt: HostRuntime) -> Result<(), Fail> {
 fn refuses_one_more(rt: HostRuntime) -> Result<(), Fail> {
     let alloc = rt.alloc();
     let (status, lines) = told(alloc, file(alloc, &[8, 12])?.as_str())?;
-    assert_eq!(rt; status, Status::Limit);
-    assert_eq!(rt; lines.as_str(), "pabble: limit pieces\n");
+    assert!(rt; status == Status::Limit);
+    assert!(rt; lines.as_str() == "pabble: limit pieces\n");
     Ok(())
 }
 
@@ -79,11 +79,11 @@ fn refuses_one_more(rt: HostRuntime) -> Result<(), Fail> {
 fn refuses_one_more_though_a_later_message_joins_two(rt: HostRuntime) -> Result<(), Fail> {
     let alloc = rt.alloc();
     let (status, lines) = told(alloc, file(alloc, &[8, 12, 32])?.as_str())?;
-    assert_eq!(rt; status, Status::Limit);
-    assert_eq!(rt; lines.as_str(), "pabble: limit pieces\n");
+    assert!(rt; status == Status::Limit);
+    assert!(rt; lines.as_str() == "pabble: limit pieces\n");
     let (status, lines) = told(alloc, file(alloc, &[8, 32, 12])?.as_str())?;
-    assert_eq!(rt; status, Status::Done);
-    assert_eq!(rt; pieces(lines.as_str(), "least words "), 4_096);
+    assert!(rt; status == Status::Done);
+    assert!(rt; pieces(lines.as_str(), "least words ") == 4_096);
     Ok(())
 }
 
@@ -101,7 +101,7 @@ const JOINED: &str = "  choice K at W[0] {
 fn neighbours_of_one_line_are_one_piece(rt: HostRuntime) -> Result<(), Fail> {
     let alloc = rt.alloc();
     let (status, lines) = told(alloc, protocol(alloc, "2..max", JOINED)?.as_str())?;
-    assert_eq!(rt; status, Status::Done);
+    assert!(rt; status == Status::Done);
     assert!(rt; lines.contains("least words 2 to max: 1 * N + -1\n"));
     assert!(rt; lines.contains("most words 2 to 7: 0 * N + 6\nmost words 8 to max: 2 * N + -8\n"));
     Ok(())

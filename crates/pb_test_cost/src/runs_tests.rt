@@ -61,11 +61,11 @@ fn compare(
 ) -> Result<(), Fail> {
     let file = protocol(alloc, range, body)?;
     let (status, lines) = told(alloc, file.as_str())?;
-    assert_eq!(rt; status, Status::Done);
+    assert!(rt; status == Status::Done);
     let (low, high) = numbers;
     for n in low..high {
         let sent = sent_at(alloc, file.as_str(), n)?;
-        assert_eq!(rt; told_at(lines.as_str(), n), Some(sent));
+        assert!(rt; told_at(lines.as_str(), n) == Some(sent));
     }
     Ok(())
 }

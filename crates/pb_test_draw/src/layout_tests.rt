@@ -59,15 +59,14 @@ fn rows_and_columns_of_a_chain(rt: HostRuntime) -> Result<(), Fail> {
     let layout = layout_of(rt.alloc(), HANDED_ON, &all(9), None)?;
     assert!(rt; layout.is_some());
     if let Some(layout) = layout {
-        assert_eq!(rt; layout.ranks.as_slice(), [0, 1, 2, 4].as_slice());
-        assert_eq!(rt; layout.times.as_slice(), [0, 1, 2, 3].as_slice());
-        assert_eq!(rt; layout.columns.as_slice(), [0, 0, 1, 2, 3].as_slice());
-        assert_eq!(rt; layout.rows.as_slice(), [0, 3, 1, 1, 2].as_slice());
-        assert_eq!(rt;
-            layout.mates.as_slice(),
-            [Some(2), None, Some(0), Some(4), Some(3)].as_slice()
+        assert!(rt; layout.ranks.as_slice() == [0, 1, 2, 4].as_slice());
+        assert!(rt; layout.times.as_slice() == [0, 1, 2, 3].as_slice());
+        assert!(rt; layout.columns.as_slice() == [0, 0, 1, 2, 3].as_slice());
+        assert!(rt; layout.rows.as_slice() == [0, 3, 1, 1, 2].as_slice());
+        assert!(rt;
+            layout.mates.as_slice() == [Some(2), None, Some(0), Some(4), Some(3)].as_slice()
         );
-        assert_eq!(rt; layout.chain_length, 4);
+        assert!(rt; layout.chain_length == 4);
     }
     Ok(())
 }
@@ -84,11 +83,11 @@ fn lines_and_ranks_are_left_out(rt: HostRuntime) -> Result<(), Fail> {
     let layout = layout_of(rt.alloc(), HANDED_ON, &cut, Some(9))?;
     assert!(rt; layout.is_some());
     if let Some(layout) = layout {
-        assert_eq!(rt; layout.asked, 3);
-        assert_eq!(rt; layout.places.as_slice(), [2, 3].as_slice());
-        assert_eq!(rt; layout.ranks.as_slice(), [1, 2].as_slice());
-        assert_eq!(rt; layout.times.as_slice(), [1, 2].as_slice());
-        assert_eq!(rt; layout.mates.as_slice(), [None, None].as_slice());
+        assert!(rt; layout.asked == 3);
+        assert!(rt; layout.places.as_slice() == [2, 3].as_slice());
+        assert!(rt; layout.ranks.as_slice() == [1, 2].as_slice());
+        assert!(rt; layout.times.as_slice() == [1, 2].as_slice());
+        assert!(rt; layout.mates.as_slice() == [None, None].as_slice());
         let second = Link {
             index: 1,
             is_joined: false,
@@ -97,7 +96,7 @@ fn lines_and_ranks_are_left_out(rt: HostRuntime) -> Result<(), Fail> {
             index: 0,
             is_joined: true,
         };
-        assert_eq!(rt; layout.chain.as_slice(), [second, first].as_slice());
+        assert!(rt; layout.chain.as_slice() == [second, first].as_slice());
     }
     Ok(())
 }
@@ -126,7 +125,7 @@ fn a_collective_is_a_band(rt: HostRuntime) -> Result<(), Fail> {
             entries: 1,
             leaves: 0,
         };
-        assert_eq!(rt; layout.bands.as_slice(), [first, second].as_slice());
+        assert!(rt; layout.bands.as_slice() == [first, second].as_slice());
     }
     Ok(())
 }
@@ -134,16 +133,10 @@ fn a_collective_is_a_band(rt: HostRuntime) -> Result<(), Fail> {
 #[test]
 fn the_last_line_tells_who_is_stuck(rt: HostRuntime) -> Result<(), Fail> {
     let log = b"0 run K\npabble: stuck, rank 3 waits for A from 2\n";
-    assert_eq!(rt;
-        ending(log, 8),
-        Some(b"pabble: stuck, rank 3 waits for A from 2".as_slice())
-    );
-    assert_eq!(rt; ending(log, 49), None);
-    assert_eq!(rt;
-        stuck_rank(b"pabble: stuck, rank 3 waits for A from 2"),
-        Some(3)
-    );
-    assert_eq!(rt; stuck_rank(b"pabble: turns 3"), None);
+    assert!(rt; ending(log, 8) == Some(b"pabble: stuck, rank 3 waits for A from 2".as_slice()));
+    assert!(rt; ending(log, 49) == None);
+    assert!(rt; stuck_rank(b"pabble: stuck, rank 3 waits for A from 2") == Some(3));
+    assert!(rt; stuck_rank(b"pabble: turns 3") == None);
     Ok(())
 }
 
@@ -212,9 +205,9 @@ fn the_slow_program_counts_the_same(rt: HostRuntime) -> Result<(), Fail> {
             Ok(times) => {
                 let sums = summed(rt.alloc(), &entries, &times, 2)?;
                 assert!(rt; sums_agree(&entries, &sums));
-                assert_eq!(rt; sums.more, 0);
+                assert!(rt; sums.more == 0);
             }
-            Err(fault) => assert_eq!(rt; fault, TimesFault::NoMemory),
+            Err(fault) => assert!(rt; fault == TimesFault::NoMemory),
         }
     }
     Ok(())

@@ -13,15 +13,12 @@ fn a_chain_of_two_messages(rt: HostRuntime) -> Result<(), Fail> {
     if let Ok(log) = read_log(rt.alloc(), text) {
         match timed(rt.alloc(), &log.entries) {
             Ok(found) => {
-                assert_eq!(rt; found.times.as_slice(), [0, 0, 1, 2, 3].as_slice());
+                assert!(rt; found.times.as_slice() == [0, 0, 1, 2, 3].as_slice());
                 let chain = longest_chain(rt.alloc(), &found)?;
-                assert_eq!(rt; chain.as_slice(), [4, 3, 2, 0].as_slice());
-                assert_eq!(rt;
-                    message_chain(rt.alloc(), &log.entries, &found, Some(0))?,
-                    2
-                );
+                assert!(rt; chain.as_slice() == [4, 3, 2, 0].as_slice());
+                assert!(rt; message_chain(rt.alloc(), &log.entries, &found, Some(0))? == 2);
             }
-            Err(fault) => assert_eq!(rt; fault, TimesFault::NoMemory),
+            Err(fault) => assert!(rt; fault == TimesFault::NoMemory),
         }
     }
     Ok(())
@@ -33,13 +30,12 @@ fn receives_may_stand_before_their_sends(rt: HostRuntime) -> Result<(), Fail> {
     if let Ok(log) = read_log(rt.alloc(), text) {
         match timed(rt.alloc(), &log.entries) {
             Ok(found) => {
-                assert_eq!(rt;
-                    found.mates.as_slice(),
-                    [Some(2), Some(3), Some(0), Some(1), None].as_slice()
+                assert!(rt;
+                    found.mates.as_slice() == [Some(2), Some(3), Some(0), Some(1), None].as_slice()
                 );
-                assert_eq!(rt; found.times.as_slice(), [1, 2, 0, 1, 2].as_slice());
+                assert!(rt; found.times.as_slice() == [1, 2, 0, 1, 2].as_slice());
             }
-            Err(fault) => assert_eq!(rt; fault, TimesFault::NoMemory),
+            Err(fault) => assert!(rt; fault == TimesFault::NoMemory),
         }
     }
     Ok(())
@@ -138,7 +134,7 @@ fn the_slow_program_finds_the_same(rt: HostRuntime) -> Result<(), Fail> {
                 assert!(rt; mates_agree(&entries, &found));
                 assert!(rt; chains_agree(rt.alloc(), &entries, &found)?);
             }
-            Err(fault) => assert_eq!(rt; fault, TimesFault::NoMemory),
+            Err(fault) => assert!(rt; fault == TimesFault::NoMemory),
         }
     }
     Ok(())

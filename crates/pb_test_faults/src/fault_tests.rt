@@ -21,13 +21,13 @@ fn each_command_is_done(rt: HostRuntime) -> Result<(), Fail> {
     let text = text_of(alloc, PROTOCOL)?;
     for asked in ALL {
         let whole = sound(alloc, asked, &text)?;
-        assert_eq!(rt;
-            whole.status,
-            if asked == Asked::Replay {
-                Status::Turns
-            } else {
-                Status::Done
-            },
+        assert!(rt;
+            whole.status
+                == (if asked == Asked::Replay {
+                    Status::Turns
+                } else {
+                    Status::Done
+                }),
             "{asked:?}"
         );
         assert!(rt; whole.bytes.len() < ROOM, "{asked:?}");
@@ -55,9 +55,8 @@ fn files_that_come_byte_by_byte_fail_at_each_call(rt: HostRuntime) -> Result<(),
                 calls = fails;
                 break;
             }
-            assert_eq!(rt;
-                answer.bytes.as_slice(),
-                b"pabble: read fault\n".as_slice(),
+            assert!(rt;
+                answer.bytes.as_slice() == b"pabble: read fault\n".as_slice(),
                 "{asked:?} {fails}"
             );
         }
@@ -92,9 +91,12 @@ fn texts_that_come_byte_by_byte_fail_behind_their_end(rt: HostRuntime) -> Result
         ),
     ] {
         let answer = byte_by_byte(alloc, asked, &text, fails)?;
-        assert_eq!(rt; answer.status, expected, "{asked:?} {fails}");
+        assert!(rt; answer.status == expected, "{asked:?} {fails}");
         let is_line = answer.bytes.as_slice() == b"pabble: read fault\n".as_slice();
-        assert_eq!(rt; is_line, expected == Status::ReadFault, "{asked:?} {fails}");
+        assert!(rt;
+            is_line == (expected == Status::ReadFault),
+            "{asked:?} {fails}"
+        );
     }
     Ok(())
 }
@@ -146,14 +148,12 @@ fn a_protocol_lacks_its_end(rt: HostRuntime) -> Result<(), Fail> {
         let lacks_brace = place + 1 < PROTOCOL.len();
         for asked in OF_FILE {
             let it = told(alloc, asked, &mut folder)?;
-            assert_eq!(rt;
-                it.status == Status::Refused,
-                lacks_brace,
+            assert!(rt;
+                (it.status == Status::Refused) == lacks_brace,
                 "{asked:?} {place}"
             );
-            assert_eq!(rt;
-                it.bytes.starts_with(b"pabble: syntax at "),
-                lacks_brace,
+            assert!(rt;
+                it.bytes.starts_with(b"pabble: syntax at ") == lacks_brace,
                 "{asked:?} {place}"
             );
         }

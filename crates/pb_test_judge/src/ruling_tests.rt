@@ -114,7 +114,7 @@ struct Subject<'a> {
 fn compare(rt: &impl Abort, alloc: Global, on: &Subject, log: &str) -> Result<(), Fail> {
     let told = ruled(alloc, on.file, log, 3)?;
     let slow = ruling(alloc, on.core, log, 3)?;
-    assert_eq!(rt; told.as_str(), slow.as_str());
+    assert!(rt; told.as_str() == slow.as_str());
     Ok(())
 }
 
@@ -259,7 +259,7 @@ fn kept(rt: &impl Abort, alloc: Global, file: &str, options: Options) -> Result<
     let core = core_of(alloc, file)?;
     let lines = lines_of(alloc, log.as_str())?;
     let slow = ruling(alloc, &core, joined(alloc, &lines)?.as_str(), 3)?;
-    assert_eq!(rt; told.as_str(), slow.as_str());
+    assert!(rt; told.as_str() == slow.as_str());
     Ok(())
 }
 

@@ -17,6 +17,6 @@ global protocol Demo(role W[0..N-1]) {
 fn five_statements(rt: HostRuntime) -> Result<(), Fail> {
     let file = demo_file(rt.alloc(), 5)?;
     let text = print_file(rt.alloc(), &file)?;
-    assert_eq!(rt; text.as_slice(), TEXT.as_bytes());
+    assert!(rt; text.as_slice() == TEXT.as_bytes());
     Ok(())
 }

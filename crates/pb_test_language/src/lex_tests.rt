@@ -23,9 +23,9 @@ fn every_symbol_is_read(rt: HostRuntime) -> Result<(), Fail> {
         Mark::Plus,
         Mark::Minus,
     ];
-    assert_eq!(rt; tokens.len(), marks.len());
+    assert!(rt; tokens.len() == marks.len());
     for (token, mark) in tokens.iter().zip(&marks) {
-        assert_eq!(rt; token.kind, TokenKind::Mark(*mark));
+        assert!(rt; token.kind == TokenKind::Mark(*mark));
     }
     Ok(())
 }
@@ -61,9 +61,9 @@ fn every_keyword_is_read(rt: HostRuntime) -> Result<(), Fail> {
         Key::Uint32,
         Key::Do,
     ];
-    assert_eq!(rt; tokens.len(), keys.len());
+    assert!(rt; tokens.len() == keys.len());
     for (token, key) in tokens.iter().zip(&keys) {
-        assert_eq!(rt; token.kind, TokenKind::Key(*key));
+        assert!(rt; token.kind == TokenKind::Key(*key));
     }
     Ok(())
 }
@@ -86,9 +86,9 @@ fn gaps_move_the_place(rt: HostRuntime) -> Result<(), Fail> {
             place: at(4, 4),
         },
     ];
-    assert_eq!(rt; tokens.as_slice(), wanted.as_slice());
-    assert_eq!(rt; end_place(text), at(4, 17));
-    assert_eq!(rt; end_place(b"a\n"), at(2, 1));
+    assert!(rt; tokens.as_slice() == wanted.as_slice());
+    assert!(rt; end_place(text) == at(4, 17));
+    assert!(rt; end_place(b"a\n") == at(2, 1));
     Ok(())
 }
 
@@ -112,7 +112,7 @@ fn the_first_fault_is_named(rt: HostRuntime) {
             LexError::NameTooLong(at(1, 3)),
         ),
     ] {
-        assert_eq!(rt; lex(rt.alloc(), text).err(), Some(LexFault::Bad(error)));
+        assert!(rt; lex(rt.alloc(), text).err() == Some(LexFault::Bad(error)));
     }
     let most = b"a123456789b123456789c123456789d123456789e123456789f123456789g123";
     assert!(rt; lex(rt.alloc(), most).is_ok());

@@ -77,7 +77,7 @@ fn names_the_first_fault_of_a_file(rt: HostRuntime) -> Result<(), Fail> {
         (b"do", ParseFault::Unexpected(at(1, 1))),
     ];
     for (text, want) in rows {
-        assert_eq!(rt; fault_of(alloc, text), Some(want));
+        assert!(rt; fault_of(alloc, text) == Some(want));
     }
     Ok(())
 }
@@ -119,7 +119,7 @@ fn names_the_first_fault_of_a_line(rt: HostRuntime) -> Result<(), Fail> {
     ];
     for (line, want) in rows {
         let text = with_line(alloc, line)?;
-        assert_eq!(rt; fault_of(alloc, &text), want);
+        assert!(rt; fault_of(alloc, &text) == want);
     }
     Ok(())
 }
@@ -129,7 +129,7 @@ fn needs_the_last_brace(rt: HostRuntime) {
     let alloc = rt.alloc();
     for (len, _) in WHOLE.iter().enumerate() {
         let whole = fault_of(alloc, &WHOLE[..len]).is_none();
-        assert_eq!(rt; whole, len + 1 >= WHOLE.len());
+        assert!(rt; whole == (len + 1 >= WHOLE.len()));
     }
 }
 
@@ -205,7 +205,7 @@ fn counts_to_the_limits(rt: HostRuntime) -> Result<(), Fail> {
     ];
     for (before, part, count, behind, want) in rows {
         let text = repeated(alloc, before, part, count, behind)?;
-        assert_eq!(rt; fault_of(alloc, &text), want);
+        assert!(rt; fault_of(alloc, &text) == want);
     }
     Ok(())
 }
@@ -215,10 +215,7 @@ fn takes_no_keyword_for_a_name(rt: HostRuntime) -> Result<(), Fail> {
     let alloc = rt.alloc();
     for keyword in Key::all() {
         let text = repeated(alloc, b"const ", keyword.spelling(), 1, b" = 2..max;")?;
-        assert_eq!(rt;
-            fault_of(alloc, &text),
-            Some(ParseFault::Unexpected(at(1, 7)))
-        );
+        assert!(rt; fault_of(alloc, &text) == Some(ParseFault::Unexpected(at(1, 7))));
     }
     Ok(())
 }

@@ -189,7 +189,7 @@ fn refuses(alloc: Global, count: usize, line: &[u8]) -> Result<bool, NoMemory> {
 fn reads_a_head(rt: HostRuntime) -> Result<(), Fail> {
     let lines = front_with(rt.alloc(), 60, b"  }\n")?;
     let reading = read(rt.alloc(), &lines)?;
-    assert_eq!(rt; reading.taken, 61);
+    assert!(rt; reading.taken == 61);
     assert!(rt; reading.done);
     assert!(rt; refuses(rt.alloc(), 61, b"  MPI_Finalize();\n")?);
     Ok(())
@@ -199,9 +199,8 @@ fn reads_a_head(rt: HostRuntime) -> Result<(), Fail> {
 #[test]
 fn refuses_a_head_without_a_line(rt: HostRuntime) -> Result<(), Fail> {
     for at in 0..61 {
-        assert_eq!(rt;
-            is_head_with(rt.alloc(), at, Change::Deleted)?,
-            at == 5 || at == 34,
+        assert!(rt;
+            is_head_with(rt.alloc(), at, Change::Deleted)? == (at == 5 || at == 34),
             "at {at}"
         );
     }
@@ -211,9 +210,8 @@ fn refuses_a_head_without_a_line(rt: HostRuntime) -> Result<(), Fail> {
 #[test]
 fn refuses_a_head_with_a_line_twice(rt: HostRuntime) -> Result<(), Fail> {
     for at in 0..61 {
-        assert_eq!(rt;
-            is_head_with(rt.alloc(), at, Change::Doubled)?,
-            at == 34,
+        assert!(rt;
+            is_head_with(rt.alloc(), at, Change::Doubled)? == (at == 34),
             "at {at}"
         );
     }
@@ -223,9 +221,8 @@ fn refuses_a_head_with_a_line_twice(rt: HostRuntime) -> Result<(), Fail> {
 #[test]
 fn refuses_a_head_with_a_line_indented(rt: HostRuntime) -> Result<(), Fail> {
     for at in 0..61 {
-        assert_eq!(rt;
-            is_head_with(rt.alloc(), at, Change::Indented)?,
-            at == 34,
+        assert!(rt;
+            is_head_with(rt.alloc(), at, Change::Indented)? == (at == 34),
             "at {at}"
         );
     }
@@ -235,9 +232,8 @@ fn refuses_a_head_with_a_line_indented(rt: HostRuntime) -> Result<(), Fail> {
 #[test]
 fn refuses_a_head_with_a_line_shortened(rt: HostRuntime) -> Result<(), Fail> {
     for at in 0..61 {
-        assert_eq!(rt;
-            is_head_with(rt.alloc(), at, Change::Shortened)?,
-            at == 34,
+        assert!(rt;
+            is_head_with(rt.alloc(), at, Change::Shortened)? == (at == 34),
             "at {at}"
         );
     }
@@ -294,6 +290,6 @@ fn refuses_other_lines(rt: HostRuntime) -> Result<(), Fail> {
 #[test]
 fn reads_64_roles(rt: HostRuntime) -> Result<(), Fail> {
     let lines = with_roles(rt.alloc(), 65)?;
-    assert_eq!(rt; read(rt.alloc(), &lines)?.taken, 67);
+    assert!(rt; read(rt.alloc(), &lines)?.taken == 67);
     Ok(())
 }

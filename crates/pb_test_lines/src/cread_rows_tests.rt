@@ -207,8 +207,8 @@ fn reads_values(rt: HostRuntime) -> Result<(), Fail> {
     let line = b"/* role W_1 -3 to N + 17 */\n";
     let read = read_role(rt.alloc(), from_two(), &[], &names, line)?;
     let role = read.ok_or("no role")?;
-    assert_eq!(rt; role.name.bytes(), b"W_1".as_slice());
-    assert_eq!(rt; role.low.off, -3);
-    assert_eq!(rt; role.high.off, 17);
+    assert!(rt; role.name.bytes() == b"W_1".as_slice());
+    assert!(rt; role.low.off == -3);
+    assert!(rt; role.high.off == 17);
     Ok(())
 }

@@ -67,8 +67,8 @@ fn reads_a_message(rt: HostRuntime) -> Result<(), Fail> {
     let to = first_rank();
     assert!(rt; reader.take(alloc, &local, 1, Item::Makes { label: 0 })?);
     assert!(rt; reader.take(alloc, &local, 1, Item::Sends { label: 0, to })?);
-    assert_eq!(rt; reader.statements(), 1);
-    assert_eq!(rt; reader.open(), 1);
+    assert!(rt; reader.statements() == 1);
+    assert!(rt; reader.open() == 1);
     assert!(rt; reader.finish().is_some());
     Ok(())
 }
@@ -96,10 +96,10 @@ fn reads_a_choice(rt: HostRuntime) -> Result<(), Fail> {
     assert!(rt; reader.take(alloc, &local, 1, Item::Close)?);
     assert!(rt; reader.take(alloc, &local, 1, Item::PickOpen { branch: 0 })?);
     assert!(rt; reader.take(alloc, &local, 2, Item::Barrier)?);
-    assert_eq!(rt; reader.open(), 2);
+    assert!(rt; reader.open() == 2);
     assert!(rt; reader.take(alloc, &local, 1, Item::ElseOpen)?);
     assert!(rt; reader.take(alloc, &local, 1, Item::Close)?);
-    assert_eq!(rt; reader.statements(), 2);
+    assert!(rt; reader.statements() == 2);
     assert!(rt; reader.finish().is_some());
     Ok(())
 }

@@ -339,7 +339,7 @@ fn follow(rt: &impl Abort, rank: &mut Rank, tree: &CTree, steps: &[(Next, u32)])
     ensures { Fits tree.now rank.new }
 {
     for (next, answer) in steps {
-        assert_eq!(rt; step(rank, tree, *answer), *next);
+        assert!(rt; step(rank, tree, *answer) == *next);
     }
 }
 
@@ -483,8 +483,8 @@ fn a_wrong_label_makes_undefined(rt: HostRuntime) -> Result<(), Fail> {
     let tree = whole_tree(rt.alloc())?;
     let mut rank = start(rt.alloc(), &tree, 1)?;
     follow(&rt, &mut rank, &tree, &ROUNDS);
-    assert_eq!(rt; step(&mut rank, &tree, 7), Next::Waits { from: 0 });
-    assert_eq!(rt; rank.next(&tree), Next::Undefined);
+    assert!(rt; step(&mut rank, &tree, 7) == Next::Waits { from: 0 });
+    assert!(rt; rank.next(&tree) == Next::Undefined);
     Ok(())
 }
 
@@ -493,7 +493,7 @@ fn silent_rounds_are_lost(rt: HostRuntime) -> Result<(), Fail> {
     let tree = endless_tree(rt.alloc())?;
     let mut rank = start(rt.alloc(), &tree, 0)?;
     follow(&rt, &mut rank, &tree, &SILENT);
-    assert_eq!(rt; rank.next(&tree), Next::Lost);
+    assert!(rt; rank.next(&tree) == Next::Lost);
     Ok(())
 }
 
@@ -501,6 +501,6 @@ fn silent_rounds_are_lost(rt: HostRuntime) -> Result<(), Fail> {
 fn no_such_rank_is_undefined(rt: HostRuntime) -> Result<(), Fail> {
     let tree = far_tree(rt.alloc())?;
     let rank = start(rt.alloc(), &tree, 0)?;
-    assert_eq!(rt; rank.next(&tree), Next::Undefined);
+    assert!(rt; rank.next(&tree) == Next::Undefined);
     Ok(())
 }

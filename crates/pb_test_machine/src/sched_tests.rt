@@ -17,13 +17,13 @@ fn reads_what_is_printed(rt: HostRuntime) -> Result<(), Fail> {
         b"pabble schedule 2\nseed 18446744073709551615\n0 e\n9 w\n10 e\n99 w\n100 e\n4294967295 w\n";
     match read_schedule(rt.alloc(), text) {
         Ok(schedule) => {
-            assert_eq!(rt; schedule.turns.len(), 6);
+            assert!(rt; schedule.turns.len() == 6);
             if schedule.turns.len() <= MOST_EVENTS as usize {
                 let printed = print_schedule(rt.alloc(), &schedule)?;
-                assert_eq!(rt; printed.as_slice(), text.as_slice());
+                assert!(rt; printed.as_slice() == text.as_slice());
             }
         }
-        Err(fault) => assert_eq!(rt; fault, ScheduleFault::NoMemory),
+        Err(fault) => assert!(rt; fault == ScheduleFault::NoMemory),
     }
     Ok(())
 }
@@ -31,36 +31,20 @@ fn reads_what_is_printed(rt: HostRuntime) -> Result<(), Fail> {
 #[test]
 fn tells_the_first_bad_line(rt: HostRuntime) -> Result<(), Fail> {
     let bad = |line| Some(ScheduleFault::BadLine(line));
-    assert_eq!(rt; fault_of(rt.alloc(), b""), bad(1));
-    assert_eq!(rt; fault_of(rt.alloc(), b"pabble schedule 1\n"), bad(2));
-    assert_eq!(rt; fault_of(rt.alloc(), b"pabble schedule 1\nseed 0\n"), None);
-    assert_eq!(rt;
-        fault_of(rt.alloc(), b"pabble schedule 1\nseed 00\n"),
-        bad(2)
-    );
-    assert_eq!(rt;
+    assert!(rt; fault_of(rt.alloc(), b"") == bad(1));
+    assert!(rt; fault_of(rt.alloc(), b"pabble schedule 1\n") == bad(2));
+    assert!(rt; fault_of(rt.alloc(), b"pabble schedule 1\nseed 0\n") == None);
+    assert!(rt; fault_of(rt.alloc(), b"pabble schedule 1\nseed 00\n") == bad(2));
+    assert!(rt;
         fault_of(
             rt.alloc(),
             b"pabble schedule 1\nseed 18446744073709551616\n"
-        ),
-        bad(2)
+        ) == bad(2)
     );
-    assert_eq!(rt;
-        fault_of(rt.alloc(), b"pabble schedule 1\nseed 1\n7\n7"),
-        bad(4)
-    );
-    assert_eq!(rt;
-        fault_of(rt.alloc(), b"pabble schedule 2\nseed 1\n0 x\n"),
-        bad(3)
-    );
-    assert_eq!(rt;
-        fault_of(rt.alloc(), b"pabble schedule 2\nseed 1\n0\n"),
-        bad(3)
-    );
-    assert_eq!(rt;
-        fault_of(rt.alloc(), b"pabble schedule 1\nseed 1\n4294967296\n"),
-        bad(3)
-    );
+    assert!(rt; fault_of(rt.alloc(), b"pabble schedule 1\nseed 1\n7\n7") == bad(4));
+    assert!(rt; fault_of(rt.alloc(), b"pabble schedule 2\nseed 1\n0 x\n") == bad(3));
+    assert!(rt; fault_of(rt.alloc(), b"pabble schedule 2\nseed 1\n0\n") == bad(3));
+    assert!(rt; fault_of(rt.alloc(), b"pabble schedule 1\nseed 1\n4294967296\n") == bad(3));
     Ok(())
 }
 
@@ -69,15 +53,15 @@ fn picks_are_those_of_the_draws(rt: HostRuntime) -> Result<(), Fail> {
     let ready = [2, 3, 5, 7];
     let mut picks = Picks::new(42);
     let draw = picks.next();
-    assert_eq!(rt; draw.among(&ready), 5);
-    assert_eq!(rt; draw.mode, Mode::Waiting);
+    assert!(rt; draw.among(&ready) == 5);
+    assert!(rt; draw.mode == Mode::Waiting);
     let draw = picks.next();
-    assert_eq!(rt; draw.among(&ready), 2);
-    assert_eq!(rt; draw.mode, Mode::Eager);
-    assert_eq!(rt; pick(42, 0, &ready), 5);
-    assert_eq!(rt; pick_mode(42, 0), Mode::Waiting);
-    assert_eq!(rt; pick(7, 1, &ready), 5);
-    assert_eq!(rt; pick_mode(7, 0), Mode::Eager);
+    assert!(rt; draw.among(&ready) == 2);
+    assert!(rt; draw.mode == Mode::Eager);
+    assert!(rt; pick(42, 0, &ready) == 5);
+    assert!(rt; pick_mode(42, 0) == Mode::Waiting);
+    assert!(rt; pick(7, 1, &ready) == 5);
+    assert!(rt; pick_mode(7, 0) == Mode::Eager);
     Ok(())
 }
 

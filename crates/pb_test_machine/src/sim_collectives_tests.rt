@@ -12,7 +12,7 @@ fn a_sum_wraps(rt: HostRuntime) -> Result<(), Fail> {
         op: Op::Sum,
         root: 1,
     };
-    assert_eq!(rt; joins.agrees(0, call), true);
+    assert!(rt; joins.agrees(0, call) == true);
     joins.enter(
         rt.alloc(),
         Payload::Uint32(2),
@@ -20,9 +20,9 @@ fn a_sum_wraps(rt: HostRuntime) -> Result<(), Fail> {
         call,
         Words::of(vec![in rt.alloc(); 4294967295, 7]?),
     )?;
-    assert_eq!(rt; joins.agrees(1, Call::Barrier), false);
-    assert_eq!(rt; joins.agrees(1, call), true);
-    assert_eq!(rt; joins.all_entered(0), false);
+    assert!(rt; joins.agrees(1, Call::Barrier) == false);
+    assert!(rt; joins.agrees(1, call) == true);
+    assert!(rt; joins.all_entered(0) == false);
     joins.enter(
         rt.alloc(),
         Payload::Uint32(2),
@@ -30,11 +30,11 @@ fn a_sum_wraps(rt: HostRuntime) -> Result<(), Fail> {
         call,
         Words::of(vec![in rt.alloc(); 3, 8]?),
     )?;
-    assert_eq!(rt; joins.all_entered(0), true);
+    assert!(rt; joins.all_entered(0) == true);
     let words = joins.outcome(rt.alloc(), Payload::Uint32(2), call, 1, 0)?;
-    assert_eq!(rt; words.list(), [2, 15].as_slice());
+    assert!(rt; words.list() == [2, 15].as_slice());
     let words = joins.outcome(rt.alloc(), Payload::Uint32(2), call, 0, 0)?;
-    assert_eq!(rt; words.list().len(), 0);
+    assert!(rt; words.list().len() == 0);
     Ok(())
 }
 
@@ -71,10 +71,10 @@ fn each_of_many_sums_is_right(rt: HostRuntime) -> Result<(), Fail> {
         enter(&mut joins, rt.alloc(), call, 1, 1000)?;
         for rank in 0..3 {
             let words = left(&joins, rt.alloc(), call, rank)?;
-            assert_eq!(rt; words.list(), [3 * i + 1000].as_slice());
+            assert!(rt; words.list() == [3 * i + 1000].as_slice());
         }
     }
-    assert_eq!(rt; joins.number(1), 300);
+    assert!(rt; joins.number(1) == 300);
     Ok(())
 }
 
@@ -86,15 +86,15 @@ fn a_root_runs_ahead(rt: HostRuntime) -> Result<(), Fail> {
     for i in 0..200 {
         enter(&mut joins, rt.alloc(), call, 1, i)?;
         let words = left(&joins, rt.alloc(), call, 1)?;
-        assert_eq!(rt; words.list(), [i].as_slice());
+        assert!(rt; words.list() == [i].as_slice());
     }
     for k in 0..200 {
         enter(&mut joins, rt.alloc(), call, 2, 7)?;
         let words = left(&joins, rt.alloc(), call, 2)?;
-        assert_eq!(rt; words.list(), [k].as_slice());
+        assert!(rt; words.list() == [k].as_slice());
         enter(&mut joins, rt.alloc(), call, 0, 8)?;
         let words = left(&joins, rt.alloc(), call, 0)?;
-        assert_eq!(rt; words.list(), [k].as_slice());
+        assert!(rt; words.list() == [k].as_slice());
     }
     Ok(())
 }

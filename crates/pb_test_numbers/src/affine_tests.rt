@@ -7,30 +7,30 @@ fn lins_have_values(rt: HostRuntime) {
         base: Base::Fixed,
         off: -3,
     };
-    assert_eq!(rt; back.value(10, 4), -3);
+    assert!(rt; back.value(10, 4) == -3);
     let last = Lin {
         base: Base::Param,
         off: -1,
     };
-    assert_eq!(rt; last.value(10, 4), 9);
+    assert!(rt; last.value(10, 4) == 9);
     let next = Lin {
         base: Base::Var,
         off: 1,
     };
-    assert_eq!(rt; next.value(10, 4), 5);
-    assert_eq!(rt;
-        next.shift(2),
-        Lin {
-            base: Base::Var,
-            off: 3
-        }
+    assert!(rt; next.value(10, 4) == 5);
+    assert!(rt;
+        next.shift(2)
+            == Lin {
+                base: Base::Var,
+                off: 3
+            }
     );
-    assert_eq!(rt;
-        next.put_var(last),
-        Lin {
-            base: Base::Param,
-            off: 0
-        }
+    assert!(rt;
+        next.put_var(last)
+            == Lin {
+                base: Base::Param,
+                off: 0
+            }
     );
 }
 
@@ -54,7 +54,7 @@ fn guards_hold_of_their_ranks(rt: HostRuntime) -> Result<(), Fail> {
     let mut guards = Guards::new(rt.alloc());
     guards.push(Guard::default())?;
     guards.push(WORKERS)?;
-    assert_eq!(rt; guards.list(), [Guard::default(), WORKERS].as_slice());
+    assert!(rt; guards.list() == [Guard::default(), WORKERS].as_slice());
     for (n, role, index, holds) in [
         (3, 1, 0, true),
         (9, 1, 8, true),
@@ -64,13 +64,12 @@ fn guards_hold_of_their_ranks(rt: HostRuntime) -> Result<(), Fail> {
         (10, 1, 0, false),
         (3, 2, 0, false),
     ] {
-        assert_eq!(rt;
-            WORKERS.holds(n, 0, role, index),
-            holds,
+        assert!(rt;
+            WORKERS.holds(n, 0, role, index) == holds,
             "{n} {role} {index}"
         );
     }
-    assert_eq!(rt; guards.hold(3, 0, 1, 2), true);
-    assert_eq!(rt; guards.hold(3, 0, 2, 0), false);
+    assert!(rt; guards.hold(3, 0, 1, 2) == true);
+    assert!(rt; guards.hold(3, 0, 2, 0) == false);
     Ok(())
 }

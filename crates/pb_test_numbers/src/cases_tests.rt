@@ -217,14 +217,11 @@ fn range_of(low: u8, more: Option<u8>) -> NRange
 fn breakpoints(rt: HostRuntime) -> Result<(), CaseFault> {
     let cuts = some_cuts(rt.alloc())?;
     let cases = cases_of(rt.alloc(), range_of(2, None), &cuts)?;
-    assert_eq!(rt;
-        cases.breakpoints(),
-        [2, 3, 4, 5, 6, 7, 8, 9, 10].as_slice()
-    );
+    assert!(rt; cases.breakpoints() == [2, 3, 4, 5, 6, 7, 8, 9, 10].as_slice());
     let cases = cases_of(rt.alloc(), range_of(4, Some(2)), &cuts)?;
-    assert_eq!(rt; cases.breakpoints(), [4, 5, 6].as_slice());
+    assert!(rt; cases.breakpoints() == [4, 5, 6].as_slice());
     let cases = cases_of(rt.alloc(), range_of(20, Some(0)), &cuts)?;
-    assert_eq!(rt; cases.breakpoints(), [20].as_slice());
+    assert!(rt; cases.breakpoints() == [20].as_slice());
     Ok(())
 }
 
@@ -385,12 +382,12 @@ fn questions(rt: HostRuntime) -> Result<(), CaseFault> {
     ];
     for (i, q) in table.iter().enumerate() {
         let answers = asked(rt.alloc(), q.low, q.more, &[q.a], &[q.b])?;
-        assert_eq!(rt;
-            answers,
-            Answers {
-                bad: q.bad,
-                meet: q.meet
-            },
+        assert!(rt;
+            answers
+                == Answers {
+                    bad: q.bad,
+                    meet: q.meet
+                },
             "question {i}"
         );
     }

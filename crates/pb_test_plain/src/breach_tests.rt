@@ -148,7 +148,7 @@ fn ring_of_one(rt: HostRuntime) -> Result<(), Fail> {
     let core = ring(alloc, last(-2))?;
     assert!(rt; is_sound(&core));
     let found = breaches(alloc, &core, 1)?;
-    assert_eq!(rt; found.as_slice(), [breach(8, 2, LABEL, seat(0))].as_slice());
+    assert!(rt; found.as_slice() == [breach(8, 2, LABEL, seat(0))].as_slice());
     Ok(())
 }
 
@@ -158,10 +158,7 @@ fn ring_that_goes_too_far(rt: HostRuntime) -> Result<(), Fail> {
     let core = ring(alloc, last(-1))?;
     assert!(rt; is_sound(&core));
     let found = breaches(alloc, &core, 2)?;
-    assert_eq!(rt;
-        found.as_slice(),
-        [breach(7, 3, RECEIVER, seat(2))].as_slice()
-    );
+    assert!(rt; found.as_slice() == [breach(7, 3, RECEIVER, seat(2))].as_slice());
     Ok(())
 }
 
@@ -190,10 +187,7 @@ fn last_rank_is_not_told(rt: HostRuntime) -> Result<(), Fail> {
     assert!(rt; is_sound(&core));
     assert!(rt; breaches(alloc, &core, 4)?.is_empty());
     let found = breaches(alloc, &core, 5)?;
-    assert_eq!(rt;
-        found.as_slice(),
-        [breach(10, 3, LATER, seat(4))].as_slice()
-    );
+    assert!(rt; found.as_slice() == [breach(10, 3, LATER, seat(4))].as_slice());
     Ok(())
 }
 
@@ -203,13 +197,10 @@ fn both_branches_have_one_label(rt: HostRuntime) -> Result<(), Fail> {
     let core = choice(alloc, last(-1), 0)?;
     assert!(rt; is_sound(&core));
     let found = breaches(alloc, &core, 2)?;
-    assert_eq!(rt;
-        found.as_slice(),
-        [breach(12, 3, LATER, seat(1))].as_slice()
-    );
+    assert!(rt; found.as_slice() == [breach(12, 3, LATER, seat(1))].as_slice());
     let found = breaches(alloc, &core, 3)?;
     let both = [breach(12, 3, LATER, seat(1)), breach(12, 3, LATER, seat(2))];
-    assert_eq!(rt; found.as_slice(), both.as_slice());
+    assert!(rt; found.as_slice() == both.as_slice());
     Ok(())
 }
 
@@ -231,7 +222,7 @@ fn nobody_goes_round(rt: HostRuntime) -> Result<(), Fail> {
     let core = rounds(alloc)?;
     assert!(rt; is_sound(&core));
     let found = breaches(alloc, &core, 3)?;
-    assert_eq!(rt; found.as_slice(), [breach(9, 0, LABEL, None)].as_slice());
+    assert!(rt; found.as_slice() == [breach(9, 0, LABEL, None)].as_slice());
     assert!(rt; breaches(alloc, &core, 4)?.is_empty());
     Ok(())
 }
@@ -248,6 +239,6 @@ fn role_has_no_index(rt: HostRuntime) -> Result<(), Fail> {
         breach(7, 0, SENDER, seat(0)),
         breach(7, 1, RECEIVER, seat(1)),
     ];
-    assert_eq!(rt; found.as_slice(), all.as_slice());
+    assert!(rt; found.as_slice() == all.as_slice());
     Ok(())
 }

@@ -90,17 +90,14 @@ fn ring_at_three(rt: HostRuntime) -> Result<(), Fail> {
     let core = ring(alloc)?;
     assert!(rt; is_sound(&core));
     let ranks = seats(alloc, &core.roles, 3)?;
-    assert_eq!(rt; ranks.len(), 3);
+    assert!(rt; ranks.len() == 3);
     let block = flat_of(alloc, &core, &ranks, 3)?;
     assert!(rt; can_end(&block));
     assert!(rt; takes_part(&block, &Held::Top, 2));
     assert!(rt; !takes_part(&block, &Held::Top, 3));
     let first = firsts(alloc, &block, &Held::Top, 2)?;
-    assert_eq!(rt;
-        first.as_slice(),
-        [Outcome::Receive { from: 1, label: 0 }].as_slice()
-    );
+    assert!(rt; first.as_slice() == [Outcome::Receive { from: 1, label: 0 }].as_slice());
     let first = firsts(alloc, &block, &Held::Top, 0)?;
-    assert_eq!(rt; first.as_slice(), [Outcome::Other].as_slice());
+    assert!(rt; first.as_slice() == [Outcome::Other].as_slice());
     Ok(())
 }

@@ -137,7 +137,7 @@ fn ring_at_three(rt: HostRuntime) -> Result<(), Fail> {
     let run = plain_run(rt.alloc(), &protocol, &[], 4)?;
     let text = told(rt.alloc(), &run)?;
     let wanted = "0 to 1: 0;1 from 0: 0;1 to 2: 0;2 from 1: 0;2 to 0: 0;0 from 2: 0;";
-    assert_eq!(rt; text.as_str(), wanted);
+    assert!(rt; text.as_str() == wanted);
     assert!(rt; run.is_over);
     Ok(())
 }
@@ -147,13 +147,10 @@ fn ring_at_five(rt: HostRuntime) -> Result<(), Fail> {
     let protocol = messages(rt.alloc(), &[(0, 1), (1, 2), (2, 3), (3, 4), (4, 0)])?;
     let run = plain_run(rt.alloc(), &protocol, &[], 2)?;
     let text = told(rt.alloc(), &run)?;
-    assert_eq!(rt;
-        text.as_str(),
-        "0 to 1: 0;1 from 0: 0;1 to 2: 0;2 from 1: 0;"
-    );
+    assert!(rt; text.as_str() == "0 to 1: 0;1 from 0: 0;1 to 2: 0;2 from 1: 0;");
     assert!(rt; !run.is_over);
     let whole = plain_run(rt.alloc(), &protocol, &[], 6)?;
-    assert_eq!(rt; whole.actions.len(), 10);
+    assert!(rt; whole.actions.len() == 10);
     assert!(rt; whole.is_over);
     Ok(())
 }
@@ -172,7 +169,7 @@ fn loop_with_a_choice(rt: HostRuntime) -> Result<(), Fail> {
     let text = told(alloc, &run)?;
     let wanted =
         "0 takes 0;0 to 1: 0;1 from 0: 0;0 takes 1;0 to 1: 1;1 from 0: 1;2 to 3: 2;3 from 2: 2;";
-    assert_eq!(rt; text.as_str(), wanted);
+    assert!(rt; text.as_str() == wanted);
     assert!(rt; run.is_over);
     Ok(())
 }
@@ -192,7 +189,7 @@ fn loops_continue_each_other(rt: HostRuntime) -> Result<(), Fail> {
     let text = told(alloc, &run)?;
     let wanted =
         "0 to 2: 0;2 from 0: 0;0 takes 0;0 to 1: 1;1 from 0: 1;0 takes 1;0 to 2: 0;2 from 0: 0;0 takes 2;";
-    assert_eq!(rt; text.as_str(), wanted);
+    assert!(rt; text.as_str() == wanted);
     assert!(rt; run.is_over);
     Ok(())
 }
@@ -237,7 +234,7 @@ fn maximum_of_signed_words(rt: HostRuntime) -> Result<(), Fail> {
     };
     let text = joint_run(rt.alloc(), joint, Payload::Int32(1), 4_294_967_295, 0)?;
     let wanted = "0 enters 4294967295;1 enters 0;0 leaves 0;1 leaves 0;";
-    assert_eq!(rt; text.as_str(), wanted);
+    assert!(rt; text.as_str() == wanted);
     Ok(())
 }
 
@@ -250,6 +247,6 @@ fn sum_that_wraps(rt: HostRuntime) -> Result<(), Fail> {
     };
     let text = joint_run(rt.alloc(), joint, Payload::Uint32(1), 4_294_967_295, 2)?;
     let wanted = "0 enters 4294967295;1 enters 2;0 leaves 1;1 leaves;";
-    assert_eq!(rt; text.as_str(), wanted);
+    assert!(rt; text.as_str() == wanted);
     Ok(())
 }

@@ -28,8 +28,8 @@ fn writes_the_counts(rt: HostRuntime) -> Result<(), Fail> {
         let lines = format!(in rt.alloc();
             "demo {count}\nsends {sends}\nreceives {sends}\nruns {runs}\nenters {enters}\nleaves {enters}\nwords {words}\n"
         )?;
-        assert_eq!(rt; status, Status::Done);
-        assert_eq!(rt; bytes.as_slice(), lines.as_bytes());
+        assert!(rt; status == Status::Done);
+        assert!(rt; bytes.as_slice() == lines.as_bytes());
     }
     Ok(())
 }
@@ -37,7 +37,7 @@ fn writes_the_counts(rt: HostRuntime) -> Result<(), Fail> {
 #[test]
 fn fails_where_the_sink_does(rt: HostRuntime) -> Result<(), Fail> {
     let (status, bytes) = shown(rt.alloc(), 4, 10)?;
-    assert_eq!(rt; status, Status::WriteFault);
-    assert_eq!(rt; bytes.as_slice(), b"demo 4\nsen".as_slice());
+    assert!(rt; status == Status::WriteFault);
+    assert!(rt; bytes.as_slice() == b"demo 4\nsen".as_slice());
     Ok(())
 }

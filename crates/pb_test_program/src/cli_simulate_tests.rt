@@ -157,8 +157,8 @@ fn one_message(rt: HostRuntime) -> Result<(), Fail> {
             text(alloc, A, &[SENDS, RECEIVES])?,
             options(n, Mode::Eager),
         )?;
-        assert_eq!(rt; got, status);
-        assert_eq!(rt; bytes.as_slice(), output.as_bytes());
+        assert!(rt; got == status);
+        assert!(rt; bytes.as_slice() == output.as_bytes());
     }
     Ok(())
 }
@@ -169,7 +169,7 @@ fn signed_words(rt: HostRuntime) -> Result<(), Fail> {
     let send =
         "  if (R == 0 && I == 0) {\n    make_A(N, R, I, is);\n    MPI_Send(is, 2, MPI_INT32_T, r_W(N, 1), 0, MPI_COMM_WORLD);\n  }\n";
     let (status, _bytes) = simulated(alloc, text(alloc, A, &[send])?, options(2, Mode::Eager))?;
-    assert_eq!(rt; status, Status::Text);
+    assert!(rt; status == Status::Text);
     Ok(())
 }
 
@@ -196,8 +196,8 @@ fn changed_texts(rt: HostRuntime) -> Result<(), Fail> {
             text(alloc, A, statements.as_slice())?,
             options(2, Mode::Eager),
         )?;
-        assert_eq!(rt; bytes.as_slice(), output.as_bytes());
-        assert_eq!(rt; status, Status::Stuck);
+        assert!(rt; bytes.as_slice() == output.as_bytes());
+        assert!(rt; status == Status::Stuck);
     }
     Ok(())
 }
@@ -210,18 +210,17 @@ fn waiting_and_eager_sends(rt: HostRuntime) -> Result<(), Fail> {
         text(alloc, AB, &[EXCHANGED])?,
         options(2, Mode::Waiting),
     )?;
-    assert_eq!(rt;
-        bytes.as_slice(),
-        b"0 send 1 A\npabble: stuck, rank 0 waits until 1 takes A\n".as_slice()
+    assert!(rt;
+        bytes.as_slice() == b"0 send 1 A\npabble: stuck, rank 0 waits until 1 takes A\n".as_slice()
     );
-    assert_eq!(rt; status, Status::Stuck);
+    assert!(rt; status == Status::Stuck);
     let (status, bytes) = simulated(
         alloc,
         text(alloc, AB, &[EXCHANGED])?,
         options(2, Mode::Eager),
     )?;
-    assert_eq!(rt; status, Status::Done);
-    assert_eq!(rt; bytes.len(), 50);
+    assert!(rt; status == Status::Done);
+    assert!(rt; bytes.len() == 50);
     Ok(())
 }
 
@@ -234,8 +233,8 @@ fn texts_at_fault(rt: HostRuntime) -> Result<(), Fail> {
         text(alloc, A, &[SENDS, unspaced])?,
         options(2, Mode::Eager),
     )?;
-    assert_eq!(rt; bytes.as_slice(), b"pabble: text at 39:1\n".as_slice());
-    assert_eq!(rt; status, Status::Text);
+    assert!(rt; bytes.as_slice() == b"pabble: text at 39:1\n".as_slice());
+    assert!(rt; status == Status::Text);
     Ok(())
 }
 
@@ -275,8 +274,8 @@ fn replays(rt: HostRuntime) -> Result<(), Fail> {
         ),
     ] {
         let (got, bytes) = replayed(alloc, text(alloc, A, &[SENDS, RECEIVES])?, schedule)?;
-        assert_eq!(rt; bytes.as_slice(), output.as_bytes());
-        assert_eq!(rt; got, status);
+        assert!(rt; bytes.as_slice() == output.as_bytes());
+        assert!(rt; got == status);
     }
     Ok(())
 }
@@ -302,8 +301,8 @@ fn replays_with_modes(rt: HostRuntime) -> Result<(), Fail> {
         ),
     ] {
         let (got, bytes) = replayed(alloc, text(alloc, AB, &[EXCHANGED])?, schedule)?;
-        assert_eq!(rt; bytes.as_slice(), output.as_bytes());
-        assert_eq!(rt; got, status);
+        assert!(rt; bytes.as_slice() == output.as_bytes());
+        assert!(rt; got == status);
     }
     Ok(())
 }
@@ -319,13 +318,10 @@ fn a_schedule_is_replayed(rt: HostRuntime) -> Result<(), Fail> {
         shown: Shown::Schedule,
     };
     let (status, schedule) = simulated(alloc, text(alloc, A, &[SENDS, RECEIVES])?, asked)?;
-    assert_eq!(rt; status, Status::Done);
+    assert!(rt; status == Status::Done);
     let schedule = std::str::from_utf8(&schedule)?;
     let (status, bytes) = replayed(alloc, text(alloc, A, &[SENDS, RECEIVES])?, schedule)?;
-    assert_eq!(rt; status, Status::Done);
-    assert_eq!(rt;
-        bytes.as_slice(),
-        b"0 send 1 A\n1 recv 0 A\nended\n".as_slice()
-    );
+    assert!(rt; status == Status::Done);
+    assert!(rt; bytes.as_slice() == b"0 send 1 A\n1 recv 0 A\nended\n".as_slice());
     Ok(())
 }

@@ -143,7 +143,7 @@ fn reads_commands(rt: HostRuntime) -> Result<(), Fail> {
         ("--n 2 judge p l", "j2pl"),
     ] {
         let got = letters(rt.alloc(), line)?;
-        assert_eq!(rt; got.as_slice(), asked.as_bytes());
+        assert!(rt; got.as_slice() == asked.as_bytes());
     }
     Ok(())
 }
@@ -222,7 +222,7 @@ fn refuses_words_in_no_form(rt: HostRuntime) -> Result<(), Fail> {
         "judge p l --n 2000000001",
     ] {
         let got = letters(rt.alloc(), line)?;
-        assert_eq!(rt; got.as_slice(), b"-".as_slice());
+        assert!(rt; got.as_slice() == b"-".as_slice());
     }
     Ok(())
 }

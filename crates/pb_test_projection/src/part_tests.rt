@@ -105,9 +105,9 @@ fn between(low: Lin, high: Lin) -> Guard {
 fn all_ranks_come_to_a_barrier(rt: HostRuntime) -> Result<(), Fail> {
     let alloc = rt.alloc();
     let list = found_in(alloc, 2, vec![in alloc; stmt(CoreKind::Barrier)]?)?;
-    assert_eq!(rt; list.len(), 1);
-    assert_eq!(rt; list[0].kind, FirstKind::Other);
-    assert_eq!(rt; list[0].guards.list(), [between(FIRST, LAST)].as_slice());
+    assert!(rt; list.len() == 1);
+    assert!(rt; list[0].kind == FirstKind::Other);
+    assert!(rt; list[0].guards.list() == [between(FIRST, LAST)].as_slice());
     Ok(())
 }
 
@@ -120,16 +120,13 @@ fn ranks_that_find_the_same_go_together(rt: HostRuntime) -> Result<(), Fail> {
         to: end(fixed(8)),
     });
     let list = found_in(alloc, 20, vec![in alloc; run(0), sent, run(4)]?)?;
-    assert_eq!(rt; list.len(), 3);
-    assert_eq!(rt; list[0].kind, FirstKind::Other);
+    assert!(rt; list.len() == 3);
+    assert!(rt; list[0].kind == FirstKind::Other);
     let both = [between(FIRST, FIRST), between(fixed(4), fixed(4))];
-    assert_eq!(rt; list[0].guards.list(), both.as_slice());
+    assert!(rt; list[0].guards.list() == both.as_slice());
     let from = Source { role: 0, at: FIRST };
-    assert_eq!(rt; list[1].kind, FirstKind::Receive { from, label: 0 });
-    assert_eq!(rt;
-        list[1].guards.list(),
-        [between(fixed(8), fixed(8))].as_slice()
-    );
-    assert_eq!(rt; list[2].kind, FirstKind::Nothing);
+    assert!(rt; list[1].kind == FirstKind::Receive { from, label: 0 });
+    assert!(rt; list[1].guards.list() == [between(fixed(8), fixed(8))].as_slice());
+    assert!(rt; list[2].kind == FirstKind::Nothing);
     Ok(())
 }

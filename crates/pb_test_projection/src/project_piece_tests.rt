@@ -117,7 +117,7 @@ fn a_message(rt: HostRuntime) -> Result<(), Fail> {
     let text = printed(alloc, FROM_TWO, message(0, fixed(0), param(-1)))?;
     let want =
         b"local P\nN 2 to max\nwhen W[0]\n  send A to W[N-1]\nend\nwhen W[N-1]\n  recv A from W[0]\nend\ndone\n";
-    assert_eq!(rt; text.as_slice(), want.as_slice());
+    assert!(rt; text.as_slice() == want.as_slice());
     Ok(())
 }
 
@@ -129,7 +129,7 @@ fn segments_in_descending_order(rt: HostRuntime) -> Result<(), Fail> {
     let text = printed(alloc, FROM_TWO, one)?;
     let want =
         b"local P\nN 2 to max\nwhen W[2..N-1]\n  own I-1\n  send B to W[i]\nend\nwhen W[1..N-2]\n  own I\n  recv A from W[i-1]\n  recv B from W[i+1]\nend\nwhen W[0..N-3]\n  own I+1\n  send A to W[i]\nend\ndone\n";
-    assert_eq!(rt; text.as_slice(), want.as_slice());
+    assert!(rt; text.as_slice() == want.as_slice());
     Ok(())
 }
 
@@ -141,7 +141,7 @@ fn one_rank_asks_all_others(rt: HostRuntime) -> Result<(), Fail> {
     let text = printed(alloc, FROM_TWO, one)?;
     let want =
         b"local P\nN 2 to max\nwhen W[0]\n  for 1 to N-1\n    when W[0]\n      send A to W[i]\n    end\n    when W[0]\n      recv B from W[i]\n    end\n  end\nelse\n  when W[1..N-1]\n    own I\n    recv A from W[0]\n    send B to W[0]\n  end\nend\ndone\n";
-    assert_eq!(rt; text.as_slice(), want.as_slice());
+    assert!(rt; text.as_slice() == want.as_slice());
     Ok(())
 }
 
@@ -157,7 +157,7 @@ fn a_rank_that_is_met_in_the_loop(rt: HostRuntime) -> Result<(), Fail> {
     let text = printed(alloc, FROM_TWO, one)?;
     let want =
         b"local P\nN 2 to max\nwhen W[N-1] or W[0]\n  for 0 to N-2\n    when W[i]\n      send A to W[N-1]\n    end\n    when W[N-1]\n      recv A from W[i]\n    end\n    when W[0]\n      run K\n    end\n  end\nelse\n  when W[0..N-2]\n    own I\n    send A to W[N-1]\n  end\nend\ndone\n";
-    assert_eq!(rt; text.as_slice(), want.as_slice());
+    assert!(rt; text.as_slice() == want.as_slice());
     Ok(())
 }
 
@@ -167,7 +167,7 @@ fn a_range_that_is_always_empty(rt: HostRuntime) -> Result<(), Fail> {
     let list = vec![in alloc; message(0, var(0), var(1))]?;
     let one = each(lin(Base::Fixed, 5), lin(Base::Fixed, 2), list);
     let text = printed(alloc, FROM_TWO, one)?;
-    assert_eq!(rt; text.as_slice(), b"local P\nN 2 to max\ndone\n".as_slice());
+    assert!(rt; text.as_slice() == b"local P\nN 2 to max\ndone\n".as_slice());
     let late = vec![in alloc; message(0, var(0), var(-1))]?;
     let other = each(lin(Base::Fixed, 5), lin(Base::Param, -1), late);
     let range = NRange {
@@ -175,7 +175,7 @@ fn a_range_that_is_always_empty(rt: HostRuntime) -> Result<(), Fail> {
         high: Some(4),
     };
     let short = printed(alloc, range, other)?;
-    assert_eq!(rt; short.as_slice(), b"local P\nN 2 to 4\ndone\n".as_slice());
+    assert!(rt; short.as_slice() == b"local P\nN 2 to 4\ndone\n".as_slice());
     Ok(())
 }
 
@@ -183,9 +183,6 @@ fn a_range_that_is_always_empty(rt: HostRuntime) -> Result<(), Fail> {
 fn a_collective(rt: HostRuntime) -> Result<(), Fail> {
     let alloc = rt.alloc();
     let text = printed(alloc, FROM_TWO, stmt(CoreKind::Barrier))?;
-    assert_eq!(rt;
-        text.as_slice(),
-        b"local P\nN 2 to max\nbarrier\ndone\n".as_slice()
-    );
+    assert!(rt; text.as_slice() == b"local P\nN 2 to max\nbarrier\ndone\n".as_slice());
     Ok(())
 }

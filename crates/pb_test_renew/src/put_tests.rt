@@ -17,13 +17,16 @@ fn one_call_fails(rt: HostRuntime) -> Result<(), Fail> {
         let mut store = store_of(rt.alloc(), b"old", Some(left), fails)?;
         let put = put_both(rt.alloc(), &mut store, "o.c", TEXT, BODIES, &before);
         if failing < 9 {
-            assert_eq!(rt; put, Err(PutFault::WriteFault), "{failing}");
-            assert_eq!(rt; store.bytes_of("o.c"), Some(b"old".as_slice()), "{failing}");
-            assert_eq!(rt; store.bytes_of("o.c.left"), Some(left), "{failing}");
+            assert!(rt; put == Err(PutFault::WriteFault), "{failing}");
+            assert!(rt;
+                store.bytes_of("o.c") == Some(b"old".as_slice()),
+                "{failing}"
+            );
+            assert!(rt; store.bytes_of("o.c.left") == Some(left), "{failing}");
         } else {
-            assert_eq!(rt; put, Ok(()), "{failing}");
-            assert_eq!(rt; store.bytes_of("o.c"), Some(TEXT), "{failing}");
-            assert_eq!(rt; store.bytes_of("o.c.left"), Some(BODIES), "{failing}");
+            assert!(rt; put == Ok(()), "{failing}");
+            assert!(rt; store.bytes_of("o.c") == Some(TEXT), "{failing}");
+            assert!(rt; store.bytes_of("o.c.left") == Some(BODIES), "{failing}");
         }
     }
     Ok(())
@@ -41,9 +44,9 @@ fn all_calls_fail_from_one_on(rt: HostRuntime) -> Result<(), Fail> {
             7..9 => (Err(PutFault::Halfway), b"old".as_slice(), Some(BODIES)),
             _ => (Ok(()), TEXT, Some(BODIES)),
         };
-        assert_eq!(rt; put, ending, "{failing}");
-        assert_eq!(rt; store.bytes_of("o.c"), Some(text), "{failing}");
-        assert_eq!(rt; store.bytes_of("o.c.left"), left, "{failing}");
+        assert!(rt; put == ending, "{failing}");
+        assert!(rt; store.bytes_of("o.c") == Some(text), "{failing}");
+        assert!(rt; store.bytes_of("o.c.left") == left, "{failing}");
     }
     Ok(())
 }
@@ -55,10 +58,10 @@ fn a_text_alone(rt: HostRuntime) -> Result<(), Fail> {
         let mut store = store_of(rt.alloc(), b"old", Some(BODIES), fails)?;
         let put = put_text(rt.alloc(), &mut store, "o.c", TEXT);
         let done = failing == 4;
-        assert_eq!(rt; put.is_ok(), done, "{failing}");
+        assert!(rt; put.is_ok() == done, "{failing}");
         let wanted = if done { TEXT } else { b"old" };
-        assert_eq!(rt; store.bytes_of("o.c"), Some(wanted), "{failing}");
-        assert_eq!(rt; store.bytes_of("o.c.left"), Some(BODIES), "{failing}");
+        assert!(rt; store.bytes_of("o.c") == Some(wanted), "{failing}");
+        assert!(rt; store.bytes_of("o.c.left") == Some(BODIES), "{failing}");
     }
     Ok(())
 }

@@ -156,35 +156,26 @@ fn reads_statements_of_every_kind(rt: HostRuntime) -> Result<(), Fail> {
 #[test]
 fn refuses_a_text_that_ends_too_early(rt: HostRuntime) -> Result<(), Fail> {
     let text = joined(rt.alloc(), b"")?;
-    assert_eq!(rt; read_c(rt.alloc(), b"").err(), unexpected(1));
+    assert!(rt; read_c(rt.alloc(), b"").err() == unexpected(1));
     for end in 0..text.len() {
         assert!(rt; read_c(rt.alloc(), &text[..end]).is_err());
     }
     let mut longer = text;
     longer.push(b'\n')?;
-    assert_eq!(rt; read_c(rt.alloc(), &longer).err(), unexpected(77));
+    assert!(rt; read_c(rt.alloc(), &longer).err() == unexpected(77));
     Ok(())
 }
 
 #[test]
 fn names_the_first_line_that_does_not_go_on(rt: HostRuntime) -> Result<(), Fail> {
     let alloc = rt.alloc();
-    assert_eq!(rt;
-        fault_in(alloc, b"  MPI_Barrier(MPI_COMM_WORLD); \n")?,
-        unexpected(74)
-    );
-    assert_eq!(rt;
-        fault_in(alloc, b"   MPI_Barrier(MPI_COMM_WORLD);\n")?,
-        unexpected(74)
-    );
-    assert_eq!(rt; fault_in(alloc, b"  goto L0;\n")?, unexpected(74));
-    assert_eq!(rt; fault_in(alloc, b"  MPI_Finalize();\n")?, unexpected(75));
-    assert_eq!(rt; fault_in(alloc, b"  if (R == 0) {\n")?, unexpected(75));
-    assert_eq!(rt;
-        fault_in(alloc, b"  if (R == 0) {\n  }\n  }\n")?,
-        unexpected(76)
-    );
-    assert_eq!(rt; fault_in(alloc, b"  if (R == 2) {\n  }\n")?, unexpected(74));
+    assert!(rt; fault_in(alloc, b"  MPI_Barrier(MPI_COMM_WORLD); \n")? == unexpected(74));
+    assert!(rt; fault_in(alloc, b"   MPI_Barrier(MPI_COMM_WORLD);\n")? == unexpected(74));
+    assert!(rt; fault_in(alloc, b"  goto L0;\n")? == unexpected(74));
+    assert!(rt; fault_in(alloc, b"  MPI_Finalize();\n")? == unexpected(75));
+    assert!(rt; fault_in(alloc, b"  if (R == 0) {\n")? == unexpected(75));
+    assert!(rt; fault_in(alloc, b"  if (R == 0) {\n  }\n  }\n")? == unexpected(76));
+    assert!(rt; fault_in(alloc, b"  if (R == 2) {\n  }\n")? == unexpected(74));
     Ok(())
 }
 
@@ -213,12 +204,9 @@ fn nested(alloc: Global, depth: usize) -> Result<Vec<u8>, Fail> {
 fn counts_open_braces(rt: HostRuntime) -> Result<(), Fail> {
     let alloc = rt.alloc();
     let most = nested(alloc, 255)?;
-    assert_eq!(rt; fault_in(alloc, &most)?, None);
+    assert!(rt; fault_in(alloc, &most)? == None);
     let more = nested(alloc, 256)?;
-    assert_eq!(rt;
-        fault_in(alloc, &more)?,
-        Some(TextFault::TooDeep(at_line(329)))
-    );
+    assert!(rt; fault_in(alloc, &more)? == Some(TextFault::TooDeep(at_line(329))));
     Ok(())
 }
 
@@ -234,11 +222,8 @@ fn barriers(alloc: Global, count: usize) -> Result<Vec<u8>, Fail> {
 fn counts_statements(rt: HostRuntime) -> Result<(), Fail> {
     let alloc = rt.alloc();
     let most = barriers(alloc, 50_000)?;
-    assert_eq!(rt; fault_in(alloc, &most)?, None);
+    assert!(rt; fault_in(alloc, &most)? == None);
     let more = barriers(alloc, 50_001)?;
-    assert_eq!(rt;
-        fault_in(alloc, &more)?,
-        Some(TextFault::TooMany(at_line(50_074)))
-    );
+    assert!(rt; fault_in(alloc, &more)? == Some(TextFault::TooMany(at_line(50_074))));
     Ok(())
 }

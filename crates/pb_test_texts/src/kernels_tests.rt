@@ -94,10 +94,10 @@ fn a_body_stands_byte_for_byte(rt: HostRuntime) -> Result<(), Fail> {
         let tree = one_kernel(rt.alloc())?;
         let file = read_kernels(rt.alloc(), text.as_bytes())?;
         let bodies = merge(rt.alloc(), &tree, file)?;
-        assert_eq!(rt; bodies.prelude.bytes().len(), 0);
-        assert_eq!(rt; bodies.list.len(), 1);
+        assert!(rt; bodies.prelude.bytes().len() == 0);
+        assert!(rt; bodies.list.len() == 1);
         for body in &bodies.list {
-            assert_eq!(rt; body.bytes(), b"  if (N > 2) { puts(\"}\"); }\n".as_slice());
+            assert!(rt; body.bytes() == b"  if (N > 2) { puts(\"}\"); }\n".as_slice());
         }
     }
     Ok(())
@@ -109,15 +109,15 @@ fn bodies_stand_in_printed_order(rt: HostRuntime) -> Result<(), Fail> {
         /*@ prelude */\np\n/*@ end */\n/*@ kernel k_K */\n/*@ end */\n/*@ kernel make_A */\n\nm\n/*@ end */\n";
     let tree = tree(rt.alloc())?;
     let file = read_kernels(rt.alloc(), text.as_bytes())?;
-    assert_eq!(rt; file.len(), 5);
+    assert!(rt; file.len() == 5);
     let bodies = merge(rt.alloc(), &tree, file)?;
-    assert_eq!(rt; bodies.prelude.bytes(), b"p\n".as_slice());
+    assert!(rt; bodies.prelude.bytes() == b"p\n".as_slice());
     let mut all = Vec::new(rt.alloc());
     for body in &bodies.list {
         all.extend_from_slice(body.bytes())?;
         all.push(b'|')?;
     }
-    assert_eq!(rt; all.as_slice(), b"\nm\n|t /*@ end */\n||c\n|".as_slice());
+    assert!(rt; all.as_slice() == b"\nm\n|t /*@ end */\n||c\n|".as_slice());
     Ok(())
 }
 
@@ -163,7 +163,7 @@ fn the_first_line_at_fault_is_named(rt: HostRuntime) -> Result<(), Fail> {
         ),
         (long.as_str(), Some(KernelFault::BadMarker(1))),
     ] {
-        assert_eq!(rt; fault(rt.alloc(), text), expected, "{text}");
+        assert!(rt; fault(rt.alloc(), text) == expected, "{text}");
     }
     Ok(())
 }
@@ -191,7 +191,7 @@ fn what_is_missing_comes_before_what_is_extra(rt: HostRuntime) -> Result<(), Fai
             KernelFault::Extra(named(Kind::Compute, b"L")?),
         ),
     ] {
-        assert_eq!(rt; misfit(rt.alloc(), tree, text), Some(expected), "{text}");
+        assert!(rt; misfit(rt.alloc(), tree, text) == Some(expected), "{text}");
     }
     Ok(())
 }

@@ -226,7 +226,7 @@ fn printed_again(alloc: Global, text: &[u8]) -> Result<Vec<u8>, Fail> {
 fn reads_and_prints_every_statement(rt: HostRuntime) -> Result<(), Fail> {
     let text = changed(rt.alloc(), 0, Change::Nothing)?;
     let printed = printed_again(rt.alloc(), &text)?;
-    assert_eq!(rt; printed.as_slice(), text.as_slice());
+    assert!(rt; printed.as_slice() == text.as_slice());
     Ok(())
 }
 
@@ -257,9 +257,8 @@ fn refused_without(number: u32) -> Option<u32> {
 #[test]
 fn refuses_a_text_without_a_line(rt: HostRuntime) -> Result<(), Fail> {
     for number in 1..=141_u32 {
-        assert_eq!(rt;
-            fault_of(rt.alloc(), number, Change::Deleted)?,
-            refused_at(refused_without(number)),
+        assert!(rt;
+            fault_of(rt.alloc(), number, Change::Deleted)? == refused_at(refused_without(number)),
             "line {number}"
         );
     }
@@ -277,9 +276,8 @@ fn refused_twice(number: u32) -> Option<u32> {
 #[test]
 fn refuses_a_text_with_a_line_twice(rt: HostRuntime) -> Result<(), Fail> {
     for number in 1..=141_u32 {
-        assert_eq!(rt;
-            fault_of(rt.alloc(), number, Change::Doubled)?,
-            refused_at(refused_twice(number)),
+        assert!(rt;
+            fault_of(rt.alloc(), number, Change::Doubled)? == refused_at(refused_twice(number)),
             "line {number}"
         );
     }
@@ -304,9 +302,8 @@ fn refused_indented(number: u32) -> Option<u32> {
 #[test]
 fn refuses_a_text_with_a_line_indented(rt: HostRuntime) -> Result<(), Fail> {
     for number in 1..=141_u32 {
-        assert_eq!(rt;
-            fault_of(rt.alloc(), number, Change::Indented)?,
-            refused_at(refused_indented(number)),
+        assert!(rt;
+            fault_of(rt.alloc(), number, Change::Indented)? == refused_at(refused_indented(number)),
             "line {number}"
         );
     }
@@ -323,9 +320,9 @@ fn refused_shortened(number: u32) -> Option<u32> {
 #[test]
 fn refuses_a_text_with_a_line_shortened(rt: HostRuntime) -> Result<(), Fail> {
     for number in 1..=141_u32 {
-        assert_eq!(rt;
-            fault_of(rt.alloc(), number, Change::Shortened)?,
-            refused_at(refused_shortened(number)),
+        assert!(rt;
+            fault_of(rt.alloc(), number, Change::Shortened)?
+                == refused_at(refused_shortened(number)),
             "line {number}"
         );
     }
@@ -345,9 +342,8 @@ fn refused_cut(number: u32) -> Option<u32> {
 #[test]
 fn refuses_a_text_with_a_line_cut(rt: HostRuntime) -> Result<(), Fail> {
     for number in 1..=141_u32 {
-        assert_eq!(rt;
-            fault_of(rt.alloc(), number, Change::Cut)?,
-            refused_at(refused_cut(number)),
+        assert!(rt;
+            fault_of(rt.alloc(), number, Change::Cut)? == refused_at(refused_cut(number)),
             "line {number}"
         );
     }

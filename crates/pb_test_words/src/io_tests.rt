@@ -36,7 +36,7 @@ fn reads_whole_files(rt: HostRuntime) -> Result<(), Fail> {
         let fails = [fails].to_vec(rt.alloc())?;
         let mut folder = MemFolder::new(files(rt.alloc())?, fails);
         let read = read_all(rt.alloc(), &mut folder, name, limit);
-        assert_eq!(rt; read.map(|bytes| bytes.len()), expected, "{name} {limit}");
+        assert!(rt; read.map(|bytes| bytes.len()) == expected, "{name} {limit}");
     }
     Ok(())
 }
@@ -60,8 +60,8 @@ fn writes_what_fits(rt: HostRuntime) -> Result<(), Fail> {
         let fails = [fails].to_vec(rt.alloc())?;
         let mut sink = MemSink::new(rt.alloc(), room, most, fails)?;
         let written = write_all(&mut sink, b"Hello, pipe!");
-        assert_eq!(rt; written.is_ok(), expected == 12, "{room} {most}");
-        assert_eq!(rt; sink.taken().len(), expected, "{room} {most}");
+        assert!(rt; written.is_ok() == (expected == 12), "{room} {most}");
+        assert!(rt; sink.taken().len() == expected, "{room} {most}");
         assert!(rt; b"Hello, pipe!".starts_with(sink.taken()), "{room} {most}");
     }
     Ok(())
@@ -71,14 +71,14 @@ fn writes_what_fits(rt: HostRuntime) -> Result<(), Fail> {
 fn sure_ones_never_fail(rt: HostRuntime) -> Result<(), Fail> {
     let mut folder = SureFolder::new(files(rt.alloc())?);
     let whole = read_all(rt.alloc(), &mut folder, "p", 10)?;
-    assert_eq!(rt; whole.as_slice(), b"0123456789".as_slice());
+    assert!(rt; whole.as_slice() == b"0123456789".as_slice());
     let missing = read_all(rt.alloc(), &mut folder, "q", 10)?;
-    assert_eq!(rt; missing.len(), 0);
+    assert!(rt; missing.len() == 0);
 
     let mut sink = SureSink::new();
     write_all(&mut sink, b"four")?;
     write_all(&mut sink, b"")?;
-    assert_eq!(rt; sink.count(), 4);
+    assert!(rt; sink.count() == 4);
     Ok(())
 }
 
@@ -96,11 +96,11 @@ fn host_folder_reads_files(rt: HostRuntime) -> Result<(), Fail> {
     let whole = read_all(rt.alloc(), &mut folder, first.as_str(), 7);
     fs::remove_file(&rt, first.as_str())?;
     fs::remove_file(&rt, second.as_str())?;
-    assert_eq!(rt; cut.map(|bytes| bytes.len()), Err(InFault::TooLong));
-    assert_eq!(rt; other?.as_slice(), b"and this".as_slice());
-    assert_eq!(rt; whole?.as_slice(), b"on disk".as_slice());
+    assert!(rt; cut.map(|bytes| bytes.len()) == Err(InFault::TooLong));
+    assert!(rt; other?.as_slice() == b"and this".as_slice());
+    assert!(rt; whole?.as_slice() == b"on disk".as_slice());
     let gone = read_all(rt.alloc(), &mut folder, first.as_str(), 7);
-    assert_eq!(rt; gone.map(|bytes| bytes.len()), Err(InFault::ReadFault));
+    assert!(rt; gone.map(|bytes| bytes.len()) == Err(InFault::ReadFault));
     Ok(())
 }
 

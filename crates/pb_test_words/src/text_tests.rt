@@ -6,9 +6,9 @@ fn a_name_has_1_to_64_bytes(rt: HostRuntime) -> Result<(), Fail> {
     for (length, is_name) in [(0, false), (1, true), (64, true), (65, false)] {
         let bytes = vec![in rt.alloc(); b'a'; length]?;
         let name = Name::of(bytes.as_slice());
-        assert_eq!(rt; name.is_some(), is_name, "{length}");
+        assert!(rt; name.is_some() == is_name, "{length}");
         if let Some(name) = name {
-            assert_eq!(rt; name.bytes().len(), length);
+            assert!(rt; name.bytes().len() == length);
         }
     }
     Ok(())
@@ -20,10 +20,10 @@ fn names_are_numbered_as_they_come(rt: HostRuntime) -> Result<(), Fail> {
     let master = Name::of(b"Master").ok_or("Master")?;
     let worker = Name::of(b"Worker").ok_or("Worker")?;
     let first = names.intern(master)?;
-    assert_eq!(rt; first, 0);
-    assert_eq!(rt; names.name(first), master);
-    assert_eq!(rt; names.find(&worker), None);
-    assert_eq!(rt; names.find(&master), Some(0));
+    assert!(rt; first == 0);
+    assert!(rt; names.name(first) == master);
+    assert!(rt; names.find(&worker) == None);
+    assert!(rt; names.find(&master) == Some(0));
     Ok(())
 }
 
@@ -35,14 +35,14 @@ fn numbers_are_decimal(rt: HostRuntime) -> Result<(), Fail> {
         text.push(b' ')?;
     }
     let wanted = b"0 7 -3 1000000 -9223372036854775808 9223372036854775807 ";
-    assert_eq!(rt; text.as_slice(), wanted.as_slice());
+    assert!(rt; text.as_slice() == wanted.as_slice());
     Ok(())
 }
 
 #[test]
 fn words_keep_their_order(rt: HostRuntime) -> Result<(), Fail> {
     let words = Words::of([3, 1, 2].to_vec(rt.alloc())?);
-    assert_eq!(rt; words.list(), [3, 1, 2].as_slice());
+    assert!(rt; words.list() == [3, 1, 2].as_slice());
     Ok(())
 }
 
@@ -54,7 +54,7 @@ fn digits_of_small_and_large_numbers(rt: HostRuntime) -> Result<(), Fail> {
         text.push(b' ')?;
     }
     let wanted = b"0 9 10 99 100 18446744073709551615 ";
-    assert_eq!(rt; text.as_slice(), wanted.as_slice());
+    assert!(rt; text.as_slice() == wanted.as_slice());
     Ok(())
 }
 
@@ -68,6 +68,6 @@ fn keywords_are_spelled(rt: HostRuntime) -> Result<(), Fail> {
     let wanted =
         b"const global protocol role from to foreach rec continue choice at or compute barrier \
 broadcast reduce allreduce with max min sum int32 uint32 do ";
-    assert_eq!(rt; text.as_slice(), wanted.as_slice());
+    assert!(rt; text.as_slice() == wanted.as_slice());
     Ok(())
 }

@@ -8,11 +8,8 @@ fn a_message_of_signed_words(rt: HostRuntime) -> Result<(), Fail> {
     let alloc = rt.alloc();
     let file = protocol(alloc, "2..max", "  A(int32[2]) from W[0] to W[1];")?;
     let told = played_by_greatest(alloc, file.as_str(), options(2))?;
-    assert_eq!(rt; told.status, Status::Done);
-    assert_eq!(rt;
-        told.log.as_str(),
-        "0 send 1 A -1 -1\n1 recv 0 A -1 -1\nended\n"
-    );
+    assert!(rt; told.status == Status::Done);
+    assert!(rt; told.log.as_str() == "0 send 1 A -1 -1\n1 recv 0 A -1 -1\nended\n");
     Ok(())
 }
 
@@ -28,10 +25,10 @@ fn a_sum_of_own_words(rt: HostRuntime) -> Result<(), Fail> {
     let file = protocol(alloc, "3..3", "  reduce S(uint32) with sum to W[0];")?;
     let answers = |_seed: u64, rank: u32, count: u64| ten_times(rank, count);
     let told = played(alloc, file.as_str(), options(3), answers)?;
-    assert_eq!(rt; told.status, Status::Done);
-    assert_eq!(rt;
-        by_rank(alloc, told.log.as_str())?.as_str(),
-        "0 enter S 0\n0 leave S 30\n1 enter S 10\n1 leave S\n2 enter S 20\n2 leave S\nended\n"
+    assert!(rt; told.status == Status::Done);
+    assert!(rt;
+        by_rank(alloc, told.log.as_str())?.as_str()
+            == "0 enter S 0\n0 leave S 30\n1 enter S 10\n1 leave S\n2 enter S 20\n2 leave S\nended\n"
     );
     Ok(())
 }
@@ -55,10 +52,9 @@ fn reductions_of_the_greatest_word(rt: HostRuntime) -> Result<(), Fail> {
     ] {
         let file = protocol(alloc, "3..3", body)?;
         let told = played_by_greatest(alloc, file.as_str(), options(3))?;
-        assert_eq!(rt; told.status, Status::Done, "{body}");
-        assert_eq!(rt;
-            by_rank(alloc, told.log.as_str())?.as_str(),
-            output,
+        assert!(rt; told.status == Status::Done, "{body}");
+        assert!(rt;
+            by_rank(alloc, told.log.as_str())?.as_str() == output,
             "{body}"
         );
     }
@@ -90,10 +86,9 @@ fn signed_and_unsigned_reductions(rt: HostRuntime) -> Result<(), Fail> {
     ] {
         let file = protocol(alloc, "3..3", body)?;
         let told = played(alloc, file.as_str(), options(3), answers)?;
-        assert_eq!(rt; told.status, Status::Done, "{body}");
-        assert_eq!(rt;
-            by_rank(alloc, told.log.as_str())?.as_str(),
-            output,
+        assert!(rt; told.status == Status::Done, "{body}");
+        assert!(rt;
+            by_rank(alloc, told.log.as_str())?.as_str() == output,
             "{body}"
         );
     }

@@ -97,7 +97,7 @@ fn has_bytes(text: Option<&[u8]>, part: &str) -> bool {
 fn a_protocol_changes(rt: HostRuntime) -> Result<(), Fail> {
     let alloc = rt.alloc();
     let first = called(alloc, &["both", "o.c"], "", "", Vec::new(alloc))?;
-    assert_eq!(rt; first.status, Status::Done);
+    assert!(rt; first.status == Status::Done);
     assert!(rt; first.told.is_empty());
     assert!(rt;
         has_bytes(
@@ -105,10 +105,10 @@ fn a_protocol_changes(rt: HostRuntime) -> Result<(), Fail> {
             "/*@ kernel k_K */\n/*@ end */\n"
         )
     );
-    assert_eq!(rt; first.store.bytes_of("o.c.left"), None);
+    assert!(rt; first.store.bytes_of("o.c.left") == None);
     let text = format!(in alloc; "{K}{L}")?;
     let second = called(alloc, &["other", "o.c"], &text, "a note", Vec::new(alloc))?;
-    assert_eq!(rt; second.status, Status::Done);
+    assert!(rt; second.status == Status::Done);
     assert!(rt; has_bytes(second.store.bytes_of("o.c"), L));
     assert!(rt;
         has_bytes(
@@ -117,7 +117,7 @@ fn a_protocol_changes(rt: HostRuntime) -> Result<(), Fail> {
         )
     );
     let left = format!(in alloc; "a note\n{K}")?;
-    assert_eq!(rt; second.store.bytes_of("o.c.left"), Some(left.as_bytes()));
+    assert!(rt; second.store.bytes_of("o.c.left") == Some(left.as_bytes()));
     Ok(())
 }
 
@@ -133,9 +133,8 @@ fn each_call_fails_in_turn(rt: HostRuntime) -> Result<(), Fail> {
         match tried.status {
             Status::Done => {
                 assert!(rt; has_bytes(tried.store.bytes_of("o.c"), L), "{failing}");
-                assert_eq!(rt;
-                    tried.store.bytes_of("o.c.left"),
-                    Some(K.as_bytes()),
+                assert!(rt;
+                    tried.store.bytes_of("o.c.left") == Some(K.as_bytes()),
                     "{failing}"
                 );
             }
@@ -145,8 +144,8 @@ fn each_call_fails_in_turn(rt: HostRuntime) -> Result<(), Fail> {
                 let is_read = line.starts_with(b"renew: read fault\n");
                 let is_written = line.starts_with(b"renew: write fault\n");
                 assert!(rt; is_read || is_written, "{failing}");
-                assert_eq!(rt; tried.store.bytes_of("o.c"), Some(old), "{failing}");
-                assert_eq!(rt; tried.store.bytes_of("o.c.left"), None, "{failing}");
+                assert!(rt; tried.store.bytes_of("o.c") == Some(old), "{failing}");
+                assert!(rt; tried.store.bytes_of("o.c.left") == None, "{failing}");
             }
         }
     }
@@ -233,10 +232,7 @@ fn what_has_changed_is_told(rt: HostRuntime) -> Result<(), Fail> {
     let mut new = MemFolder::new(files(alloc, L, K)?, Vec::new(alloc));
     let before = bodies_in(alloc, &mut old, "o.c");
     let page = changes(alloc, &mut new, "o.c", &before)?;
-    assert_eq!(rt;
-        page.words(),
-        b"o.c.left: bodies whose functions are gone: k_K\n".as_slice()
-    );
+    assert!(rt; page.words() == b"o.c.left: bodies whose functions are gone: k_K\n".as_slice());
     let before = bodies_in(alloc, &mut new, "o.c");
     let mut back = MemFolder::new(files(alloc, &text, OTHER_K)?, Vec::new(alloc));
     let page = changes(alloc, &mut back, "o.c", &before)?;
@@ -244,7 +240,7 @@ fn what_has_changed_is_told(rt: HostRuntime) -> Result<(), Fail> {
 o.c.left: bodies whose functions are back: k_K
 help: copy them to their places in o.c, and take them out of o.c.left
 ";
-    assert_eq!(rt; page.words(), wanted.as_bytes());
+    assert!(rt; page.words() == wanted.as_bytes());
     Ok(())
 }
 
