@@ -7,7 +7,7 @@ use std::alloc::Global;
 use std::test::Fail;
 
 /// What a call answers: its status, what went to standard output, and what to standard error.
-#[derive(Debug, Drop)]
+#[derive(Drop)]
 struct Answer {
     status: Status,
     out: Vec<u8>,

@@ -4,7 +4,7 @@ ghost use Rattle.pb_affine.specs.Values.{is_at_least, is_at_most, is_from_on, is
 use crate::Lin;
 
 /// The ranks of one role whose index lies between two ends, for the N between two numbers. An end that is None holds.
-#[derive(Clone, Copy, Debug, Default, PartialEq, Eq)]
+#[derive(Clone, Copy, Default, PartialEq, Eq)]
 pub struct Guard {
     /// The role's number.
     pub role: u32,

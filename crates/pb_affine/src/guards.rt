@@ -8,7 +8,7 @@ use std::alloc::Global;
 use std::marker::Model;
 
 /// A list of guards, which holds of a rank where one of them does.
-#[derive(Debug, Drop)]
+#[derive(Drop)]
 pub struct Guards {
     items: SmallVec<Guard, 2>,
 }

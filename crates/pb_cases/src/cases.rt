@@ -19,7 +19,7 @@ use std::alloc::Global;
 use std::marker::Model;
 
 /// A range of N, cut at its breakpoints.
-#[derive(Debug, Drop)]
+#[derive(Drop)]
 pub struct Cases {
     range: NRange,
     cuts: Vec<Lin>,

@@ -54,7 +54,7 @@ pub(crate) fn high_at(guard: &Guard, n: i64) -> i64
 }
 
 /// The indices of one role, at one N, for which some guard of a list holds.
-#[derive(Debug, Drop)]
+#[derive(Drop)]
 pub(crate) struct Cover {
     lows: Vec<i64>,
     highs: Vec<i64>,

@@ -11,7 +11,7 @@ pub struct Mark {
 }
 
 /// A breach at one N.
-#[derive(Clone, Copy, Debug)]
+#[derive(Clone, Copy)]
 pub struct Found {
     pub rule: u8,
     pub mark: Mark,

@@ -3,7 +3,7 @@ use pb_part_firsts::Entry;
 use std::alloc::Global;
 
 /// What was found first in the branches so far: the receives, and the ranks that receive from more than one rank.
-#[derive(Debug, Drop)]
+#[derive(Drop)]
 pub struct Past {
     pub entries: Vec<Entry>,
     pub mixed: Vec<Area>,

@@ -16,7 +16,7 @@ use pb_text::NoMemory;
 use std::alloc::Global;
 
 /// What the words after the program's name ask for.
-#[derive(Clone, Copy, Debug)]
+#[derive(Clone, Copy)]
 pub enum Command<'a> {
     /// `check FILE`: whether the protocol in FILE is accepted.
     Check(&'a str),

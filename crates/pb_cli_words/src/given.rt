@@ -10,7 +10,7 @@ use clap::ArgMatches;
 use pb_text::MOST_NUMBER;
 
 /// The options that are there, each once.
-#[derive(Clone, Copy, Debug)]
+#[derive(Clone, Copy)]
 pub struct Given<'a> {
     /// `--n A`.
     pub n: Option<&'a str>,

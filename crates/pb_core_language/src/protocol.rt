@@ -4,7 +4,7 @@ use pb_syntax::{CoreKernel, CoreLabel};
 use pb_text::{Name, Place};
 
 /// A role and the range of its indices.
-#[derive(Clone, Copy, Debug, PartialEq, Eq)]
+#[derive(Clone, Copy, PartialEq, Eq)]
 pub struct CoreRole {
     pub name: Name,
     /// Where its declaration names it.
@@ -14,7 +14,7 @@ pub struct CoreRole {
 }
 
 /// A protocol, for each N of its range.
-#[derive(Debug, Drop)]
+#[derive(Drop)]
 pub struct Core {
     pub protocol: Name,
     pub range: NRange,

@@ -7,7 +7,7 @@ use pb_syntax::Op;
 use pb_text::Place;
 
 /// A role with an index: one end of a message, or where something is done.
-#[derive(Clone, Copy, Debug, PartialEq, Eq)]
+#[derive(Clone, Copy, PartialEq, Eq)]
 pub struct CoreEnd {
     /// The role's number.
     pub role: u32,
@@ -17,14 +17,14 @@ pub struct CoreEnd {
 }
 
 /// From which to which value the variable of a foreach runs.
-#[derive(Clone, Copy, Debug, PartialEq, Eq)]
+#[derive(Clone, Copy, PartialEq, Eq)]
 pub struct Bounds {
     pub low: Lin,
     pub high: Lin,
 }
 
 /// Statements that are done one after the other. Blocks are numbered from 0, in the order of the file.
-#[derive(Debug, Drop)]
+#[derive(Drop)]
 #[cycle(tree)]
 pub struct CoreBlock {
     pub number: u32,
@@ -33,7 +33,7 @@ pub struct CoreBlock {
 }
 
 /// A statement. Statements are numbered from 0, in the order of the file; the place is that of its first token.
-#[derive(Debug, Drop)]
+#[derive(Drop)]
 #[cycle(tree)]
 pub struct CoreStmt {
     pub number: u32,
@@ -42,7 +42,7 @@ pub struct CoreStmt {
 }
 
 /// What a statement does. Roles, labels and kernels are given by their numbers.
-#[derive(Debug, Drop)]
+#[derive(Drop)]
 #[cycle(tree)]
 pub enum CoreKind {
     Message {

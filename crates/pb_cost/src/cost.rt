@@ -13,7 +13,7 @@ use std::alloc::Global;
 use thiserror::Error;
 
 /// How much a protocol sends, for each N of its range. Each list has each N once.
-#[derive(Debug, Drop)]
+#[derive(Drop)]
 pub struct Cost {
     pub least_messages: Vec<Piece>,
     pub most_messages: Vec<Piece>,

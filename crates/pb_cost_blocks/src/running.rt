@@ -20,7 +20,7 @@ const MOST_WEIGHT: i64 = 4_100_000;
 
 /// The count of the statements so far, in two: the sum of most of them, and the count of the latest ones. So a statement more
 /// mostly goes through the pieces of the latest ones alone.
-#[derive(Debug, Drop)]
+#[derive(Drop)]
 pub(crate) struct Running {
     pub(crate) sum: Count,
     pub(crate) recent: Count,

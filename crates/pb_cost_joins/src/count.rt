@@ -5,7 +5,7 @@ use pb_cost_pieces::Stretch;
 
 /// A count for each number of a span, which changes by `weight` at most from one number to the next. The list has a stretch
 /// for each part on which the count is a line.
-#[derive(Debug, Drop)]
+#[derive(Drop)]
 pub struct Count {
     pub span: Span,
     /// At most 4,100,000.

@@ -8,7 +8,7 @@ use pb_text::NoMemory;
 use std::alloc::Global;
 
 /// The stretches of a function as far as it is known. Each but the latest goes as far as it can.
-#[derive(Debug, Drop)]
+#[derive(Drop)]
 pub struct Builder {
     pub done: Vec<Stretch>,
     pub latest: Stretch,

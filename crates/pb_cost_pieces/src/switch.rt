@@ -6,7 +6,7 @@ use crate::crossing::stays_below;
 use crate::ray::Ray;
 
 /// A line for so many numbers, and then another; None where the first one goes on for ever.
-#[derive(Clone, Copy, Debug, PartialEq, Eq)]
+#[derive(Clone, Copy, PartialEq, Eq)]
 pub struct Switch {
     pub kept: Ray,
     pub other: Ray,

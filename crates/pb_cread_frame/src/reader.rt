@@ -20,7 +20,7 @@ use std::alloc::Global;
 use std::mem;
 
 /// Whose body is open.
-#[derive(Clone, Copy, Debug)]
+#[derive(Clone, Copy)]
 pub enum Owner {
     Prelude,
     /// The function that makes a label's words, and the number of the label behind it.
@@ -30,7 +30,7 @@ pub enum Owner {
 }
 
 /// What comes next.
-#[derive(Clone, Copy, Debug)]
+#[derive(Clone, Copy)]
 pub enum Phase {
     Protocol,
     Range,

@@ -1,7 +1,7 @@
 use pb_ctree::{Guards, Lin, Op, Peer};
 
 /// Which of a label's two arrays is meant.
-#[derive(Clone, Copy, Debug, PartialEq, Eq)]
+#[derive(Clone, Copy, PartialEq, Eq)]
 pub enum Side {
     /// The one that is sent from.
     Outgoing,
@@ -10,7 +10,7 @@ pub enum Side {
 }
 
 /// A line of main's statements.
-#[derive(Debug, Drop)]
+#[derive(Drop)]
 pub enum Item {
     /// `}`
     Close,

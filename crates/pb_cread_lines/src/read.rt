@@ -17,7 +17,7 @@ use pb_ctree::{Local, NoMemory};
 use std::alloc::Global;
 
 /// A line of main's statements.
-#[derive(Debug, Drop)]
+#[derive(Drop)]
 pub struct ReadLine {
     /// The number of open braces.
     pub depth: u32,

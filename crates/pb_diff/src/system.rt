@@ -7,7 +7,7 @@ use crate::table::{smaller, solved};
 use std::marker::Model;
 
 /// A number of variables, of which variable 0 is always 0, and at most 16 constraints on their differences.
-#[derive(Debug, Drop)]
+#[derive(Drop)]
 pub struct System {
     vars: u8,
     count: usize,

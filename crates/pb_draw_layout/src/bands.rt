@@ -6,7 +6,7 @@ use pb_text::NoMemory;
 use std::alloc::Global;
 
 /// A collective: from the column of its first entry to that of its last leave, over the rows of all its ranks.
-#[derive(Clone, Copy, Debug, PartialEq, Eq)]
+#[derive(Clone, Copy, PartialEq, Eq)]
 pub struct Band {
     /// Its name, by its place among the log's names.
     pub name: u32,

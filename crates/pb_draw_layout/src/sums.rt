@@ -22,7 +22,7 @@ pub struct Sum {
 }
 
 /// What is sent in a log.
-#[derive(Debug, Drop)]
+#[derive(Drop)]
 pub struct Sums {
     /// How many messages.
     pub messages: u64,

@@ -18,7 +18,7 @@ pub enum Deed {
 }
 
 /// What a line says, but for its words.
-#[derive(Clone, Copy, Debug)]
+#[derive(Clone, Copy)]
 pub struct Head {
     /// Whose action it is.
     pub rank: u32,

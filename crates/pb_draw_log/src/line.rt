@@ -11,7 +11,7 @@ use crate::words::words_of;
 use pb_text_read::strip;
 
 /// What a line says.
-#[derive(Clone, Copy, Debug)]
+#[derive(Clone, Copy)]
 pub struct Line {
     /// All but its words.
     pub head: Head,

@@ -15,7 +15,7 @@ const MOST_CROSSINGS: usize = 400_000;
 const MARGIN: u64 = 5;
 
 /// Where an arrow crosses the middle between two rows.
-#[derive(Clone, Copy, Debug, PartialEq, Eq, PartialOrd, Ord)]
+#[derive(Clone, Copy, PartialEq, Eq, PartialOrd, Ord)]
 struct Crossing {
     /// The row above.
     gap: u32,

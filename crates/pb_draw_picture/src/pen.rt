@@ -4,7 +4,7 @@ use pb_text::{NoMemory, push_decimal};
 use std::alloc::Global;
 
 /// The bytes of a picture.
-#[derive(Debug, Drop)]
+#[derive(Drop)]
 pub struct Pen {
     bytes: Vec<u8>,
 }

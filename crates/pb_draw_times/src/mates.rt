@@ -7,7 +7,7 @@ use pb_text::NoMemory;
 use std::alloc::Global;
 
 /// The action behind so many of the same step.
-#[derive(Clone, Copy, Debug, PartialEq, Eq, Hash)]
+#[derive(Clone, Copy, PartialEq, Eq, Hash)]
 struct Nth {
     step: Step,
     number: usize,

@@ -9,7 +9,7 @@ use std::alloc::Global;
 const MOST_SHOWN: u32 = 16;
 
 /// What the last rank of a chain waits for.
-#[derive(Clone, Copy, Debug, PartialEq, Eq)]
+#[derive(Clone, Copy, PartialEq, Eq)]
 pub enum Last {
     /// For no rank.
     Nobody,

@@ -18,7 +18,7 @@ pub fn count_bytes(count: &mut u64, more: usize)
 }
 
 /// Calls that are numbered from 0, some of which are to fail.
-#[derive(Debug, Drop)]
+#[derive(Drop)]
 pub struct Calls {
     fails: Vec<u64>,
     next: u64,

@@ -1,5 +1,5 @@
 /// A file in memory.
-#[derive(Debug, Drop)]
+#[derive(Drop)]
 pub struct MemFile {
     pub name: String,
     pub bytes: Vec<u8>,

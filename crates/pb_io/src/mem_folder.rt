@@ -11,7 +11,7 @@ use crate::shelf::Shelf;
 use crate::{Failed, Folder, MemFile};
 
 /// A folder in memory, whose calls can be told to fail.
-#[derive(Debug, Drop)]
+#[derive(Drop)]
 pub struct MemFolder {
     shelf: Shelf,
     calls: Calls,

@@ -8,7 +8,7 @@ use crate::{Failed, NoMemory, Sink};
 use std::alloc::Global;
 
 /// A sink in memory with limited room, whose calls can be told to fail.
-#[derive(Debug, Drop)]
+#[derive(Drop)]
 pub struct MemSink {
     room: usize,
     most: usize,

@@ -8,7 +8,7 @@ use crate::MemFile;
 use crate::calls::count_bytes;
 
 /// Files in memory, of which one may be open.
-#[derive(Debug, Drop)]
+#[derive(Drop)]
 pub struct Shelf {
     files: Vec<MemFile>,
     current: Option<usize>,

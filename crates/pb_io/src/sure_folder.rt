@@ -5,7 +5,7 @@ use crate::shelf::Shelf;
 use crate::{Failed, Folder, MemFile};
 
 /// A folder in memory that never fails: a name that isn't there is an empty file.
-#[derive(Debug, Drop)]
+#[derive(Drop)]
 pub struct SureFolder {
     shelf: Shelf,
 }

@@ -3,7 +3,7 @@ ghost use Rattle.std.specs.Prelude.{◌≡◌, ◌+◌, ◌-◌, ◌^◌, min, N
 use crate::{Failed, Sink};
 
 /// A sink that takes every piece whole, never fails, and keeps only how many bytes it took.
-#[derive(Debug, Drop)]
+#[derive(Drop)]
 pub struct SureSink {
     count: u64,
 }

@@ -15,7 +15,7 @@ use pb_text::{Action, Joint, NoMemory, Words};
 use std::alloc::Global;
 
 /// What a rank does, by the second field of its line.
-#[derive(Clone, Copy, Debug, PartialEq, Eq)]
+#[derive(Clone, Copy, PartialEq, Eq)]
 pub enum Verb {
     Choose,
     Run,

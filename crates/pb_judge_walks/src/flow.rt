@@ -1,5 +1,5 @@
 /// How the walk over a statement or a block ends.
-#[derive(Clone, Copy, Debug, PartialEq, Eq)]
+#[derive(Clone, Copy, PartialEq, Eq)]
 pub enum Flow {
     /// What stands behind it comes next.
     Passed,

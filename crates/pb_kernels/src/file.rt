@@ -8,7 +8,7 @@ use std::alloc::Global;
 use std::marker::Model;
 
 /// A body of a kernel file, with its name.
-#[derive(Debug, Drop)]
+#[derive(Drop)]
 pub struct NamedBody {
     pub name: KName,
     pub body: Body,

@@ -6,7 +6,7 @@ ghost use Rattle.pb_kernels.specs.Marks.{ends_marker, is_mark, begins_name, open
 use crate::{KName, Kind, Name};
 
 /// What a line that begins with `/*@` is.
-#[derive(Clone, Copy, Debug)]
+#[derive(Clone, Copy)]
 pub enum Marker {
     /// It opens the body with this name.
     Opening(KName),

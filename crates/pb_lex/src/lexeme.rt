@@ -19,7 +19,7 @@ pub enum Fault {
 }
 
 /// What some bytes are.
-#[derive(Clone, Copy, Debug, PartialEq, Eq)]
+#[derive(Clone, Copy, PartialEq, Eq)]
 pub enum Sort {
     /// Blanks, or a comment up to its end.
     Gap,
@@ -33,7 +33,7 @@ pub enum Sort {
 }
 
 /// What a text begins with, and of how many bytes it is.
-#[derive(Clone, Copy, Debug, PartialEq, Eq)]
+#[derive(Clone, Copy, PartialEq, Eq)]
 pub struct Lexeme {
     pub sort: Sort,
     pub len: usize,

@@ -1,14 +1,14 @@
 use crate::{Guard, Guards, Lin, Op};
 
 /// A rank by its role's number and its index.
-#[derive(Clone, Copy, Debug, PartialEq, Eq)]
+#[derive(Clone, Copy, PartialEq, Eq)]
 pub struct Peer {
     pub role: u32,
     pub at: Lin,
 }
 
 /// The first message has this label, and the guards hold of the rank: the branch is this one.
-#[derive(Debug, Drop)]
+#[derive(Drop)]
 pub struct Test {
     /// The branch's number.
     pub branch: u32,
@@ -18,14 +18,14 @@ pub struct Test {
 }
 
 /// The ranks that hear of a choice from another rank than the others do.
-#[derive(Debug, Drop)]
+#[derive(Drop)]
 pub struct Relay {
     pub guards: Guards,
     pub from: Peer,
 }
 
 /// A statement of an endpoint program. Roles, labels and kernels are given by their numbers.
-#[derive(Debug, Drop)]
+#[derive(Drop)]
 pub enum Stmt {
     /// The ranks of which a guard holds do the first part, all others the other part.
     If {

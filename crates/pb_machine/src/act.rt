@@ -6,7 +6,7 @@ use crate::{Joint, Op};
 use pb_machine_next::Call;
 
 /// An action that comes next, without what a kernel or another rank puts into it.
-#[derive(Clone, Copy, Debug, PartialEq, Eq)]
+#[derive(Clone, Copy, PartialEq, Eq)]
 pub enum Act {
     /// The kernel chooses one of `branches` branches.
     Choose {
@@ -39,7 +39,7 @@ pub enum Act {
 }
 
 /// What a rank does next, as far as it alone decides it.
-#[derive(Clone, Copy, Debug, PartialEq, Eq)]
+#[derive(Clone, Copy, PartialEq, Eq)]
 pub enum Next {
     /// A step that only the rank itself notices.
     Silent,
@@ -56,7 +56,7 @@ pub enum Next {
 }
 
 /// What a step gets from outside.
-#[derive(Clone, Copy, Debug, PartialEq, Eq)]
+#[derive(Clone, Copy, PartialEq, Eq)]
 pub enum Input {
     /// Nothing.
     Plain,

@@ -9,7 +9,7 @@ use pb_ctree::{CTree, Stmt};
 pub const MOST: u64 = 1 << 60;
 
 /// How many statements a tree has, and how deep they stand; exact where it is below 2^60.
-#[derive(Clone, Copy, Debug)]
+#[derive(Clone, Copy)]
 pub struct Sizes {
     pub size: u64,
     pub height: u64,

@@ -1,7 +1,7 @@
 use crate::call::Call;
 
 /// Where a step leads: to another statement of a block that the rank is in, or into a block of a statement.
-#[derive(Clone, Copy, Debug)]
+#[derive(Clone, Copy)]
 pub enum Go {
     Stay {
         depth: usize,
@@ -15,7 +15,7 @@ pub enum Go {
 }
 
 /// What a rank does next, and where that leads.
-#[derive(Clone, Copy, Debug)]
+#[derive(Clone, Copy)]
 pub enum Ahead {
     Ended,
     Undefined,

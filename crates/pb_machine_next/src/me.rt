@@ -1,7 +1,7 @@
 ghost use Rattle.pb_affine.specs.Values.{IsNear};
 
 /// Who a rank is.
-#[derive(Clone, Copy, Debug)]
+#[derive(Clone, Copy)]
 pub struct Me {
     /// The number N.
     pub n: i64,

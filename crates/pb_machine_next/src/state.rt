@@ -2,7 +2,7 @@ use crate::ahead::Ahead;
 use crate::me::Me;
 
 /// What a rank's step depends on, besides its place, and what comes next.
-#[derive(Clone, Copy, Debug)]
+#[derive(Clone, Copy)]
 pub struct State {
     pub me: Me,
     /// The variable of the text.

@@ -3,7 +3,7 @@ use pb_part_firsts::Source;
 
 /// What a rank finds first in a block: nothing that it takes part in, a message that it receives, the place of a continue,
 /// or anything else.
-#[derive(Clone, Copy, Debug, PartialEq, Eq)]
+#[derive(Clone, Copy, PartialEq, Eq)]
 pub enum FirstKind {
     Nothing,
     Receive { from: Source, label: u32 },
@@ -12,7 +12,7 @@ pub enum FirstKind {
 }
 
 /// The ranks that the guards hold of may find this first.
-#[derive(Debug, Drop)]
+#[derive(Drop)]
 pub struct First {
     pub guards: Guards,
     pub kind: FirstKind,

@@ -16,7 +16,7 @@ use pb_part_firsts::{Entry, Kind};
 use std::alloc::Global;
 
 /// The areas of entries of one kind, and the other entries.
-#[derive(Debug, Drop)]
+#[derive(Drop)]
 pub(crate) struct Part {
     pub(crate) areas: Vec<Area>,
     pub(crate) others: Vec<Entry>,

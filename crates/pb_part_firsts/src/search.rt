@@ -22,7 +22,7 @@ use pb_part_takers::{Held, takers_in, with_loop};
 use std::alloc::Global;
 
 /// What is found so far: entries, and the areas of those that find nothing.
-#[derive(Debug, Drop)]
+#[derive(Drop)]
 pub struct Found {
     pub entries: Vec<Entry>,
     pub passed: Vec<Area>,

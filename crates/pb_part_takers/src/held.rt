@@ -13,7 +13,7 @@ use pb_text::NoMemory;
 use std::alloc::Global;
 
 /// A loop, with the areas of the ranks that take part in its body for a reason other than its continue.
-#[derive(Debug, Drop)]
+#[derive(Drop)]
 pub struct Held {
     pub id: u32,
     pub areas: Vec<Area>,

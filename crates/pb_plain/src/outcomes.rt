@@ -8,7 +8,7 @@ use crate::{Branches, Flat, Held, NoMemory, takes_part, takes_part_among};
 use std::alloc::Global;
 
 /// What a rank may find first in a block.
-#[derive(Clone, Copy, Debug, PartialEq, Eq)]
+#[derive(Clone, Copy, PartialEq, Eq)]
 pub enum Outcome {
     /// Nothing that it takes part in.
     Nothing,

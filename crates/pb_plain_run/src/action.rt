@@ -6,7 +6,7 @@ use pb_text::{NoMemory, Words};
 
 /// What one rank does, in full: a choice says among how many branches it was, and the entry into a collective, and the
 /// leaving of one, the whole collective. Ranks are given by their numbers.
-#[derive(Debug, Drop)]
+#[derive(Drop)]
 pub enum FullAction {
     Choose {
         kernel: u32,
@@ -37,7 +37,7 @@ pub enum FullAction {
 }
 
 /// An action with the rank that does it.
-#[derive(Debug, Drop)]
+#[derive(Drop)]
 pub struct RankAction {
     pub rank: u64,
     pub action: FullAction,

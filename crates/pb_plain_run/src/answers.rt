@@ -8,7 +8,7 @@ use std::alloc::Global;
 
 /// The answers of one rank's kernels, in order: the branches of its choices, and the words of its sends and of those
 /// entries into collectives in which it makes words.
-#[derive(Debug, Drop)]
+#[derive(Drop)]
 pub struct Answers {
     pub branches: Vec<u32>,
     pub words: Vec<Words>,

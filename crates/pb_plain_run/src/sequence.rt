@@ -18,7 +18,7 @@ use pb_text::NoMemory;
 use std::alloc::Global;
 
 /// The first steps of a sequential run.
-#[derive(Debug, Drop)]
+#[derive(Drop)]
 pub struct Sequence {
     /// What the ranks do in them, in order.
     pub actions: Vec<RankAction>,

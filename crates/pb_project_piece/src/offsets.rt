@@ -9,7 +9,7 @@ use pb_text::NoMemory;
 use std::alloc::Global;
 
 /// An offset.
-#[derive(Clone, Copy, Debug, PartialEq, Eq)]
+#[derive(Clone, Copy, PartialEq, Eq)]
 pub struct Off {
     pub off: i32,
 }

@@ -1,5 +1,5 @@
 /// The format of a schedule's text.
-#[derive(Clone, Copy, Debug, PartialEq, Eq)]
+#[derive(Clone, Copy, PartialEq, Eq)]
 pub enum Format {
     /// A rank for each event, and each event is eager.
     One,

@@ -1,5 +1,5 @@
 /// How many actions of each kind were done, and how many words all sends and entries had.
-#[derive(Clone, Copy, Debug, PartialEq, Eq)]
+#[derive(Clone, Copy, PartialEq, Eq)]
 pub struct Counts {
     pub sends: u64,
     pub receives: u64,

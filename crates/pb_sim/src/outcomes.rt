@@ -2,7 +2,7 @@ use pb_text::{Action, NoMemory};
 use thiserror::Error;
 
 /// What one step of a rank was.
-#[derive(Debug, Drop)]
+#[derive(Drop)]
 pub enum StepDone {
     /// A step that only the rank itself notices.
     Silent,

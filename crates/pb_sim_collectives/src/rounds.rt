@@ -6,7 +6,7 @@ use crate::call::Call;
 use pb_text::NoMemory;
 
 /// A collective, and how many ranks have entered it.
-#[derive(Clone, Copy, Debug)]
+#[derive(Clone, Copy)]
 pub struct Round {
     pub call: Call,
     pub came: usize,

@@ -1,7 +1,7 @@
 use pb_text::Mode;
 
 /// A message that has to be taken before its sender goes on.
-#[derive(Clone, Copy, Debug)]
+#[derive(Clone, Copy)]
 pub struct Waits {
     /// The receiver.
     pub by: u32,
@@ -9,7 +9,7 @@ pub struct Waits {
 }
 
 /// What is kept of a rank besides its machine.
-#[derive(Clone, Copy, Debug)]
+#[derive(Clone, Copy)]
 pub struct Stand {
     /// Its last message, where it waits until that is taken.
     pub waits: Option<Waits>,

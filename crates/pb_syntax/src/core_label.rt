@@ -11,14 +11,14 @@ pub enum KernelKind {
 }
 
 /// A row of the table of labels. A label's number is its position.
-#[derive(Clone, Copy, Debug, PartialEq, Eq)]
+#[derive(Clone, Copy, PartialEq, Eq)]
 pub struct CoreLabel {
     pub name: Name,
     pub payload: Payload,
 }
 
 /// A row of the table of kernels. A kernel's number is its position.
-#[derive(Clone, Copy, Debug, PartialEq, Eq)]
+#[derive(Clone, Copy, PartialEq, Eq)]
 pub struct CoreKernel {
     pub name: Name,
     pub kind: KernelKind,

@@ -1,14 +1,14 @@
 use pb_text::{Place, Spot};
 
 /// The upper end of the constant's range.
-#[derive(Clone, Copy, Debug, PartialEq, Eq)]
+#[derive(Clone, Copy, PartialEq, Eq)]
 pub enum High {
     Upto(u32),
     Max,
 }
 
 /// What a label carries: nothing, or 1 to 1,024 numbers of one type.
-#[derive(Clone, Copy, Debug, PartialEq, Eq)]
+#[derive(Clone, Copy, PartialEq, Eq)]
 pub enum Payload {
     Unit,
     Int32(u32),

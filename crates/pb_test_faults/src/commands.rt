@@ -55,7 +55,7 @@ pub const ALL: [Asked; 7] = [
 pub const OF_FILE: [Asked; 3] = [Asked::Verdict, Asked::Layout, Asked::Text];
 
 /// What is answered: the status, and what the sink has taken.
-#[derive(Debug, Drop, PartialEq, Eq)]
+#[derive(Drop, PartialEq, Eq)]
 pub struct Answer {
     pub status: Status,
     pub bytes: Vec<u8>,

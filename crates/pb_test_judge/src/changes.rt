@@ -99,7 +99,7 @@ pub fn next_of(lines: &[&str], place: usize, same: Same) -> Option<usize> {
 }
 
 /// Whose line is looked for.
-#[derive(Clone, Copy, Debug, PartialEq, Eq)]
+#[derive(Clone, Copy, PartialEq, Eq)]
 pub enum Same {
     Rank,
     No,

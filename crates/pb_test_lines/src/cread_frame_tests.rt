@@ -72,7 +72,7 @@ const HEAD: [&[u8]; 61] = [
 ];
 
 /// What is done to one line of a text.
-#[derive(Clone, Copy, Debug)]
+#[derive(Clone, Copy)]
 enum Change {
     Deleted,
     Doubled,
@@ -155,7 +155,7 @@ fn takes(alloc: Global, reader: &mut FrameReader, line: &[u8]) -> Result<bool, N
 }
 
 /// How many lines are taken, and whether statements come next.
-#[derive(Clone, Copy, Debug)]
+#[derive(Clone, Copy)]
 struct Reading {
     taken: usize,
     done: bool,

@@ -226,7 +226,7 @@ fn breakpoints(rt: HostRuntime) -> Result<(), CaseFault> {
 }
 
 /// What the two questions answer.
-#[derive(Clone, Copy, Debug, PartialEq)]
+#[derive(Clone, Copy, PartialEq)]
 struct Answers {
     bad: Option<Bad>,
     meet: Option<Bad>,

@@ -150,7 +150,7 @@ const LINES: [&[u8]; 141] = [
 ];
 
 /// What is done to one line of the text.
-#[derive(Clone, Copy, Debug)]
+#[derive(Clone, Copy)]
 enum Change {
     Nothing,
     Deleted,

@@ -15,7 +15,7 @@ use std::test::Fail;
 pub const ROOM: usize = 65_536;
 
 /// What a simulation answers: its status, and all that it writes.
-#[derive(Debug, Drop)]
+#[derive(Drop)]
 pub struct Told {
     pub status: Status,
     pub log: String,

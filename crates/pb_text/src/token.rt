@@ -1,7 +1,7 @@
 use crate::{Name, Place};
 
 /// A keyword. No keyword is a name.
-#[derive(Clone, Copy, Debug, PartialEq, Eq)]
+#[derive(Clone, Copy, PartialEq, Eq)]
 pub enum Key {
     Const,
     Global,
@@ -48,7 +48,7 @@ pub enum Mark {
 }
 
 /// What a token is.
-#[derive(Clone, Copy, Debug, PartialEq, Eq)]
+#[derive(Clone, Copy, PartialEq, Eq)]
 pub enum TokenKind {
     /// A name: a word that is no keyword.
     Word(Name),
@@ -59,7 +59,7 @@ pub enum TokenKind {
 }
 
 /// A token where it begins.
-#[derive(Clone, Copy, Debug, PartialEq, Eq)]
+#[derive(Clone, Copy, PartialEq, Eq)]
 pub struct Token {
     pub kind: TokenKind,
     pub place: Place,

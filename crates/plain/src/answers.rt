@@ -12,7 +12,7 @@ pub fn word(rank: u64, count: u64) -> u32 {
 }
 
 /// The kernels of one rank: how many words they have made.
-#[derive(Clone, Copy, Debug)]
+#[derive(Clone, Copy)]
 struct Kernels {
     rank: u64,
     count: u64,
@@ -47,7 +47,7 @@ impl Kernels {
 }
 
 /// The answers of the ranks' kernels so far, and how many words each rank's have made.
-#[derive(Debug, Drop)]
+#[derive(Drop)]
 pub struct Table {
     kernels: Vec<Kernels>,
     answers: Vec<Answers>,
@@ -131,7 +131,7 @@ impl Table {
 }
 
 /// How an answer compares with that under which a run was made.
-#[derive(Clone, Copy, Debug, PartialEq, Eq)]
+#[derive(Clone, Copy, PartialEq, Eq)]
 pub enum Likeness {
     Same,
     /// The run goes on as it would, with other words.

@@ -4,7 +4,7 @@ use pb_text::{NoMemory, Place};
 use std::alloc::Global;
 
 /// Where a statement or a block stands.
-#[derive(Clone, Copy, Debug, PartialEq, Eq)]
+#[derive(Clone, Copy, PartialEq, Eq)]
 pub enum Standing {
     /// In no foreach.
     Free,
@@ -13,7 +13,7 @@ pub enum Standing {
 }
 
 /// A statement or a block by its number, with its place.
-#[derive(Clone, Copy, Debug, PartialEq, Eq)]
+#[derive(Clone, Copy, PartialEq, Eq)]
 pub struct Part {
     pub number: u32,
     pub place: Place,
@@ -21,7 +21,7 @@ pub struct Part {
 }
 
 /// The numbers of a foreach, and how many items it has for each of them.
-#[derive(Clone, Copy, Debug, PartialEq, Eq)]
+#[derive(Clone, Copy, PartialEq, Eq)]
 pub struct Rounds {
     pub low: Lin,
     pub high: Lin,
@@ -29,7 +29,7 @@ pub struct Rounds {
 }
 
 /// The statements and the blocks of a protocol, and the numbers of each foreach, each in the order of the file.
-#[derive(Debug, Drop)]
+#[derive(Drop)]
 pub struct Parts {
     pub statements: Vec<Part>,
     pub blocks: Vec<Part>,

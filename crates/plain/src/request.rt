@@ -9,7 +9,7 @@ const MOST_ACTIONS: u32 = 1_000_000;
 const USUAL_ACTIONS: u32 = 20;
 
 /// What the words after the program's name ask for.
-#[derive(Clone, Copy, Debug)]
+#[derive(Clone, Copy)]
 pub struct Request<'a> {
     /// The file of the protocol.
     pub file: &'a str,
