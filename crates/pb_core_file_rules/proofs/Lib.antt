@@ -8,3 +8,8 @@ pub mod KernelRows
 pub mod Mets
 pub mod MetRows
 pub mod RuleOne
+mod Loops
+mod EndingSteps
+mod Growing
+mod Plains
+mod Noting
