@@ -22,13 +22,29 @@ pub fn merge(alloc: Global, tree: &CTree, file: KernelFile) -> Result<Bodies, Ke
     ensures prelude { IfOk result (λ bodies. bodies.prelude ≡ body_of prelude_name file) }
     ensures list { IfOk result (λ bodies. bodies.list.items ≡ bodies_of (functions_of (program_of tree.now.local)) file) }
 {
+    merged(alloc, tree, &file)
+}
+
+fn merged(alloc: Global, tree: &CTree, file: &KernelFile) -> Result<Bodies, KernelFault>
+    ensures fits { MatchResult result (λ _. misfit (functions_of (program_of tree.now.local)) file.now ≡ None) (λ fault. (fault ≡ faults.NoMemory) ⊎ (misfit (functions_of (program_of tree.now.local)) file.now ≡ Some fault)) }
+    ensures prelude { IfOk result (λ bodies. bodies.prelude ≡ body_of prelude_name file.now) }
+    ensures list { IfOk result (λ bodies. bodies.list.items ≡ bodies_of (functions_of (program_of tree.now.local)) file.now) }
+{
     let functions = Functions::of(alloc, functions(alloc, tree)?)?;
-    if let Some(fault) = misfit(&functions, &file) {
-        return Err(fault);
+    match misfit(&functions, file) {
+        Some(fault) => Err(fault),
+        None => Ok(bodies_of(alloc, functions.list(), file)?),
     }
-    let prelude = copy_body(alloc, &file, &PRELUDE)?;
+}
+
+/// The bodies of these functions in this order, and the file's prelude.
+fn bodies_of(alloc: Global, functions: &[KName], file: &KernelFile) -> Result<Bodies, NoMemory>
+    ensures prelude { IfOk result (λ bodies. bodies.prelude ≡ body_of prelude_name file.now) }
+    ensures list { IfOk result (λ bodies. bodies.list.items ≡ bodies_of functions.now file.now) }
+{
+    let prelude = copy_body(alloc, file, &PRELUDE)?;
     let mut list = Vec::new(alloc);
-    push_bodies(alloc, functions.list(), &file, &mut list)?;
+    push_bodies(alloc, functions, file, &mut list)?;
     Ok(Bodies { prelude, list })
 }
 
