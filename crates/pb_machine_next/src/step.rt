@@ -1,5 +1,5 @@
 /// Into block `part` of statement `at`.
-#[derive(Clone, Copy, PartialEq, Eq, Debug)]
+#[derive(Clone, Copy)]
 pub struct Step {
     pub at: usize,
     pub part: usize,
