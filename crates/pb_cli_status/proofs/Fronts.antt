@@ -1,5 +1,5 @@
 -- Known bytes that grow by some bytes and then by more, or by a front of these.
-use Rattle.std.proofs.Common.{ℕ, ◌+◌, ◌<◌, ◌≤◌, List, ◌++◌, length, take, Option, None, Some, Result, Ok, Err, OnErr, sym, ap, subst, ◌∙◌, append_assoc, length-append, arith}
+use Rattle.std.proofs.Common.{ℕ, ◌+◌, ◌<◌, ◌≤◌, List, ◌++◌, length, take, Option, None, Some, Result, Ok, Err, OnOk, OnErr, sym, ap, subst, ◌∙◌, append_assoc, length-append, arith}
 use Rattle.std.proofs.Math.Seq.{take-append-add}
 use Rattle.std.proofs.lemmas.List.{take-append-le}
 use Rattle.std.specs.Io.KnownBytes.{Appends}
@@ -38,3 +38,9 @@ pub front_then : {T E : Type 0} (result : Result T E) (start middle last : Optio
     → Appends start middle xs → OnErr result (AppendsFront middle last ys) → OnErr result (AppendsFront start last (xs ++ ys))
 front_then (Ok v) start middle last xs ys before some = some
 front_then (Err e) start middle last xs ys before some = front_both start middle last xs ys before some
+
+-- where the rest was written
+pub whole_then : {T E : Type 0} (result : Result T E) (start middle last : Option (List ℕ)) (xs ys : List ℕ)
+    → Appends start middle xs → OnOk result (Appends middle last ys) → OnOk result (Appends start last (xs ++ ys))
+whole_then (Ok v) start middle last xs ys before now = appends_both start middle last xs ys before now
+whole_then (Err e) start middle last xs ys before now = now

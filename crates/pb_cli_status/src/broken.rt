@@ -12,7 +12,7 @@ use pb_text::{Name, Place};
 /// Appends the status line of a broken rule: the rule, its place, and N and a rank where they are told. Takes no memory.
 ///
 /// `WriteFault` comes only where the sink's count of faults rose in this call; then some first bytes were appended.
-#[tactic(auto, using(crate::proofs::Fronts::appends_both, crate::proofs::Fronts::front_first, crate::proofs::Fronts::front_then))]
+#[tactic(auto, using(crate::proofs::Fronts::front_first))]
 pub fn write_broken<O: Sink>(
     out: &mut O,
     rule: u8,
@@ -30,7 +30,6 @@ pub fn write_broken<O: Sink>(
 }
 
 /// Appends the rule and its place.
-#[tactic(auto, unfolding(crate::specs::Lines::rule_words))]
 fn write_rule<O: Sink>(out: &mut O, rule: u8, place: Place) -> Result<(), OutFault>
     ensures whole { OnOk result (Appends (O.taken out.old) (O.taken out.new) (rule_words rule place)) }
     ensures front { OnErr result (AppendsFront (O.taken out.old) (O.taken out.new) (rule_words rule place)) }
@@ -47,7 +46,7 @@ fn write_rule<O: Sink>(out: &mut O, rule: u8, place: Place) -> Result<(), OutFau
 }
 
 /// Appends what is told of N and a rank, and ends the line.
-#[tactic(auto, using(crate::proofs::Fronts::appends_both, crate::proofs::Fronts::front_first, crate::proofs::Fronts::front_then))]
+#[tactic(auto, using(crate::proofs::Fronts::front_first))]
 fn write_told<O: Sink>(
     out: &mut O,
     n: Option<i64>,

@@ -4,7 +4,7 @@ ghost use Rattle.std.specs.Prelude.{◌≡◌};
 ghost use Rattle.pb_cli_status.specs.Lines.{call_words};
 
 /// What is wrong with a subprotocol, or with a call of one.
-#[derive(Clone, Copy, Debug, PartialEq, Eq)]
+#[derive(Clone, Copy, Debug)]
 pub enum CallWrong {
     /// A subprotocol has the name of an earlier one, or a parameter that of an earlier one beside it.
     Twice,

@@ -11,7 +11,7 @@ use pb_io::{OutFault, Sink};
 use pb_text::Name;
 
 /// What a body of a kernel file is for.
-#[derive(Clone, Copy, Debug, PartialEq, Eq)]
+#[derive(Clone, Copy, Debug)]
 pub enum KernelKind {
     /// What stands before the functions. It has no name.
     Prelude,
@@ -26,7 +26,7 @@ pub enum KernelKind {
 }
 
 /// What is wrong with a body of a kernel file.
-#[derive(Clone, Copy, Debug, PartialEq, Eq)]
+#[derive(Clone, Copy, Debug)]
 pub enum KernelWrong {
     /// It is the second one with its name.
     Twice,

@@ -4,7 +4,7 @@ ghost use Rattle.std.specs.Prelude.{◌≡◌};
 ghost use Rattle.pb_cli_status.specs.Lines.{strip_words};
 
 /// What is wrong with a strip, with an end of one, or with a name beside one.
-#[derive(Clone, Copy, Debug, PartialEq, Eq)]
+#[derive(Clone, Copy, Debug)]
 pub enum StripWrong {
     /// The columns of a strip don't ascend, or go beyond 63.
     Width,

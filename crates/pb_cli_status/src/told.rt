@@ -80,7 +80,7 @@ fn write_low<O: Sink>(out: &mut O, n: u32, low: u32) -> Result<(), OutFault>
 }
 
 /// Appends the line of an N outside a range.
-#[tactic(auto, using(crate::proofs::Fronts::appends_both, crate::proofs::Fronts::front_first, crate::proofs::Fronts::front_then))]
+#[tactic(auto, using(crate::proofs::Fronts::front_first))]
 pub fn write_outside<O: Sink>(out: &mut O, n: u32, range: NRange) -> Result<(), OutFault>
     ensures whole { OnOk result (Appends (O.taken out.old) (O.taken out.new) (outside_line n range)) }
     ensures front { OnErr result (AppendsFront (O.taken out.old) (O.taken out.new) (outside_line n range)) }

@@ -8,7 +8,7 @@ use pb_text::NoMemory;
 use thiserror::Error;
 
 /// Why OUT isn't renewed.
-#[derive(Clone, Copy, Debug, PartialEq, Eq, Error)]
+#[derive(Clone, Copy, Debug, Error)]
 pub enum Fault {
     /// The words are in no form.
     #[error("Usage")]
