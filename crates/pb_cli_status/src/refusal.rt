@@ -15,28 +15,35 @@ use itoa::Buffer;
 use pb_affine::NRange;
 use pb_io::{OutFault, Sink, write_all};
 use pb_text::{Name, Place, Quantity};
-use std::error::Error;
-use std::fmt;
+use thiserror::Error;
 
 /// Why nothing but a status line is written.
-#[derive(Clone, Copy, Debug)]
+#[derive(Clone, Copy, Debug, Error)]
 pub enum Refusal {
     /// The words are in no form.
+    #[error("Usage")]
     Usage,
     /// A file can't be read.
+    #[error("ReadFault")]
     ReadFault,
     /// A file has too many bytes.
+    #[error("FileBytes")]
     FileBytes,
     /// Memory ran out.
+    #[error("NoMemory")]
     NoMemory,
     /// The bytes are no text of the grammar.
+    #[error("Syntax")]
     Syntax(Place),
     /// A quantity of the protocol passes its limit.
+    #[error("Limit")]
     Limit(Quantity, Place),
     /// The protocol has more than 4,096 breakpoints.
+    #[error("Breakpoints")]
     Breakpoints,
     /// The protocol breaks this rule, first at this place; with the least N and the least rank where the rule speaks of
     /// such, as the name of its role and its index.
+    #[error("Broken")]
     Broken {
         rule: u8,
         place: Place,
@@ -45,92 +52,70 @@ pub enum Refusal {
     },
     /// This line of a kernel file is a marker of another form, opens a body inside one, closes one outside, or opens one that
     /// is never closed.
+    #[error("KernelMarker")]
     KernelMarker(u32),
     /// This body of a kernel file is wrong. The prelude has no name.
+    #[error("Kernel")]
     Kernel {
         kind: KernelKind,
         name: Option<Name>,
         wrong: KernelWrong,
     },
     /// The bytes are no C text of the program's, first at this place.
+    #[error("Text")]
     Text(Place),
     /// This line of a schedule is malformed, or names a rank that has no step.
+    #[error("Schedule")]
     Schedule(u32),
     /// A schedule has more than 1,000,000 events.
+    #[error("Events")]
     Events,
     /// N is outside the text's range.
+    #[error("OutOfRange")]
     OutOfRange {
         n: u32,
         range: NRange,
     },
     /// There would be more than 1,024 ranks.
+    #[error("Ranks")]
     Ranks,
     /// More than 16,777,216 words would be in flight.
+    #[error("WordsInFlight")]
     WordsInFlight,
     /// So many events were made, and some rank has a step.
+    #[error("Turns")]
     Turns(u32),
     /// A count of what the protocol sends has more than 4,096 pieces.
+    #[error("Pieces")]
     Pieces,
     /// A subprotocol, or a call of one, is wrong, first at this place.
+    #[error("Call")]
     Call(CallWrong, Place),
     /// A strip, an end, or a name beside a strip is wrong, first at this place.
+    #[error("Strip")]
     Strip(StripWrong, Place),
     /// The protocol has a loop, first at this place.
+    #[error("CostLoop")]
     CostLoop(Place),
     /// The protocol has another action for this rank in the place of that in this line of a log.
+    #[error("LogDiffers")]
     LogDiffers {
         line: u32,
         rank: u32,
     },
     /// This rank does more than the protocol has for it, from this line of a log on.
+    #[error("LogBeyond")]
     LogBeyond {
         line: u32,
         rank: u32,
     },
     /// This line of a log is malformed.
+    #[error("LogMalformed")]
     LogMalformed(u32),
 }
 
-impl fmt::Display for Refusal {
-    fn fmt<W: fmt::Write>(&self, f: &mut fmt::Formatter<W>) -> fmt::Result {
-        f.write_str(self.name())
-    }
-}
-
-impl Error for Refusal {}
-
 impl Refusal {
     ghost use Rattle.pb_cli_status.specs.Lines.{line_of, status_of};
-
-    /// The name of the variant.
-    fn name(&self) -> &'static str {
-        match self {
-            Refusal::Usage => "Usage",
-            Refusal::ReadFault => "ReadFault",
-            Refusal::FileBytes => "FileBytes",
-            Refusal::NoMemory => "NoMemory",
-            Refusal::Syntax(_) => "Syntax",
-            Refusal::Limit(_, _) => "Limit",
-            Refusal::Breakpoints => "Breakpoints",
-            Refusal::Broken { .. } => "Broken",
-            Refusal::KernelMarker(_) => "KernelMarker",
-            Refusal::Kernel { .. } => "Kernel",
-            Refusal::Text(_) => "Text",
-            Refusal::Schedule(_) => "Schedule",
-            Refusal::Events => "Events",
-            Refusal::OutOfRange { .. } => "OutOfRange",
-            Refusal::Ranks => "Ranks",
-            Refusal::WordsInFlight => "WordsInFlight",
-            Refusal::Turns(_) => "Turns",
-            Refusal::Pieces => "Pieces",
-            Refusal::Call(_, _) => "Call",
-            Refusal::Strip(_, _) => "Strip",
-            Refusal::CostLoop(_) => "CostLoop",
-            Refusal::LogDiffers { .. } => "LogDiffers",
-            Refusal::LogBeyond { .. } => "LogBeyond",
-            Refusal::LogMalformed(_) => "LogMalformed",
-        }
-    }
 
     /// The status that the program ends with. Takes no memory.
     pub fn status(&self) -> Status

@@ -1,7 +1,7 @@
 use pb_ctree::{Guards, Lin, Op, Peer};
 
 /// Which of a label's two arrays is meant.
-#[derive(Clone, Copy, PartialEq, Eq)]
+#[derive(Clone, Copy)]
 pub enum Side {
     /// The one that is sent from.
     Outgoing,
