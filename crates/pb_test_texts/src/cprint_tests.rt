@@ -70,11 +70,15 @@ fn sample_tree(alloc: Global) -> Result<CTree, NoMemory>
     emit(alloc, &local)
 }
 
+fn sample_text(alloc: Global) -> Result<Vec<u8>, NoMemory> {
+    let tree = sample_tree(alloc)?;
+    let bodies = default_bodies(alloc, &tree)?;
+    print_c(alloc, &tree, &bodies)
+}
+
 #[test]
 fn prints_a_barrier(rt: HostRuntime) -> Result<(), Fail> {
-    let tree = sample_tree(rt.alloc())?;
-    let bodies = default_bodies(rt.alloc(), &tree)?;
-    let text = print_c(rt.alloc(), &tree, &bodies)?;
+    let text = sample_text(rt.alloc())?;
     assert!(rt; text.len() == 741);
     assert!(rt; text.starts_with(b"/* pabble 1 */\n/* protocol P */\n"));
     assert!(rt; text.ends_with(b"  MPI_Finalize();\n  return 0;\n}\n"));

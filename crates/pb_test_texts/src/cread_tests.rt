@@ -1,4 +1,4 @@
-use pb_cprint::print_c;
+use pb_cprint::{NoMemory, print_c};
 use pb_cread::{CText, Place, TextFault, read_c};
 use std::alloc::Global;
 use std::test::Fail;
@@ -113,7 +113,7 @@ const LAST: &[u8] = b"  MPI_Finalize();
 }
 ";
 
-fn joined(alloc: Global, middle: &[u8]) -> Result<Vec<u8>, Fail> {
+fn joined(alloc: Global, middle: &[u8]) -> Result<Vec<u8>, NoMemory> {
     let mut text = Vec::new(alloc);
     text.extend_from_slice(FIRST)?;
     text.extend_from_slice(middle)?;
@@ -122,7 +122,7 @@ fn joined(alloc: Global, middle: &[u8]) -> Result<Vec<u8>, Fail> {
 }
 
 // What is said of the text with these lines as its statements. The first of them is line 74.
-fn fault_in(alloc: Global, middle: &[u8]) -> Result<Option<TextFault>, Fail> {
+fn fault_in(alloc: Global, middle: &[u8]) -> Result<Option<TextFault>, NoMemory> {
     let text = joined(alloc, middle)?;
     Ok(read_c(alloc, &text).err())
 }
@@ -136,7 +136,7 @@ fn unexpected(line: u32) -> Option<TextFault> {
 }
 
 // Whether the text is read, and printed as it was.
-fn is_read(alloc: Global, text: &[u8]) -> Result<bool, Fail> {
+fn is_read(alloc: Global, text: &[u8]) -> Result<bool, NoMemory> {
     let Ok(CText { tree, bodies }) = read_c(alloc, text) else {
         return Ok(false);
     };
@@ -146,40 +146,46 @@ fn is_read(alloc: Global, text: &[u8]) -> Result<bool, Fail> {
 
 #[test]
 fn reads_statements_of_every_kind(rt: HostRuntime) -> Result<(), Fail> {
-    let text = joined(rt.alloc(), STATEMENTS)?;
-    assert!(rt; is_read(rt.alloc(), &text)?);
-    let nothing = joined(rt.alloc(), b"")?;
-    assert!(rt; is_read(rt.alloc(), &nothing)?);
+    for middle in [STATEMENTS, b""] {
+        let text = joined(rt.alloc(), middle)?;
+        assert!(rt; is_read(rt.alloc(), &text)?);
+    }
     Ok(())
+}
+
+// Whether each of the text's beginnings is refused.
+fn is_refused_early(alloc: Global, text: &[u8]) -> bool {
+    (0..text.len()).all(|end| read_c(alloc, &text[..end]).is_err())
 }
 
 #[test]
 fn refuses_a_text_that_ends_too_early(rt: HostRuntime) -> Result<(), Fail> {
-    let text = joined(rt.alloc(), b"")?;
+    let mut text = joined(rt.alloc(), b"")?;
     assert!(rt; read_c(rt.alloc(), b"").err() == unexpected(1));
-    for end in 0..text.len() {
-        assert!(rt; read_c(rt.alloc(), &text[..end]).is_err());
-    }
-    let mut longer = text;
-    longer.push(b'\n')?;
-    assert!(rt; read_c(rt.alloc(), &longer).err() == unexpected(77));
+    assert!(rt; is_refused_early(rt.alloc(), &text));
+    text.push(b'\n')?;
+    assert!(rt; read_c(rt.alloc(), &text).err() == unexpected(77));
     Ok(())
 }
 
 #[test]
 fn names_the_first_line_that_does_not_go_on(rt: HostRuntime) -> Result<(), Fail> {
-    let alloc = rt.alloc();
-    assert!(rt; fault_in(alloc, b"  MPI_Barrier(MPI_COMM_WORLD); \n")? == unexpected(74));
-    assert!(rt; fault_in(alloc, b"   MPI_Barrier(MPI_COMM_WORLD);\n")? == unexpected(74));
-    assert!(rt; fault_in(alloc, b"  goto L0;\n")? == unexpected(74));
-    assert!(rt; fault_in(alloc, b"  MPI_Finalize();\n")? == unexpected(75));
-    assert!(rt; fault_in(alloc, b"  if (R == 0) {\n")? == unexpected(75));
-    assert!(rt; fault_in(alloc, b"  if (R == 0) {\n  }\n  }\n")? == unexpected(76));
-    assert!(rt; fault_in(alloc, b"  if (R == 2) {\n  }\n")? == unexpected(74));
+    for (line, middle) in [
+        (74, "  MPI_Barrier(MPI_COMM_WORLD); \n"),
+        (74, "   MPI_Barrier(MPI_COMM_WORLD);\n"),
+        (74, "  goto L0;\n"),
+        (75, "  MPI_Finalize();\n"),
+        (75, "  if (R == 0) {\n"),
+        (76, "  if (R == 0) {\n  }\n  }\n"),
+        (74, "  if (R == 2) {\n  }\n"),
+    ] {
+        let fault = fault_in(rt.alloc(), middle.as_bytes())?;
+        assert!(rt; fault == unexpected(line), "{middle}");
+    }
     Ok(())
 }
 
-fn push_indent(out: &mut Vec<u8>, depth: usize) -> Result<(), Fail> {
+fn push_indent(out: &mut Vec<u8>, depth: usize) -> Result<(), NoMemory> {
     for _ in 0..depth {
         out.extend_from_slice(b"  ")?;
     }
@@ -187,7 +193,7 @@ fn push_indent(out: &mut Vec<u8>, depth: usize) -> Result<(), Fail> {
 }
 
 // That many statements, each within the one before.
-fn nested(alloc: Global, depth: usize) -> Result<Vec<u8>, Fail> {
+fn nested(alloc: Global, depth: usize) -> Result<Vec<u8>, NoMemory> {
     let mut out = Vec::new(alloc);
     for at in 0..depth {
         push_indent(&mut out, at)?;
@@ -202,15 +208,14 @@ fn nested(alloc: Global, depth: usize) -> Result<Vec<u8>, Fail> {
 
 #[test]
 fn counts_open_braces(rt: HostRuntime) -> Result<(), Fail> {
-    let alloc = rt.alloc();
-    let most = nested(alloc, 255)?;
-    assert!(rt; fault_in(alloc, &most)? == None);
-    let more = nested(alloc, 256)?;
-    assert!(rt; fault_in(alloc, &more)? == Some(TextFault::TooDeep(at_line(329))));
+    for (depth, fault) in [(255, None), (256, Some(TextFault::TooDeep(at_line(329))))] {
+        let middle = nested(rt.alloc(), depth)?;
+        assert!(rt; fault_in(rt.alloc(), &middle)? == fault);
+    }
     Ok(())
 }
 
-fn barriers(alloc: Global, count: usize) -> Result<Vec<u8>, Fail> {
+fn barriers(alloc: Global, count: usize) -> Result<Vec<u8>, NoMemory> {
     let mut out = Vec::new(alloc);
     for _ in 0..count {
         out.extend_from_slice(b"  MPI_Barrier(MPI_COMM_WORLD);\n")?;
@@ -220,10 +225,12 @@ fn barriers(alloc: Global, count: usize) -> Result<Vec<u8>, Fail> {
 
 #[test]
 fn counts_statements(rt: HostRuntime) -> Result<(), Fail> {
-    let alloc = rt.alloc();
-    let most = barriers(alloc, 50_000)?;
-    assert!(rt; fault_in(alloc, &most)? == None);
-    let more = barriers(alloc, 50_001)?;
-    assert!(rt; fault_in(alloc, &more)? == Some(TextFault::TooMany(at_line(50_074))));
+    for (count, fault) in [
+        (50_000, None),
+        (50_001, Some(TextFault::TooMany(at_line(50_074)))),
+    ] {
+        let middle = barriers(rt.alloc(), count)?;
+        assert!(rt; fault_in(rt.alloc(), &middle)? == fault);
+    }
     Ok(())
 }

@@ -71,34 +71,60 @@ fn one_kernel(alloc: Global) -> Result<CTree, NoMemory> {
     with_tables(alloc, Vec::new(alloc), kernels)
 }
 
-/// The fault of reading a file.
-fn fault(alloc: Global, text: &str) -> Option<KernelFault> {
-    read_kernels(alloc, text.as_bytes()).err()
+/// No fault, or that the marker of this line is none.
+fn marker_at(line: u32) -> Option<KernelFault> {
+    match line {
+        0 => None,
+        _ => Some(KernelFault::BadMarker(line)),
+    }
 }
 
-/// The fault of reading a file, or of putting its bodies into a tree.
-fn misfit(alloc: Global, tree: &CTree, text: &str) -> Option<KernelFault> {
+/// Whether this alone is said of a file.
+fn is_told(alloc: Global, text: &str, fault: Option<KernelFault>) -> bool {
+    read_kernels(alloc, text.as_bytes()).err() == fault
+}
+
+/// What is said of a file, or of putting its bodies into a tree.
+fn misfit(alloc: Global, tree: CTree, text: &str) -> Option<KernelFault> {
     match read_kernels(alloc, text.as_bytes()) {
-        Ok(file) => merge(alloc, tree, file).err(),
+        Ok(file) => merge(alloc, &tree, file).err(),
         Err(fault) => Some(fault),
     }
+}
+
+/// Whether a tree with a label and two kernels lacks a body of this name in the file.
+fn is_missing(alloc: Global, text: &str, kind: Kind, word: &str) -> Result<bool, NoMemory> {
+    let missing = KernelFault::Missing(named(kind, word.as_bytes())?);
+    Ok(misfit(alloc, tree(alloc)?, text) == Some(missing))
+}
+
+/// Whether this is said of the file with a tree of one kernel.
+fn is_said(alloc: Global, text: &str, fault: KernelFault) -> Result<bool, NoMemory> {
+    Ok(misfit(alloc, one_kernel(alloc)?, text) == Some(fault))
+}
+
+/// The bodies that stand in a tree's text, each with a bar behind it, and the prelude before them.
+fn bodies_of(alloc: Global, tree: CTree, text: &str) -> Result<Vec<u8>, KernelFault> {
+    let file = read_kernels(alloc, text.as_bytes())?;
+    let bodies = merge(alloc, &tree, file)?;
+    let mut all = Vec::from_slice(alloc, bodies.prelude.bytes())?;
+    all.push(b'|')?;
+    for body in &bodies.list {
+        all.extend_from_slice(body.bytes())?;
+        all.push(b'|')?;
+    }
+    Ok(all)
 }
 
 #[test]
 fn a_body_stands_byte_for_byte(rt: HostRuntime) -> Result<(), Fail> {
     for text in [
-        "/*@ kernel k_K */\n  if (N > 2) { puts(\"}\"); }\n/*@ end */\n",
+        KERNEL,
         // Lines outside bodies are passed over; a marker may have blanks behind it, and the last line no line feed.
         "x\n/*@ kernel k_K */ \t\r\n  if (N > 2) { puts(\"}\"); }\n/*@ end */",
     ] {
-        let tree = one_kernel(rt.alloc())?;
-        let file = read_kernels(rt.alloc(), text.as_bytes())?;
-        let bodies = merge(rt.alloc(), &tree, file)?;
-        assert!(rt; bodies.prelude.bytes().len() == 0);
-        assert!(rt; bodies.list.len() == 1);
-        for body in &bodies.list {
-            assert!(rt; body.bytes() == b"  if (N > 2) { puts(\"}\"); }\n".as_slice());
-        }
+        let all = bodies_of(rt.alloc(), one_kernel(rt.alloc())?, text)?;
+        assert!(rt; all.as_slice() == b"|  if (N > 2) { puts(\"}\"); }\n|".as_slice());
     }
     Ok(())
 }
@@ -107,91 +133,57 @@ fn a_body_stands_byte_for_byte(rt: HostRuntime) -> Result<(), Fail> {
 fn bodies_stand_in_printed_order(rt: HostRuntime) -> Result<(), Fail> {
     let text = "/*@ kernel c_C */\nc\n/*@ end */\n/*@ kernel take_A */\nt /*@ end */\n/*@ end */\n\
         /*@ prelude */\np\n/*@ end */\n/*@ kernel k_K */\n/*@ end */\n/*@ kernel make_A */\n\nm\n/*@ end */\n";
-    let tree = tree(rt.alloc())?;
-    let file = read_kernels(rt.alloc(), text.as_bytes())?;
-    assert!(rt; file.len() == 5);
-    let bodies = merge(rt.alloc(), &tree, file)?;
-    assert!(rt; bodies.prelude.bytes() == b"p\n".as_slice());
-    let mut all = Vec::new(rt.alloc());
-    for body in &bodies.list {
-        all.extend_from_slice(body.bytes())?;
-        all.push(b'|')?;
-    }
-    assert!(rt; all.as_slice() == b"\nm\n|t /*@ end */\n||c\n|".as_slice());
+    assert!(rt; read_kernels(rt.alloc(), text.as_bytes())?.len() == 5);
+    let all = bodies_of(rt.alloc(), tree(rt.alloc())?, text)?;
+    assert!(rt; all.as_slice() == b"p\n|\nm\n|t /*@ end */\n||c\n|".as_slice());
     Ok(())
 }
 
 #[test]
-fn the_first_line_at_fault_is_named(rt: HostRuntime) -> Result<(), Fail> {
-    let k = named(Kind::Compute, b"K")?;
-    let long = format!(in rt.alloc();
-        "/*@ kernel k_{}a */\n/*@ end */\n",
-        "abcdefgh".repeat(rt.alloc(), 8)?
-    )?;
-    for (text, expected) in [
-        ("", None),
-        (KERNEL, None),
-        ("/*@ kernel k_end */\n/*@ end */\n", None),
-        (
-            "/*@ kernel k_K */\n/*@ end */\n/*@ kernel k_K */\n/*@ end */\n",
-            Some(KernelFault::Twice(k)),
-        ),
+fn the_first_line_at_fault_is_named(rt: HostRuntime) {
+    for (line, text) in [
+        (0, ""),
+        (0, KERNEL),
+        (0, "/*@ kernel k_end */\n/*@ end */\n"),
         // A body that is never closed comes after all others.
-        ("/*@ kernel k_K */\nx\n", Some(KernelFault::BadMarker(1))),
-        ("\n/*@ kernel k_K */", Some(KernelFault::BadMarker(2))),
+        (1, "/*@ kernel k_K */\nx\n"),
+        (2, "\n/*@ kernel k_K */"),
+        (3, "/*@ kernel k_K */\nx\n/*@ kernel"),
+        (3, "/*@ kernel k_K */\nx\n/*@ kernel k_L */\n/*@ end */\n"),
+        (1, "/*@ end */\n"),
+        (1, "/*@end */\n"),
+        (1, "/*@ kernel K */\n/*@ end */\n"),
+        (1, "/*@ kernel k_ */\n/*@ end */\n"),
+        (1, "/*@ kernel k_K */ x\n/*@ end */\n"),
+        // A name of 65 bytes.
         (
-            "/*@ kernel k_K */\nx\n/*@ kernel",
-            Some(KernelFault::BadMarker(3)),
+            1,
+            "/*@ kernel k_abcdefghabcdefghabcdefghabcdefghabcdefghabcdefghabcdefghabcdefgha */\n/*@ end */\n",
         ),
-        (
-            "/*@ kernel k_K */\nx\n/*@ kernel k_L */\n/*@ end */\n",
-            Some(KernelFault::BadMarker(3)),
-        ),
-        ("/*@ end */\n", Some(KernelFault::BadMarker(1))),
-        ("/*@end */\n", Some(KernelFault::BadMarker(1))),
-        (
-            "/*@ kernel K */\n/*@ end */\n",
-            Some(KernelFault::BadMarker(1)),
-        ),
-        (
-            "/*@ kernel k_ */\n/*@ end */\n",
-            Some(KernelFault::BadMarker(1)),
-        ),
-        (
-            "/*@ kernel k_K */ x\n/*@ end */\n",
-            Some(KernelFault::BadMarker(1)),
-        ),
-        (long.as_str(), Some(KernelFault::BadMarker(1))),
     ] {
-        assert!(rt; fault(rt.alloc(), text) == expected, "{text}");
+        assert!(rt; is_told(rt.alloc(), text, marker_at(line)), "{text}");
     }
+}
+
+#[test]
+fn a_body_stands_once(rt: HostRuntime) -> Result<(), Fail> {
+    let twice = "/*@ kernel k_K */\n/*@ end */\n/*@ kernel k_K */\n/*@ end */\n";
+    let fault = KernelFault::Twice(named(Kind::Compute, b"K")?);
+    assert!(rt; is_told(rt.alloc(), twice, Some(fault)));
     Ok(())
 }
 
 #[test]
 fn what_is_missing_comes_before_what_is_extra(rt: HostRuntime) -> Result<(), Fail> {
-    let all = tree(rt.alloc())?;
-    let one = one_kernel(rt.alloc())?;
-    for (tree, text, expected) in [
-        (&all, KERNEL, KernelFault::Missing(named(Kind::Make, b"A")?)),
-        (
-            &all,
-            "/*@ kernel make_A */\n/*@ end */\n",
-            KernelFault::Missing(named(Kind::Take, b"A")?),
-        ),
-        (&one, "", KernelFault::Missing(named(Kind::Compute, b"K")?)),
-        (
-            &one,
-            "/*@ kernel c_K */\n/*@ end */\n",
-            KernelFault::Missing(named(Kind::Compute, b"K")?),
-        ),
-        (
-            &one,
-            "/*@ kernel k_L */\n/*@ end */\n/*@ kernel k_K */\n/*@ end */\n/*@ kernel c_K */\n/*@ end */\n",
-            KernelFault::Extra(named(Kind::Compute, b"L")?),
-        ),
-    ] {
-        assert!(rt; misfit(rt.alloc(), tree, text) == Some(expected), "{text}");
-    }
+    let make_a = "/*@ kernel make_A */\n/*@ end */\n";
+    assert!(rt; is_missing(rt.alloc(), KERNEL, Kind::Make, "A")?);
+    assert!(rt; is_missing(rt.alloc(), make_a, Kind::Take, "A")?);
+    let missing = KernelFault::Missing(named(Kind::Compute, b"K")?);
+    assert!(rt; is_said(rt.alloc(), "", missing)?);
+    assert!(rt; is_said(rt.alloc(), "/*@ kernel c_K */\n/*@ end */\n", missing)?);
+    let extra = KernelFault::Extra(named(Kind::Compute, b"L")?);
+    let text =
+        "/*@ kernel k_L */\n/*@ end */\n/*@ kernel k_K */\n/*@ end */\n/*@ kernel c_K */\n/*@ end */\n";
+    assert!(rt; is_said(rt.alloc(), text, extra)?);
     Ok(())
 }
