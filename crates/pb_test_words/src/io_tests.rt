@@ -19,6 +19,32 @@ fn files(alloc: Global) -> Result<Vec<MemFile>, AllocError> {
     Ok(files)
 }
 
+/// Whether just these bytes are read.
+fn is_read<F: Folder>(
+    alloc: Global,
+    folder: &mut F,
+    name: &str,
+    limit: u32,
+    expected: &[u8],
+) -> bool {
+    match read_all(alloc, folder, name, limit) {
+        Ok(bytes) => bytes.as_slice() == expected,
+        Err(_) => false,
+    }
+}
+
+/// How many bytes are read, where this call fails.
+fn length_read(
+    alloc: Global,
+    name: &str,
+    limit: u32,
+    fails: u64,
+) -> Result<Result<usize, InFault>, AllocError> {
+    let fails = [fails].to_vec(alloc)?;
+    let mut folder = MemFolder::new(files(alloc)?, fails);
+    Ok(read_all(alloc, &mut folder, name, limit).map(|bytes| bytes.len()))
+}
+
 #[test]
 fn reads_whole_files(rt: HostRuntime) -> Result<(), Fail> {
     // The name, the limit, the call that fails, and how many bytes come.
@@ -33,12 +59,28 @@ fn reads_whole_files(rt: HostRuntime) -> Result<(), Fail> {
         ("p", 10, 2, Err(InFault::ReadFault)),
         ("p", 10, 3, Ok(10)),
     ] {
-        let fails = [fails].to_vec(rt.alloc())?;
-        let mut folder = MemFolder::new(files(rt.alloc())?, fails);
-        let read = read_all(rt.alloc(), &mut folder, name, limit);
-        assert!(rt; read.map(|bytes| bytes.len()) == expected, "{name} {limit}");
+        let length = length_read(rt.alloc(), name, limit, fails)?;
+        assert!(rt; length == expected, "{name} {limit}");
     }
     Ok(())
+}
+
+/// Whether so many of twelve bytes are taken, and it is said whether these are all.
+fn is_taken(
+    alloc: Global,
+    room: usize,
+    most: usize,
+    fails: u64,
+    expected: usize,
+) -> Result<bool, NoMemory> {
+    if most == 0 {
+        return Ok(false);
+    }
+    let fails = [fails].to_vec(alloc)?;
+    let mut sink = MemSink::new(alloc, room, most, fails)?;
+    let written = write_all(&mut sink, b"Hello, pipe!").is_ok();
+    let taken = sink.taken();
+    Ok(written == (expected == 12) && taken.len() == expected && b"Hello, pipe!".starts_with(taken))
 }
 
 #[test]
@@ -56,13 +98,10 @@ fn writes_what_fits(rt: HostRuntime) -> Result<(), Fail> {
         (12, 5, 2, 10),
         (12, 1, 11, 11),
     ] {
-        assert!(rt; 1 <= most);
-        let fails = [fails].to_vec(rt.alloc())?;
-        let mut sink = MemSink::new(rt.alloc(), room, most, fails)?;
-        let written = write_all(&mut sink, b"Hello, pipe!");
-        assert!(rt; written.is_ok() == (expected == 12), "{room} {most}");
-        assert!(rt; sink.taken().len() == expected, "{room} {most}");
-        assert!(rt; b"Hello, pipe!".starts_with(sink.taken()), "{room} {most}");
+        assert!(rt;
+            is_taken(rt.alloc(), room, most, fails, expected)?,
+            "{room} {most}"
+        );
     }
     Ok(())
 }
@@ -70,16 +109,32 @@ fn writes_what_fits(rt: HostRuntime) -> Result<(), Fail> {
 #[test]
 fn sure_ones_never_fail(rt: HostRuntime) -> Result<(), Fail> {
     let mut folder = SureFolder::new(files(rt.alloc())?);
-    let whole = read_all(rt.alloc(), &mut folder, "p", 10)?;
-    assert!(rt; whole.as_slice() == b"0123456789".as_slice());
-    let missing = read_all(rt.alloc(), &mut folder, "q", 10)?;
-    assert!(rt; missing.len() == 0);
+    assert!(rt; is_read(rt.alloc(), &mut folder, "p", 10, b"0123456789"));
+    assert!(rt; is_read(rt.alloc(), &mut folder, "q", 10, b""));
 
     let mut sink = SureSink::new();
     write_all(&mut sink, b"four")?;
     write_all(&mut sink, b"")?;
     assert!(rt; sink.count() == 4);
     Ok(())
+}
+
+fn is_refused<F: Folder>(
+    alloc: Global,
+    folder: &mut F,
+    name: &str,
+    limit: u32,
+    fault: InFault,
+) -> bool {
+    read_all(alloc, folder, name, limit).map(|bytes| bytes.len()) == Err(fault)
+}
+
+/// Whether the first is left open behind some of its bytes, the second comes in its place, and both are read whole.
+fn are_read<F: Folder>(alloc: Global, folder: &mut F, first: &str, second: &str) -> bool {
+    let cut = is_refused(alloc, folder, first, 3, InFault::TooLong);
+    let other = is_read(alloc, folder, second, 8, b"and this");
+    let whole = is_read(alloc, folder, first, 7, b"on disk");
+    cut && other && whole
 }
 
 #[test]
@@ -90,17 +145,19 @@ fn host_folder_reads_files(rt: HostRuntime) -> Result<(), Fail> {
     fs::write(&rt, first.as_str(), b"on disk")?;
     fs::write(&rt, second.as_str(), b"and this")?;
     let mut folder = HostFolder::new(&rt);
-    // The first is left open behind some of its bytes, and the second comes in its place.
-    let cut = read_all(rt.alloc(), &mut folder, first.as_str(), 3);
-    let other = read_all(rt.alloc(), &mut folder, second.as_str(), 8);
-    let whole = read_all(rt.alloc(), &mut folder, first.as_str(), 7);
+    let read = are_read(rt.alloc(), &mut folder, first.as_str(), second.as_str());
     fs::remove_file(&rt, first.as_str())?;
     fs::remove_file(&rt, second.as_str())?;
-    assert!(rt; cut.map(|bytes| bytes.len()) == Err(InFault::TooLong));
-    assert!(rt; other?.as_slice() == b"and this".as_slice());
-    assert!(rt; whole?.as_slice() == b"on disk".as_slice());
-    let gone = read_all(rt.alloc(), &mut folder, first.as_str(), 7);
-    assert!(rt; gone.map(|bytes| bytes.len()) == Err(InFault::ReadFault));
+    assert!(rt; read);
+    assert!(rt;
+        is_refused(
+            rt.alloc(),
+            &mut folder,
+            first.as_str(),
+            7,
+            InFault::ReadFault
+        )
+    );
     Ok(())
 }
 

@@ -1,4 +1,5 @@
-use pb_text::{Key, Name, Names, Words, push_decimal, push_number};
+use pb_text::{Key, Name, Names, NoMemory, Words, push_decimal, push_number};
+use std::alloc::Global;
 use std::test::Fail;
 
 #[test]
@@ -14,16 +15,23 @@ fn a_name_has_1_to_64_bytes(rt: HostRuntime) -> Result<(), Fail> {
     Ok(())
 }
 
+/// Whether a table gives the first name 0, and finds it, and no other one.
+fn is_numbered(alloc: Global, master: Name, worker: Name) -> Result<bool, NoMemory> {
+    let mut names = Names::new(alloc);
+    let first = names.intern(master)?;
+    Ok(
+        first == 0
+            && names.name(first) == master
+            && names.find(&worker) == None
+            && names.find(&master) == Some(0),
+    )
+}
+
 #[test]
 fn names_are_numbered_as_they_come(rt: HostRuntime) -> Result<(), Fail> {
-    let mut names = Names::new(rt.alloc());
     let master = Name::of(b"Master").ok_or("Master")?;
     let worker = Name::of(b"Worker").ok_or("Worker")?;
-    let first = names.intern(master)?;
-    assert!(rt; first == 0);
-    assert!(rt; names.name(first) == master);
-    assert!(rt; names.find(&worker) == None);
-    assert!(rt; names.find(&master) == Some(0));
+    assert!(rt; is_numbered(rt.alloc(), master, worker)?);
     Ok(())
 }
 
