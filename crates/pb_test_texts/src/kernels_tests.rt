@@ -1,5 +1,5 @@
 use pb_ctree::{CoreKernel, CoreLabel, Formula, KernelKind, Local, NRange, Payload};
-use pb_kernels::{CTree, KName, KernelFault, Kind, Name, NoMemory, merge, read_kernels};
+use pb_kernels::{Bodies, CTree, KName, KernelFault, Kind, Name, NoMemory, merge, read_kernels};
 use std::alloc::Global;
 use std::test::Fail;
 
@@ -92,28 +92,48 @@ fn misfit(alloc: Global, tree: CTree, text: &str) -> Option<KernelFault> {
     }
 }
 
-/// Whether a tree with a label and two kernels lacks a body of this name in the file.
-fn is_missing(alloc: Global, text: &str, kind: Kind, word: &str) -> Result<bool, NoMemory> {
+/// Whether a tree lacks a body of this name in the file: one with a label and two kernels, or one with one kernel.
+fn is_missing(
+    alloc: Global,
+    has_all: bool,
+    text: &str,
+    kind: Kind,
+    word: &str,
+) -> Result<bool, NoMemory> {
     let missing = KernelFault::Missing(named(kind, word.as_bytes())?);
-    Ok(misfit(alloc, tree(alloc)?, text) == Some(missing))
+    let tree = if has_all {
+        tree(alloc)?
+    } else {
+        one_kernel(alloc)?
+    };
+    Ok(misfit(alloc, tree, text) == Some(missing))
 }
 
-/// Whether this is said of the file with a tree of one kernel.
-fn is_said(alloc: Global, text: &str, fault: KernelFault) -> Result<bool, NoMemory> {
-    Ok(misfit(alloc, one_kernel(alloc)?, text) == Some(fault))
+/// Whether a tree with one kernel has no function for a body of the file, which is this compute kernel's.
+fn is_extra(alloc: Global, text: &str, word: &str) -> Result<bool, NoMemory> {
+    let extra = KernelFault::Extra(named(Kind::Compute, word.as_bytes())?);
+    Ok(misfit(alloc, one_kernel(alloc)?, text) == Some(extra))
 }
 
-/// The bodies that stand in a tree's text, each with a bar behind it, and the prelude before them.
-fn bodies_of(alloc: Global, tree: CTree, text: &str) -> Result<Vec<u8>, KernelFault> {
-    let file = read_kernels(alloc, text.as_bytes())?;
-    let bodies = merge(alloc, &tree, file)?;
-    let mut all = Vec::from_slice(alloc, bodies.prelude.bytes())?;
-    all.push(b'|')?;
-    for body in &bodies.list {
-        all.extend_from_slice(body.bytes())?;
-        all.push(b'|')?;
+fn are_bodies(bodies: &Bodies, prelude: &[u8], list: &[&[u8]]) -> bool {
+    bodies.prelude.bytes() == prelude
+        && bodies.list.len() == list.len()
+        && bodies
+            .list
+            .iter()
+            .zip(list)
+            .all(|(body, bytes)| body.bytes() == *bytes)
+}
+
+/// Whether these are the bodies that stand in a tree's text.
+fn is_merged(alloc: Global, tree: CTree, text: &str, prelude: &[u8], list: &[&[u8]]) -> bool {
+    let Ok(file) = read_kernels(alloc, text.as_bytes()) else {
+        return false;
+    };
+    match merge(alloc, &tree, file) {
+        Ok(bodies) => are_bodies(&bodies, prelude, list),
+        Err(_) => false,
     }
-    Ok(all)
 }
 
 #[test]
@@ -123,8 +143,9 @@ fn a_body_stands_byte_for_byte(rt: HostRuntime) -> Result<(), Fail> {
         // Lines outside bodies are passed over; a marker may have blanks behind it, and the last line no line feed.
         "x\n/*@ kernel k_K */ \t\r\n  if (N > 2) { puts(\"}\"); }\n/*@ end */",
     ] {
-        let all = bodies_of(rt.alloc(), one_kernel(rt.alloc())?, text)?;
-        assert!(rt; all.as_slice() == b"|  if (N > 2) { puts(\"}\"); }\n|".as_slice());
+        let tree = one_kernel(rt.alloc())?;
+        let body = b"  if (N > 2) { puts(\"}\"); }\n".as_slice();
+        assert!(rt; is_merged(rt.alloc(), tree, text, b"", &[body]));
     }
     Ok(())
 }
@@ -133,9 +154,11 @@ fn a_body_stands_byte_for_byte(rt: HostRuntime) -> Result<(), Fail> {
 fn bodies_stand_in_printed_order(rt: HostRuntime) -> Result<(), Fail> {
     let text = "/*@ kernel c_C */\nc\n/*@ end */\n/*@ kernel take_A */\nt /*@ end */\n/*@ end */\n\
         /*@ prelude */\np\n/*@ end */\n/*@ kernel k_K */\n/*@ end */\n/*@ kernel make_A */\n\nm\n/*@ end */\n";
-    assert!(rt; read_kernels(rt.alloc(), text.as_bytes())?.len() == 5);
-    let all = bodies_of(rt.alloc(), tree(rt.alloc())?, text)?;
-    assert!(rt; all.as_slice() == b"p\n|\nm\n|t /*@ end */\n||c\n|".as_slice());
+    let count = read_kernels(rt.alloc(), text.as_bytes()).map(|file| file.len());
+    assert!(rt; count == Ok(5));
+    let tree = tree(rt.alloc())?;
+    let list: &[&[u8]] = &[b"\nm\n", b"t /*@ end */\n", b"", b"c\n"];
+    assert!(rt; is_merged(rt.alloc(), tree, text, b"p\n", list));
     Ok(())
 }
 
@@ -175,15 +198,19 @@ fn a_body_stands_once(rt: HostRuntime) -> Result<(), Fail> {
 
 #[test]
 fn what_is_missing_comes_before_what_is_extra(rt: HostRuntime) -> Result<(), Fail> {
-    let make_a = "/*@ kernel make_A */\n/*@ end */\n";
-    assert!(rt; is_missing(rt.alloc(), KERNEL, Kind::Make, "A")?);
-    assert!(rt; is_missing(rt.alloc(), make_a, Kind::Take, "A")?);
-    let missing = KernelFault::Missing(named(Kind::Compute, b"K")?);
-    assert!(rt; is_said(rt.alloc(), "", missing)?);
-    assert!(rt; is_said(rt.alloc(), "/*@ kernel c_K */\n/*@ end */\n", missing)?);
-    let extra = KernelFault::Extra(named(Kind::Compute, b"L")?);
+    for (has_all, text, kind, word) in [
+        (true, KERNEL, Kind::Make, "A"),
+        (true, "/*@ kernel make_A */\n/*@ end */\n", Kind::Take, "A"),
+        (false, "", Kind::Compute, "K"),
+        (false, "/*@ kernel c_K */\n/*@ end */\n", Kind::Compute, "K"),
+    ] {
+        assert!(rt;
+            is_missing(rt.alloc(), has_all, text, kind, word)?,
+            "{text}"
+        );
+    }
     let text =
         "/*@ kernel k_L */\n/*@ end */\n/*@ kernel k_K */\n/*@ end */\n/*@ kernel c_K */\n/*@ end */\n";
-    assert!(rt; is_said(rt.alloc(), text, extra)?);
+    assert!(rt; is_extra(rt.alloc(), text, "L")?);
     Ok(())
 }
