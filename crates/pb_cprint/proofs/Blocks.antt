@@ -2,7 +2,7 @@
 use Rattle.std.proofs.Common.{◌≡◌, ℕ, suc, zero, ◌+◌, ◌<◌, ◌≤◌, List, [], ◌∷◌, ◌++◌, length, map, drop, get_or, refl, Result, Ok, Err, ap, ◌∙◌, Bool, true, false, append_assoc, Vec, sym, drop-cons, add-one, drop_of_length-le, nat_eq, arith, rules, subst}
 use Rattle.std.specs.Prelude.{OnOk, codes}
 use Rattle.std.specs.Bool.{◌==◌}
-use Rattle.std.proofs.lemmas.List.{length-append}
+use Rattle.std.proofs.lemmas.List.{length-append, drop_more}
 use Rattle.std.specs.declared.alloc.Global.{Global}
 use Rattle.pb_affine.specs.declared.lin.Lin.{Lin}
 use Rattle.pb_affine.specs.declared.guard.Guard.{Guard}
@@ -14,7 +14,7 @@ use Rattle.pb_local.specs.declared.stmt.Stmt.TheVariants.{If, For, Loop, Choice}
 use Rattle.pb_local.specs.Tree.{Program, Code, plain, plain_all, parts_of}
 use Rattle.pb_ctree.specs.Lines.{Item, close, else_open, if_open, for_open, loop_open}
 use Rattle.pb_cprint_lines.specs.Printed.{bytes}
-use Rattle.pb_cprint.specs.Written.{written, written_all, written_other, written_parts, part_written, choice_written, is_last}
+use Rattle.pb_cprint.specs.Written.{written, written_all, written_other, written_parts, part_written, choice_written, branch_item, is_last}
 use Rattle.pb_local.proofs.Plains.{when_plain, for_plain, loop_plain, choice_plain}
 use Rattle.pb_cprint_lines.proofs.Steps.{onto}
 
@@ -74,6 +74,27 @@ other_put p d list inner old a b now r deep some first second last =
     along old now _ _ r
     (inner_text p d inner (bytes p d else_open) (bytes p d close) list list deep refl ∙ other_more p d list some)
     (three old a b now (bytes p d else_open) (written_all p inner (plain_all list)) (bytes p d close) r first second last)
+
+-- what one element more of a list adds to a text
+pub one_round : {A : Type 0} (all : List A → List ℕ) (one : A → List ℕ) (xs : List A) (i : ℕ) (x : A) (out new start : List ℕ) → ((y : A) (ys : List A) → all (y ∷ ys) ≡ one y ++ all ys)
+    → i < length xs → x ≡ get_or xs i x → new ≡ out ++ one x → out ++ all (drop i xs) ≡ start → new ++ all (drop (i + 1) xs) ≡ start
+one_round all one xs i x out new start each less is put so_far =
+    ap (λ w. w ++ all (drop (i + 1) xs)) put
+    ∙ append_assoc out (one x) (all (drop (i + 1) xs))
+    ∙ ap (λ w. out ++ w) (sym (each x (drop (i + 1) xs)))
+    ∙ ap (λ w. out ++ all w) (sym (drop_more xs i x less ∙ ap (λ y. y ∷ drop (i + 1) xs) (sym is)))
+    ∙ so_far
+
+pub all_round : (p : Program) (d : ℕ) (list : List Stmt) (i : ℕ) (s : Stmt) (out new start : List ℕ) → i < length list → s ≡ get_or list i s → new ≡ out ++ written p d (plain s)
+    → out ++ written_all p d (plain_all (drop i list)) ≡ start → new ++ written_all p d (plain_all (drop (i + 1) list)) ≡ start
+all_round p d list i s out new start less is put so_far =
+    one_round (λ ss. written_all p d (plain_all ss)) (λ s. written p d (plain s)) list i s out new start (λ t ts. refl) less is put so_far
+
+pub part_put : {X E : Type 0} (p : Program) (d inner number : ℕ) (last : Bool) (list : List Stmt) (old a now : List ℕ) (r : Result X E) → inner ≡ d + 1 → a ≡ old ++ bytes p d (branch_item number last)
+    → OnOk r (now ≡ a ++ written_all p inner (plain_all list)) → OnOk r (now ≡ old ++ part_written p d number last (plain_all list))
+part_put p d inner number last list old a now (Ok x) deep first put =
+    onto old a now (bytes p d (branch_item number last)) (written_all p inner (plain_all list)) first put ∙ ap (λ k. old ++ (bytes p d (branch_item number last) ++ written_all p k (plain_all list))) deep
+part_put p d inner number last list old a now (Err e) deep first put = tt
 
 -- ---- branches
 

@@ -1,7 +1,8 @@
-use Rattle.std.proofs.Common.{◌++◌, ◌+◌, ◌∙◌, ap, sym, drop}
+use Rattle.std.proofs.Common.{◌++◌, ◌+◌, ◌∙◌, ap, sym, drop, refl, rules}
 use Rattle.pb_local.specs.Tree.{program_of, plain, plain_all, parts_of}
 use Rattle.pb_cprint.specs.Written.{written_parts, part_written, is_last}
-use Rattle.pb_cprint.proofs.Blocks.{for_put, loop_put, when_put, other_put, choice_put, branch_round, not_shorter, plains}
+use Rattle.pb_cprint.proofs.Blocks.{for_put, loop_put, when_put, other_put, choice_put, branch_round, all_round, part_put, not_shorter, plains}
+use Rattle.pb_cprint.proofs.Lengths.{inside, room}
 use Rattle.pb_cprint.proofs.statements.+push.Goals as goal
 
 pub push_other-returns : goal.push_other-returns
@@ -43,3 +44,40 @@ push_stmt-returns-after-loop-number t c =
     choice_put (program_of c.args.local.now) c.args.depth c.args.stmt.now it.who it.kernel it.relays it.from it.tests it.branches
     c.deref-in-Choice.result.now c.deref-in-Choice-2.result.now c.deref-branch-items.result.now c.loop-number.number c.args.out.now.items c.push_choice.new.out.items c.loop-number.out.items c.push_word-in-Choice.new.out.items c.push_word-in-Choice.result
     it.is c.deref-in-Choice.ensures.value c.deref-in-Choice-2.ensures.value c.deref-branch-items.ensures.value c.in_ok-push_choice-in-Choice.ensures c.loop-number-test.false c.loop-number.invariant.text c.push_word-in-Choice.ensures
+
+pub push_all-loop-stmt-init : goal.push_all-loop-stmt-init
+push_all-loop-stmt-init t c = record { text = refl; long = c.requires }
+
+pub push_all-loop-stmt-preserved : goal.push_all-loop-stmt-preserved
+push_all-loop-stmt-preserved t c = record {
+  text = all_round _ _ _ _ _ _ _ _ c.loop-stmt-test.true c.stmt-item.is c.in_ok-push_stmt.ensures c.loop-stmt.invariant.text;
+  long = not_shorter _ _ _ _ c.in_ok-push_stmt.ensures c.loop-stmt.invariant.long;
+}
+
+pub push_other-deeper-requires : goal.push_other-deeper-requires
+push_other-deeper-requires t c = room _ _ _ _ c.requires c.in_ok-push_word.ensures
+
+pub push_other-push_all-requires : goal.push_other-push_all-requires
+push_other-push_all-requires t c = (search rules, inside _ _ _ _ _ c.deeper.ensures.deeper c.requires c.in_ok-push_word.ensures)
+
+pub push_part-deeper-requires : goal.push_part-deeper-requires
+push_part-deeper-requires t c = room _ _ _ _ c.requires c.in_ok-push_branch_open.ensures
+
+pub push_part-push_all-requires : goal.push_part-push_all-requires
+push_part-push_all-requires t c = (search rules, inside _ _ _ _ _ c.deeper.ensures.deeper c.requires c.in_ok-push_branch_open.ensures)
+
+pub push_part-returns : goal.push_part-returns
+push_part-returns t c =
+    part_put (program_of c.args.local.now) _ _ c.args.number c.args.is_last c.args.branch.now _ _ _ c.push_all.result c.deeper.ensures.deeper c.in_ok-push_branch_open.ensures c.push_all.ensures
+
+pub push_stmt-deeper-requires : goal.push_stmt-deeper-requires
+push_stmt-deeper-requires t c = room _ _ _ _ c.requires c.in_ok-push_if-in-If.ensures
+
+pub push_stmt-deeper-requires-in-For : goal.push_stmt-deeper-requires-in-For
+push_stmt-deeper-requires-in-For t c = room _ _ _ _ c.requires c.in_ok-push_for-in-For.ensures
+
+pub push_stmt-deeper-requires-in-Loop : goal.push_stmt-deeper-requires-in-Loop
+push_stmt-deeper-requires-in-Loop t c = room _ _ _ _ c.requires c.in_ok-push_loop-in-Loop.ensures
+
+pub push_stmt-loop-number-init : goal.push_stmt-loop-number-init
+push_stmt-loop-number-init t c = record { text = refl; long = not_shorter _ _ _ _ c.in_ok-push_choice-in-Choice.ensures c.requires }
