@@ -62,5 +62,5 @@ pub without_body : (r : Read) (statements : List Stmt) → statements ≡ [] →
 without_body r statements e = ap (λ (xs : List Stmt). with_body (headed r) (plain_all xs)) (sym e)
 
 -- the statements begin where the frame is at its end
-pub begin : (bytes whole rest : List ℕ) (n : ℕ) (s : F.State) (statements : List Stmt) → whole ≡ bytes → InFrame whole rest n s → F.is_done s ≡ true → statements ≡ [] → InMain bytes rest n s.read (with_body (headed s.read) (plain_all statements)) M.nothing_read
-begin bytes whole rest n s statements e f done none = main_starts bytes rest n s (with_body (headed s.read) (plain_all statements)) (subst (λ (x : List ℕ). InFrame x rest n s) e f) done (without_body s.read statements none)
+pub begin : (bytes whole rest : List ℕ) (n : ℕ) (s : F.State) (p : Program) → whole ≡ bytes → InFrame whole rest n s → F.is_done s ≡ true → p ≡ headed s.read → InMain bytes rest n s.read p M.nothing_read
+begin bytes whole rest n s p e f done is = main_starts bytes rest n s p (subst (λ (x : List ℕ). InFrame x rest n s) e f) done (sym is)

@@ -1,6 +1,6 @@
-ghost use Rattle.std.specs.Prelude.{◌≡◌, true, IfErr, IfOk};
+ghost use Rattle.std.specs.Prelude.{◌≡◌, ◌<◌, ℕ, List, length, true, false, IfErr, IfOk, OnOk};
 ghost use Rattle.pb_cread_frame.specs.Reading.{is_done};
-ghost use Rattle.pb_cread_frame.specs.Views.{state_of};
+ghost use Rattle.pb_cread_frame.specs.Views.{state_of, IsReader};
 ghost use Rattle.pb_cread.specs.Faults.{IsFault};
 ghost use Rattle.pb_cread.specs.Reached.{InFrame};
 
@@ -10,7 +10,7 @@ use pb_cread_frame::FrameReader;
 use std::alloc::Global;
 
 /// Reads the lines before main's statements, from the first line on.
-#[tactic(auto, using(crate::proofs::Faulted::frame_starts, crate::proofs::Faulted::frame_goes, crate::proofs::Faulted::frame_stops, crate::proofs::Ended::frame_early, crate::proofs::Feeds::shorter))]
+#[tactic(auto, using(crate::proofs::Faulted::frame_starts))]
 pub(crate) fn read_frame(alloc: Global, lines: &mut Lines) -> Result<FrameReader, TextFault>
     requires first { lines.old.line ≡ 1 }
     ensures read { IfOk result (λ reader. InFrame lines.old.rest.now lines.new.rest.now lines.new.line (state_of reader)) }
@@ -19,13 +19,30 @@ pub(crate) fn read_frame(alloc: Global, lines: &mut Lines) -> Result<FrameReader
 {
     let mut reader = FrameReader::new(alloc)?;
     while !reader.is_done() {
-        let place = lines.place();
-        let Some(line) = lines.take() else {
-            return Err(TextFault::Unexpected(place));
-        };
-        if !reader.take(alloc, line)? {
-            return Err(TextFault::Unexpected(place));
+        match take_row(alloc, lines, &mut reader) {
+            Ok(()) => {}
+            Err(fault) => return Err(fault),
         }
     }
     Ok(reader)
+}
+
+/// Takes the next line, which must be there and go on.
+#[tactic(auto, using(crate::proofs::Feeds::shorter))]
+fn take_row(alloc: Global, lines: &mut Lines, reader: &mut FrameReader) -> Result<(), TextFault>
+    requires left { is_done (state_of reader.old) ≡ false }
+    requires reader { IsReader reader.old }
+    ensures read { IfOk result (λ _. (text : List ℕ) → InFrame text lines.old.rest.now lines.old.line (state_of reader.old) → InFrame text lines.new.rest.now lines.new.line (state_of reader.new)) }
+    ensures reader { OnOk result (IsReader reader.new) }
+    ensures shorter { OnOk result (length lines.new.rest.now < length lines.old.rest.now) }
+    ensures fault { IfErr result (λ e. (text : List ℕ) → InFrame text lines.old.rest.now lines.old.line (state_of reader.old) → IsFault text e) }
+{
+    let place = lines.place();
+    let Some(line) = lines.take() else {
+        return Err(TextFault::Unexpected(place));
+    };
+    if !reader.take(alloc, line)? {
+        return Err(TextFault::Unexpected(place));
+    }
+    Ok(())
 }

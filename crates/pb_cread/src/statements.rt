@@ -198,9 +198,24 @@ pub(crate) fn read_statements(
     ensures fault { IfErr result (λ e. (text : List ℕ) (r : Read) → InMain text lines.old.rest.now lines.old.line r (program_of local.now) nothing_read → IsFault text e) }
 {
     let tables = Tables::of(alloc, local)?;
+    read_by(alloc, local, &tables, lines)
+}
+
+/// The same by these tables.
+fn read_by(
+    alloc: Global,
+    local: &Local,
+    tables: &Tables,
+    lines: &mut Lines,
+) -> Result<Vec<Stmt>, TextFault>
+    requires tables { AreTables tables.now (program_of local.now) }
+    requires head { HasHead (program_of local.now) }
+    ensures read { IfOk result (λ v. (text : List ℕ) (r : Read) → InMain text lines.old.rest.now lines.old.line r (program_of local.now) nothing_read → InEnd text lines.new.rest.now lines.new.line r (program_of local.now) (map plain v.items) [] last_texts) }
+    ensures fault { IfErr result (λ e. (text : List ℕ) (r : Read) → InMain text lines.old.rest.now lines.old.line r (program_of local.now) nothing_read → IsFault text e) }
+{
     let mut scratch = Vec::new(alloc);
     let mut reader = Reader::new(alloc);
-    match read_lines(alloc, local, &tables, &mut scratch, &mut reader, lines) {
+    match read_lines(alloc, local, tables, &mut scratch, &mut reader, lines) {
         Ok(place) => finished(reader, place),
         Err(fault) => Err(fault),
     }

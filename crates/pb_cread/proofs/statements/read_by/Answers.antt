@@ -4,7 +4,7 @@ use Rattle.pb_cread_statements.specs.Reading.{State, nothing_read}
 use Rattle.pb_cread_statements.specs.Views.{state_of}
 use Rattle.pb_cread.specs.Reached.{InMain}
 use Rattle.pb_cread.proofs.Passing.{finish_ok, finish_err}
-use Rattle.pb_cread.proofs.statements.read_statements.Goals as goal
+use Rattle.pb_cread.proofs.statements.read_by.Goals as goal
 
 pub returns-in-Ok-clause-read : goal.returns-in-Ok-clause-read
 returns-in-Ok-clause-read c =
