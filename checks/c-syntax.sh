@@ -54,9 +54,9 @@ compile() {
     done
 }
 
-# The text of the reader's tests, which has every statement, stands there as a list of lines.
+# The text of the reader's tests, which has every statement, stands there as one constant.
 texts=crates/pb_test_texts/src/statement_tests.rt
-sed -n 's/^    b"\(.*\)\\n",$/\1/p' "$top/$texts" | sed 's/\\"/"/g' >"$work/text.c"
+sed -n '/^const TEXT: &str = "/,/^";$/p' "$top/$texts" | sed -e '1s/^const TEXT: &str = "//' -e '$d' -e 's/\\"/"/g' >"$work/text.c"
 compile "$texts"
 
 for file in "$top"/examples/*.pbl "$top"/examples/*/*.pbl "$@"; do
