@@ -8,11 +8,14 @@ fn ready_numbers_ascend(rt: HostRuntime) -> Result<(), Fail> {
     ready.set(1, true);
     ready.set(4, true);
     ready.set(3, true);
-    assert!(rt; ready.list() == [1, 3, 4].as_slice() && ready.has(3));
+    assert!(rt; ready.list() == [1, 3, 4].as_slice());
+    assert!(rt; ready.has(3) == true);
     ready.set(3, false);
     ready.set(2, false);
-    assert!(rt; ready.list() == [1, 4].as_slice() && !ready.has(3));
+    assert!(rt; ready.list() == [1, 4].as_slice());
+    assert!(rt; ready.has(3) == false);
     ready.set(3, true);
-    assert!(rt; ready.list() == [1, 3, 4].as_slice() && ready.has(3));
+    assert!(rt; ready.list() == [1, 3, 4].as_slice());
+    assert!(rt; ready.has(3) == true);
     Ok(())
 }
