@@ -1,7 +1,9 @@
+pub mod Added
 pub mod Classes
 pub mod Digits
 pub mod Held
 pub mod Listed
+pub mod Names
 pub mod Parsed
 pub mod Rows
 pub mod Rules

@@ -154,6 +154,16 @@ demo_in files options = plain_file files options >>= λ word. number_in 1 4000 w
 abbrev pub judge_in : List (List ℕ) → List Given → Option Request
 judge_in files options = two_files files >>= λ both. only_n options >>= λ n. Some (judge both.0 both.1 n)
 
+-- a command that has a file and no options
+abbrev pub of_file : List ℕ → List ℕ → Option Request
+of_file command file =
+    if pointwise nat_eq command (codes "check") then Some (check file)
+    else if pointwise nat_eq command (codes "project") then Some (project file)
+    else if pointwise nat_eq command (codes "expand") then Some (expand file)
+    else if pointwise nat_eq command (codes "strips") then Some (strips file)
+    else if pointwise nat_eq command (codes "cost") then Some (cost file)
+    else None
+
 -- a command by its name, with its files and options
 abbrev pub asked : List ℕ → List (List ℕ) → List Given → Option Request
 asked command files options =

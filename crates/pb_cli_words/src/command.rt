@@ -2,7 +2,7 @@
 
 ghost use Rattle.std.specs.Prelude.{◌≡◌, Bool, Some, map, IfOk, IfSome, option_copied, option_map};
 ghost use Rattle.std.specs.String.{string_bytes};
-ghost use Rattle.pb_cli_words.specs.Request.{AsksForFew, asked, demo_in, gen_in, gen_of, judge_in, one_file, plain_file, replay_in, request, request_if, run_in, sim_in, two_files};
+ghost use Rattle.pb_cli_words.specs.Request.{AsksForFew, asked, demo_in, gen_in, gen_of, judge_in, of_file, one_file, plain_file, replay_in, request, request_if, run_in, sim_in, two_files};
 ghost use Rattle.clap.specs.Words.{found_of, rows_of};
 ghost use Rattle.pb_cli_words.specs.Reader.{IsFlag, asked_by, asked_for};
 ghost use Rattle.pb_cli_words.specs.Shown.{options_of};
@@ -145,35 +145,34 @@ fn judge_in<'a>(files: &[&'a str], given: &Given) -> Option<Command<'a>>
     Some(Command::Judge(file, log, n))
 }
 
+/// The command of this name that has a file and no options.
+fn of_file<'a>(command: &str, file: &'a str) -> Option<Command<'a>>
+    ensures asked { request_if result ≡ of_file command.now file.now }
+    ensures few { IfSome result AsksForFew }
+{
+    match command {
+        "check" => Some(Command::Check(file)),
+        "project" => Some(Command::Project(file)),
+        "expand" => Some(Command::Expand(file)),
+        "strips" => Some(Command::Strips(file)),
+        "cost" => Some(Command::Cost(file)),
+        _ => None,
+    }
+}
+
 /// The command of this name.
 fn asked<'a>(command: &str, files: &[&'a str], given: &Given) -> Option<Command<'a>>
     ensures asked { request_if result ≡ asked command.now (map (λ f. f.now) files.now) (options_of given.now) }
     ensures few { IfSome result AsksForFew }
 {
-    if command == "check" {
-        Some(Command::Check(plain_file(files, given)?))
-    } else if command == "gen" {
-        gen_in(files, given)
-    } else if command == "project" {
-        Some(Command::Project(plain_file(files, given)?))
-    } else if command == "sim" {
-        sim_in(files, given)
-    } else if command == "replay" {
-        replay_in(files, given)
-    } else if command == "run" {
-        run_in(files, given)
-    } else if command == "demo" {
-        demo_in(files, given)
-    } else if command == "expand" {
-        Some(Command::Expand(plain_file(files, given)?))
-    } else if command == "strips" {
-        Some(Command::Strips(plain_file(files, given)?))
-    } else if command == "cost" {
-        Some(Command::Cost(plain_file(files, given)?))
-    } else if command == "judge" {
-        judge_in(files, given)
-    } else {
-        None
+    match command {
+        "gen" => gen_in(files, given),
+        "sim" => sim_in(files, given),
+        "replay" => replay_in(files, given),
+        "run" => run_in(files, given),
+        "demo" => demo_in(files, given),
+        "judge" => judge_in(files, given),
+        _ => of_file(command, plain_file(files, given)?),
     }
 }
 
