@@ -9,7 +9,7 @@ use crate::number::number_in;
 use pb_text::{MOST_EVENTS, MOST_NUMBER, Mode};
 
 /// In which modes the events are made.
-#[derive(Clone, Copy, PartialEq, Eq)]
+#[derive(Clone, Copy)]
 pub enum Modes {
     /// Each in this one.
     Each(Mode),
@@ -18,7 +18,7 @@ pub enum Modes {
 }
 
 /// What a simulation writes.
-#[derive(Clone, Copy, PartialEq, Eq)]
+#[derive(Clone, Copy)]
 pub enum Shown {
     /// The log, line by line, and how it ended.
     Log,
@@ -27,7 +27,7 @@ pub enum Shown {
 }
 
 /// How a simulation by a seed is run.
-#[derive(Clone, Copy, PartialEq, Eq)]
+#[derive(Clone, Copy)]
 pub struct Options {
     /// From 0 to 2,000,000,000.
     pub n: u32,

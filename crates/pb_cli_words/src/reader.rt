@@ -27,8 +27,9 @@ fn with_words<'a>(alloc: Global) -> Result<Command<'a>, AllocError>
         .disable_help_flag(true)
         .disable_help_subcommand(true)
         .disable_version_flag(true);
+    let named = bare.arg(Arg::new(alloc, "command"))?;
     let files = Arg::new(alloc, "files").action(ArgAction::Append);
-    bare.arg(Arg::new(alloc, "command"))?.arg(files)
+    named.arg(files)
 }
 
 /// With the options that have a value.
@@ -46,12 +47,12 @@ fn with_texts<'a>(alloc: Global) -> Result<Command<'a>, AllocError>
 fn reader<'a>(alloc: Global) -> Result<Command<'a>, AllocError>
     ensures { IfOk result (λ c. app_of c ≡ reader_app) }
 {
+    let texts = with_texts(alloc)?;
     let schedule = text_option(alloc, "schedule").action(ArgAction::SetTrue);
-    with_texts(alloc)?.arg(schedule)
+    texts.arg(schedule)
 }
 
 /// The matches of the words, or None where they aren't taken.
-#[tactic(auto, using(crate::proofs::Parsed::taken, crate::proofs::Parsed::refused, crate::proofs::Rules::simple_and_free))]
 pub fn matches_in<'a>(
     alloc: Global,
     words: &'a [String],

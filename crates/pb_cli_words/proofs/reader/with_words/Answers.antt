@@ -9,8 +9,8 @@ pub returns : goal.returns
 returns c =
     let bare = bare_is _ _ _ _ c.disable_version_flag-bare.result c.new.ensures.app c.no_binary_name.ensures c.disable_help_flag.ensures c.disable_help_subcommand.ensures
     c.disable_version_flag-bare.ensures in
-    let command = with_one c.disable_version_flag-bare.result c.in_ok-arg.field-0 c.new-3.result bare_app (new_rule (codes "command")) bare c.new-3.ensures.rule c.new-3.ensures.optional.1
-    c.in_ok-arg.ensures in
-    with_one_if c.in_ok-arg.field-0 c.action-files.result c.arg-2.result (with_rule bare_app (new_rule (codes "command"))) (record (new_rule (codes "files")) { action = Some Append }) command
-    (acts c.new-2.result c.action-files.result (new_rule (codes "files")) Append c.new-2.ensures.rule c.action-files.ensures)
-    (acts_local c.new-2.result c.action-files.result Append c.new-2.ensures.optional.1 c.action-files.ensures) c.arg-2.ensures
+    let command = with_one c.disable_version_flag-bare.result c.in_ok-named.named c.new-2.result bare_app (new_rule (codes "command")) bare c.new-2.ensures.rule c.new-2.ensures.optional.1
+    c.in_ok-named.ensures in
+    with_one_if c.in_ok-named.named c.action-files.result c.arg-2.result (with_rule bare_app (new_rule (codes "command"))) (record (new_rule (codes "files")) { action = Some Append }) command
+    (acts c.new-3.result c.action-files.result (new_rule (codes "files")) Append c.new-3.ensures.rule c.action-files.ensures)
+    (acts_local c.new-3.result c.action-files.result Append c.new-3.ensures.optional.1 c.action-files.ensures) c.arg-2.ensures
