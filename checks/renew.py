@@ -135,19 +135,54 @@ def table(trial):
         write(f"{room}/{name}.c.left", left)
     os.makedirs(f"{room}/folder")
     os.makedirs(f"{room}/k.c.left")
+    for name, text, left in (("end", "/*@ end */\n", None), ("behind", k, "\n/*@ end */\n")):
+        write(f"{room}/{name}.c", text)
+        if left is not None:
+            write(f"{room}/{name}.c.left", left)
+    write(f"{room}/short.pbl", "const")
     trial.refused([], 2, "renew: usage: renew FILE OUT\n")
+    trial.refused(["p.pbl"], 2, "renew: usage: renew FILE OUT\n")
+    trial.refused(["p.pbl", "-"], 2, "renew: usage: renew FILE OUT\n")
+    trial.refused(["p.pbl", "k.c", "none.c"], 2, "renew: usage: renew FILE OUT\n")
     trial.refused(["p.pbl", "--help"], 2, "renew: usage: renew FILE OUT\n")
     trial.refused(["k.c", "k.c"], 2, "renew: usage: FILE would be written\n")
     trial.refused(["bad.pbl", "k.c"], 1, "renew: rule 7 at 3:20, N = 2, W[2]\nbad.pbl:3:20: rule 7")
     trial.refused(["k.c", "none.c"], 1, "renew: syntax at 2:8\n")
+    trial.refused(["short.pbl", "k.c"], 1, "renew: syntax at 1:6\n")
     trial.refused(["no.pbl", "k.c"], 3, "renew: read fault\nno.pbl: ")
     trial.refused(["p.pbl", "folder"], 3, "renew: read fault\nfolder: ")
     trial.refused(["p.pbl", "k.c"], 3, "renew: read fault\nk.c.left: ")
     trial.refused(["p.pbl", "nowhere/o.c"], 4, "renew: write fault\nnowhere/o.c: ")
     trial.refused(["p.pbl", "none.c"], 7, "renew: no kernels\nnone.c: ")
     trial.refused(["p.pbl", "twice.c"], 7, "renew: kernel k_K twice\ntwice.c:4:1: ")
+    trial.refused(["p.pbl", "end.c"], 7, "renew: kernel marker at line 1\nend.c:1:1: ")
+    trial.refused(["p.pbl", "behind.c"], 7, "renew: left: kernel marker at line 2\nbehind.c.left:2:1: ")
     trial.refused(["p.pbl", "open.c"], 7, "renew: left: kernel marker at line 1\nopen.c.left:1:1: ")
     trial.refused(["p.pbl", "other.c"], 7, "renew: left: kernel k_K twice\nother.c: ")
+
+
+def kernel(name, body=""):
+    return f"/*@ kernel k_{name} */\n{body}/*@ end */\n"
+
+
+def changes(trial):
+    """A protocol that loses one kernel and gets another, and then the first one back."""
+    room, line = trial.room, "  puts(\"K\");\n"
+    for name, kernels in (("both", "KL"), ("other", "LM")):
+        write(f"{room}/{name}.pbl", "const N = 2..max;\nglobal protocol P(role W[0..N-1]) {\n" + "".join(f"  compute {it} at W[0];\n" for it in kernels) + "}\n")
+
+    def call(name, told, left, *parts):
+        done, text, behind = trial.call(f"{name}.pbl", "o.c"), content(trial.out), content(trial.left)
+        is_so = all(part.encode() in text for part in parts) and behind == (None if left is None else left.encode())
+        trial.expect(is_so and done == (0, told, b""), name, done, text, behind)
+
+    call("both", "", None, kernel("K"), kernel("L"))
+    write(trial.out, kernel("K", line) + kernel("L", line))
+    write(trial.left, "a note")
+    gone = "a note\n" + kernel("K", line)
+    call("other", "o.c: new functions, with default bodies: k_M\no.c.left: bodies whose functions are gone: k_K\n", gone, kernel("L", line), kernel("M"))
+    call("both", "o.c: new functions, with default bodies: k_K\no.c.left: bodies whose functions are gone: k_M\no.c.left: bodies whose functions are back: k_K\n"
+         "help: copy them to their places in o.c, and take them out of o.c.left\n", gone + kernel("M"), kernel("K"), kernel("L", line))
 
 
 def main(words):
@@ -159,6 +194,7 @@ def main(words):
         with tempfile.TemporaryDirectory() as room:
             trial = Trial(renew, room)
             if number == 0:
+                changes(trial)
                 table(trial)
             else:
                 for _ in range(8):

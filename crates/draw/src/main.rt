@@ -8,8 +8,6 @@ mod call;
 mod fault;
 mod request;
 mod status;
-#[cfg(test)]
-mod tests;
 
 use call::respond;
 use pb_io::{HostFolder, HostSink};

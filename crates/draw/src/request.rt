@@ -12,7 +12,7 @@ pub const USUAL_EVENTS: usize = 2_000;
 pub const MOST_EVENTS: usize = 100_000;
 
 /// What is asked for.
-#[derive(Clone, Copy, PartialEq, Eq)]
+#[derive(Clone, Copy)]
 pub struct Request<'a> {
     /// The file of the log.
     pub file: &'a str,

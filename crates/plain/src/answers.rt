@@ -131,7 +131,7 @@ impl Table {
 }
 
 /// How an answer compares with that under which a run was made.
-#[derive(Clone, Copy, PartialEq, Eq)]
+#[derive(Clone, Copy)]
 pub enum Likeness {
     Same,
     /// The run goes on as it would, with other words.

@@ -9,7 +9,7 @@ use std::alloc::Global;
 use thiserror::Error;
 
 /// Why nothing but a status line is written.
-#[derive(Clone, Copy, Debug, PartialEq, Eq, Error)]
+#[derive(Clone, Copy, Debug, Error)]
 pub enum Fault {
     /// The words are in no form.
     #[error("Usage")]

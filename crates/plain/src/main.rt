@@ -14,8 +14,6 @@ mod rules;
 mod run;
 mod sizes;
 mod status;
-#[cfg(test)]
-mod tests;
 mod text;
 mod worked;
 

@@ -4,7 +4,7 @@ use pb_text::{NoMemory, Place};
 use std::alloc::Global;
 
 /// Where a statement or a block stands.
-#[derive(Clone, Copy, PartialEq, Eq)]
+#[derive(Clone, Copy)]
 pub enum Standing {
     /// In no foreach.
     Free,
@@ -13,7 +13,7 @@ pub enum Standing {
 }
 
 /// A statement or a block by its number, with its place.
-#[derive(Clone, Copy, PartialEq, Eq)]
+#[derive(Clone, Copy)]
 pub struct Part {
     pub number: u32,
     pub place: Place,
@@ -21,7 +21,7 @@ pub struct Part {
 }
 
 /// The numbers of a foreach, and how many items it has for each of them.
-#[derive(Clone, Copy, PartialEq, Eq)]
+#[derive(Clone, Copy)]
 pub struct Rounds {
     pub low: Lin,
     pub high: Lin,

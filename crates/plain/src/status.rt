@@ -1,5 +1,5 @@
 /// How a call of the program ended.
-#[derive(Clone, Copy, PartialEq, Eq)]
+#[derive(Clone, Copy)]
 pub enum Status {
     /// All was written.
     Done,

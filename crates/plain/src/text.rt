@@ -5,7 +5,7 @@ use pb_text::{NoMemory, Place};
 use std::alloc::Global;
 
 /// The bytes that are to be written.
-#[derive(Debug, Drop)]
+#[derive(Drop)]
 pub struct Text {
     bytes: Vec<u8>,
 }

@@ -14,8 +14,6 @@ mod fault;
 mod help;
 mod line;
 mod request;
-#[cfg(test)]
-mod tests;
 
 use call::respond;
 use pb_cli_status::Status;

@@ -6,7 +6,7 @@ ghost use Rattle.std.specs.String.{string_bytes};
 ghost use Rattle.renew.specs.Asked.{asked, asked_by, asked_in, is_option};
 
 /// The two files that are named.
-#[derive(Clone, Copy, PartialEq, Eq)]
+#[derive(Clone, Copy)]
 pub struct Request<'a> {
     /// The protocol.
     pub file: &'a str,
