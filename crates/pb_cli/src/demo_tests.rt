@@ -1,42 +1,26 @@
 //! `demo`.
 
-use crate::call::pabble;
-use crate::tests::answer;
-use pb_cli_status::Status;
-use pb_io::{MemFolder, MemSink};
-use std::alloc::Global;
+use crate::tests::session::{Faults, NONE, play, play_with};
 use std::test::Fail;
 
-/// The status of `demo` with these words behind it, and what was written into a sink with so much room.
-fn shown(alloc: Global, rest: &[&str], room: usize) -> Result<(Status, Vec<u8>), Fail> {
-    let mut words = Vec::new(alloc);
-    words.push(String::from_str(alloc, "demo")?)?;
-    for word in rest {
-        words.push(String::from_str(alloc, word)?)?;
-    }
-    let mut folder = MemFolder::new(Vec::new(alloc), Vec::new(alloc));
-    let mut out = MemSink::new(alloc, room, 8192, Vec::new(alloc))?;
-    let status = pabble(alloc, &words, &mut folder, &mut out, answer);
-    Ok((status, Vec::from_slice(alloc, out.taken())?))
-}
-
-const FOUR: &str = "demo 4\nsends 8\nreceives 8\nruns 1\nenters 8\nleaves 8\nwords 44\n";
+const FOUR: &str = "$ demo 4; demo 04; demo -- 4
+status 0
+demo 4
+sends 8
+receives 8
+runs 1
+enters 8
+leaves 8
+words 44
+";
 
 #[test]
 fn counts_four_statements(rt: HostRuntime) -> Result<(), Fail> {
-    let forms: [&[&str]; 3] = [&["4"], &["04"], &["--", "4"]];
-    for form in forms {
-        let (status, written) = shown(rt.alloc(), form, 8192)?;
-        assert!(rt; status == Status::Done);
-        assert!(rt; written.as_slice() == FOUR.as_bytes());
-    }
-    Ok(())
+    play(&rt, rt.alloc(), FOUR)
 }
 
 #[test]
 fn writes_its_first_bytes_where_the_sink_fails(rt: HostRuntime) -> Result<(), Fail> {
-    let (status, written) = shown(rt.alloc(), &["4"], 12)?;
-    assert!(rt; status == Status::WriteFault);
-    assert!(rt; written.as_slice() == "demo 4\nsends".as_bytes());
-    Ok(())
+    let full = Faults { room: 12, ..NONE };
+    play_with(&rt, rt.alloc(), full, "$ demo 4\nstatus 4\ndemo 4\nsends")
 }

@@ -1,29 +1,99 @@
 //! `judge`.
 
-use crate::call::pabble;
-use crate::tests::answer;
-use pb_cli_status::Status;
-use pb_io::{MemFile, MemFolder, MemSink};
-use std::alloc::{AllocError, Global};
+use crate::tests::session::play;
 use std::test::Fail;
 
-/// One message from the first rank to the last.
-const FIRST: &str = "const N = 2..max;
+/// Logs of one message from the first rank to the last, and of one from each rank to the next.
+const RULINGS: &str = "$ cat > p
+const N = 2..max;
 global protocol P(role W[0..N-1]) {
   A() from W[0] to W[N-1];
 }
-";
-
-/// Each rank sends to the next.
-const RING: &str = "const N = 2..max;
+$ cat > l
+0 send 1 A
+1 recv 0 A
+ended
+$ judge p l --n 2
+status 0
+whole
+$ cat > l
+1 recv 0 A
+0 send 1 A
+$ judge p l --n 2
+status 0
+whole
+$ cat > l
+0 send 1 A
+$ judge p l --n 2
+status 0
+covered
+$ cat > l
+$ judge p l --n 2
+status 0
+covered
+$ cat > l
+0 send 1 A
+pabble: turns 1
+$ judge p l --n 2
+status 0
+covered
+$ cat > l
+0 send 1 A
+0 send 1 A
+$ judge p l --n 2
+status 17
+pabble: log line 2, rank 0 goes beyond
+$ cat > l
+0 send 5 A
+$ judge p l --n 2
+status 18
+pabble: log line 1 is malformed
+$ cat > l
+0 send 1 A
+0 send 1 A
+1 recv 0 A$ judge p l --n 2
+status 18
+pabble: log line 3 is malformed
+$ cat > l
+what is this
+$ judge p l --n 1
+status 12
+pabble: N = 1 outside 2..max
+$ judge p l --n 1025
+status 5
+pabble: limit ranks
+$ cat > p
+const N = 2..max;
 global protocol P(role W[0..N-1]) {
   A() from W[i:0..N-2] to W[i+1];
   A() from W[N-1] to W[0];
 }
+$ cat > l
+1 send 2 A
+$ judge p l --n 3
+status 17
+pabble: log line 1, rank 1 differs
+$ cat > l
+0 send 1 A
+1 recv 0 A
+1 send 2 A
+2 recv 1 A
+2 send 0 A
+0 recv 2 A
+ended
+$ judge p l --n 3
+status 0
+whole
 ";
 
+#[test]
+fn rules_on_logs(rt: HostRuntime) -> Result<(), Fail> {
+    play(&rt, rt.alloc(), RULINGS)
+}
+
 /// Words, a choice and a collective, round by round.
-const ROUNDS: &str = "const N = 2..max;
+const RUNS: &str = "$ cat > p
+const N = 2..max;
 global protocol P(role W[0..N-1]) {
   rec Loop {
     Item(int32[2]) from W[0] to W[i:1..N-1];
@@ -31,131 +101,44 @@ global protocol P(role W[0..N-1]) {
     choice Test at W[0] { Go() from W[0] to W[i:1..N-1]; continue Loop; } or { Stop() from W[0] to W[i:1..N-1]; }
   }
 }
+$ run p --n 4 --seed 7 --mode eager --turns 1000000 > eager
+$ run p --n 4 --seed 7 --mode waiting --turns 1000000 > waiting
+$ run p --n 4 --seed 7 --mode mixed --turns 20 > mixed
+$ judge p eager --n 4; judge p waiting --n 4
+status 0
+whole
+$ judge p mixed --n 4
+status 0
+covered
 ";
-
-fn file(alloc: Global, name: &str, bytes: &[u8]) -> Result<MemFile, AllocError> {
-    Ok(MemFile {
-        name: String::from_str(alloc, name)?,
-        bytes: Vec::from_slice(alloc, bytes)?,
-    })
-}
-
-/// The status of a call with these words where p and l have these bytes, and what was written.
-fn answered(
-    alloc: Global,
-    list: &[&str],
-    protocol: &str,
-    log: &[u8],
-) -> Result<(Status, Vec<u8>), Fail> {
-    let mut words = Vec::new(alloc);
-    for word in list {
-        words.push(String::from_str(alloc, word)?)?;
-    }
-    let mut files = Vec::new(alloc);
-    files.push(file(alloc, "p", protocol.as_bytes())?)?;
-    files.push(file(alloc, "l", log)?)?;
-    let mut folder = MemFolder::new(files, Vec::new(alloc));
-    let mut out = MemSink::new(alloc, 8192, 8192, Vec::new(alloc))?;
-    let status = pabble(alloc, &words, &mut folder, &mut out, answer);
-    Ok((status, Vec::from_slice(alloc, out.taken())?))
-}
-
-#[test]
-fn rules_on_logs(rt: HostRuntime) -> Result<(), Fail> {
-    for (protocol, n, log, code, line) in [
-        (FIRST, "2", "0 send 1 A\n1 recv 0 A\nended\n", 0, "whole\n"),
-        (FIRST, "2", "1 recv 0 A\n0 send 1 A\n", 0, "whole\n"),
-        (FIRST, "2", "0 send 1 A\n", 0, "covered\n"),
-        (FIRST, "2", "", 0, "covered\n"),
-        (FIRST, "2", "0 send 1 A\npabble: turns 1\n", 0, "covered\n"),
-        (
-            FIRST,
-            "2",
-            "0 send 1 A\n0 send 1 A\n",
-            17,
-            "pabble: log line 2, rank 0 goes beyond\n",
-        ),
-        (
-            FIRST,
-            "2",
-            "0 send 5 A\n",
-            18,
-            "pabble: log line 1 is malformed\n",
-        ),
-        (
-            FIRST,
-            "2",
-            "0 send 1 A\n0 send 1 A\n1 recv 0 A",
-            18,
-            "pabble: log line 3 is malformed\n",
-        ),
-        (
-            RING,
-            "3",
-            "1 send 2 A\n",
-            17,
-            "pabble: log line 1, rank 1 differs\n",
-        ),
-        (
-            RING,
-            "3",
-            "0 send 1 A\n1 recv 0 A\n1 send 2 A\n2 recv 1 A\n2 send 0 A\n0 recv 2 A\nended\n",
-            0,
-            "whole\n",
-        ),
-        (
-            FIRST,
-            "1",
-            "what is this\n",
-            12,
-            "pabble: N = 1 outside 2..max\n",
-        ),
-        (FIRST, "1025", "what is this\n", 5, "pabble: limit ranks\n"),
-    ] {
-        let (status, written) = answered(
-            rt.alloc(),
-            &["judge", "p", "l", "--n", n],
-            protocol,
-            log.as_bytes(),
-        )?;
-        assert!(rt; written.as_slice() == line.as_bytes());
-        assert!(rt; status.code() == code);
-    }
-    Ok(())
-}
 
 #[test]
 fn the_log_of_a_run_is_whole_or_covered(rt: HostRuntime) -> Result<(), Fail> {
-    for (mode, turns, line) in [
-        ("eager", "1000000", "whole\n"),
-        ("waiting", "1000000", "whole\n"),
-        ("mixed", "20", "covered\n"),
-    ] {
-        let run = [
-            "run", "p", "--n", "4", "--seed", "7", "--mode", mode, "--turns", turns,
-        ];
-        let (_status, log) = answered(rt.alloc(), &run, ROUNDS, b"")?;
-        let judge = ["judge", "p", "l", "--n", "4"];
-        let (status, written) = answered(rt.alloc(), &judge, ROUNDS, &log)?;
-        assert!(rt; written.as_slice() == line.as_bytes());
-        assert!(rt; status == Status::Done);
-    }
-    Ok(())
+    play(&rt, rt.alloc(), RUNS)
 }
+
+/// A file with a fault and a log that is none; an N that isn't in the range, and a log that isn't there.
+const ORDER: &str = "$ cat > p
+const N = 2..max;
+global protocol P(role W[0..N-1]) { barrier }
+$ cat > l
+?$ judge p l --n 1
+status 1
+pabble: syntax at 2:45
+$ cat > p
+const N = 2..max;
+global protocol P(role W[0..N-1]) {
+  A() from W[0] to W[N-1];
+}
+$ judge p none --n 1
+status 12
+pabble: N = 1 outside 2..max
+$ judge p none --n 2
+status 3
+pabble: read fault
+";
 
 #[test]
 fn the_protocol_comes_first(rt: HostRuntime) -> Result<(), Fail> {
-    let broken = "const N = 2..max;\nglobal protocol P(role W[0..N-1]) { barrier }\n";
-    let judge = ["judge", "p", "l", "--n", "1"];
-    let (status, written) = answered(rt.alloc(), &judge, broken, b"?")?;
-    assert!(rt; status == Status::Refused);
-    assert!(rt; written.as_slice() == b"pabble: syntax at 2:45\n".as_slice());
-    let missing = ["judge", "p", "none", "--n", "1"];
-    let (status, _written) = answered(rt.alloc(), &missing, FIRST, b"")?;
-    assert!(rt; status == Status::OutOfRange);
-    let missing = ["judge", "p", "none", "--n", "2"];
-    let (status, written) = answered(rt.alloc(), &missing, FIRST, b"")?;
-    assert!(rt; status == Status::ReadFault);
-    assert!(rt; written.as_slice() == b"pabble: read fault\n".as_slice());
-    Ok(())
+    play(&rt, rt.alloc(), ORDER)
 }
