@@ -187,28 +187,49 @@ fn is_next_label(alloc: Global, before: &[u8], line: &[u8]) -> Result<bool, NoMe
         name: name_of(before)?,
         payload: Payload::Unit,
     };
-    let names = names_of(alloc, label.name)?;
-    Ok(read_label(alloc, &[label], &names, line)?.is_some())
+    match names_of(alloc, label.name) {
+        Ok(names) => Ok(read_label(alloc, &[label], &names, line)?.is_some()),
+        Err(error) => Err(error),
+    }
 }
 
 #[test]
 fn reads_no_name_twice(rt: HostRuntime) -> Result<(), Fail> {
-    assert!(rt; is_next_label(rt.alloc(), b"A", b"/* label B () */\n")?);
-    assert!(rt; is_next_label(rt.alloc(), b"A", b"/* label a () */\n")?);
-    assert!(rt; is_next_label(rt.alloc(), b"A", b"/* label AA () */\n")?);
-    assert!(rt; !is_next_label(rt.alloc(), b"A", b"/* label A () */\n")?);
-    assert!(rt; !is_next_label(rt.alloc(), b"A", b"/* label A int32[1] */\n")?);
+    for (is_read, line) in [
+        (true, "/* label B () */\n"),
+        (true, "/* label a () */\n"),
+        (true, "/* label AA () */\n"),
+        (false, "/* label A () */\n"),
+        (false, "/* label A int32[1] */\n"),
+    ] {
+        assert!(rt;
+            is_next_label(rt.alloc(), b"A", line.as_bytes())? == is_read,
+            "{line}"
+        );
+    }
     Ok(())
+}
+
+/// Whether the line is a role's with this name and these numbers.
+fn has_values(
+    alloc: Global,
+    line: &[u8],
+    name: &[u8],
+    low: i32,
+    high: i32,
+) -> Result<bool, NoMemory> {
+    let names = Names::new(alloc);
+    match read_role(alloc, from_two(), &[], &names, line)? {
+        Some(role) => {
+            Ok(role.name.bytes() == name && role.low.off == low && role.high.off == high)
+        }
+        None => Ok(false),
+    }
 }
 
 #[test]
 fn reads_values(rt: HostRuntime) -> Result<(), Fail> {
-    let names = Names::new(rt.alloc());
     let line = b"/* role W_1 -3 to N + 17 */\n";
-    let read = read_role(rt.alloc(), from_two(), &[], &names, line)?;
-    let role = read.ok_or("no role")?;
-    assert!(rt; role.name.bytes() == b"W_1".as_slice());
-    assert!(rt; role.low.off == -3);
-    assert!(rt; role.high.off == 17);
+    assert!(rt; has_values(rt.alloc(), line, b"W_1", -3, 17)?);
     Ok(())
 }

@@ -59,65 +59,100 @@ fn tables(alloc: Global) -> Result<Local, NoMemory> {
     })
 }
 
+/// The tables with a second label, which holds as much as the first.
+fn two_labels(alloc: Global) -> Result<Local, NoMemory> {
+    let name = Name::of(b"Q").ok_or(NoMemory)?;
+    let payload = Payload::Uint32(2);
+    let mut local = tables(alloc)?;
+    local.labels.push(CoreLabel { name, payload })?;
+    Ok(local)
+}
+
+/// Whether the line goes on from the lines before.
+fn goes_on(alloc: Global, local: &Local, reader: &mut Reader, depth: u32, item: Item) -> bool {
+    matches!(reader.take(alloc, local, depth, item), Ok(true))
+}
+
+/// Whether the line is known not to go on from the lines before.
+fn is_refused(alloc: Global, local: &Local, reader: &mut Reader, depth: u32, item: Item) -> bool {
+    matches!(reader.take(alloc, local, depth, item), Ok(false))
+}
+
+fn opens(alloc: Global, local: &Local, reader: &mut Reader) -> bool {
+    match only_first(alloc) {
+        Ok(guards) => goes_on(alloc, local, reader, 1, Item::IfOpen { guards }),
+        Err(_) => false,
+    }
+}
+
+fn takes_a_message(alloc: Global, local: &Local, reader: &mut Reader) -> bool {
+    let to = first_rank();
+    goes_on(alloc, local, reader, 1, Item::Makes { label: 0 })
+        && goes_on(alloc, local, reader, 1, Item::Sends { label: 0, to })
+        && reader.statements() == 1
+        && reader.open() == 1
+}
+
 #[test]
 fn reads_a_message(rt: HostRuntime) -> Result<(), Fail> {
-    let alloc = rt.alloc();
-    let local = tables(alloc)?;
-    let mut reader = Reader::new(alloc);
-    let to = first_rank();
-    assert!(rt; reader.take(alloc, &local, 1, Item::Makes { label: 0 })?);
-    assert!(rt; reader.take(alloc, &local, 1, Item::Sends { label: 0, to })?);
-    assert!(rt; reader.statements() == 1);
-    assert!(rt; reader.open() == 1);
+    let local = tables(rt.alloc())?;
+    let mut reader = Reader::new(rt.alloc());
+    assert!(rt; takes_a_message(rt.alloc(), &local, &mut reader));
     assert!(rt; reader.finish().is_some());
     Ok(())
+}
+
+fn refuses_a_brace(alloc: Global, local: &Local, reader: &mut Reader) -> bool {
+    opens(alloc, local, reader)
+        && goes_on(alloc, local, reader, 2, Item::Makes { label: 0 })
+        && is_refused(alloc, local, reader, 1, Item::Close)
 }
 
 #[test]
 fn refuses_a_brace_amid_a_message(rt: HostRuntime) -> Result<(), Fail> {
-    let alloc = rt.alloc();
-    let local = tables(alloc)?;
-    let mut reader = Reader::new(alloc);
-    let guards = only_first(alloc)?;
-    assert!(rt; reader.take(alloc, &local, 1, Item::IfOpen { guards })?);
-    assert!(rt; reader.take(alloc, &local, 2, Item::Makes { label: 0 })?);
-    assert!(rt; !reader.take(alloc, &local, 1, Item::Close)?);
+    let local = tables(rt.alloc())?;
+    let mut reader = Reader::new(rt.alloc());
+    assert!(rt; refuses_a_brace(rt.alloc(), &local, &mut reader));
     Ok(())
+}
+
+fn takes_a_choice(alloc: Global, local: &Local, reader: &mut Reader) -> bool {
+    opens(alloc, local, reader)
+        && goes_on(alloc, local, reader, 2, Item::Chooses { kernel: 0 })
+        && goes_on(alloc, local, reader, 1, Item::Close)
+        && goes_on(alloc, local, reader, 1, Item::PickOpen { branch: 0 })
+        && goes_on(alloc, local, reader, 2, Item::Barrier)
+        && reader.open() == 2
+        && goes_on(alloc, local, reader, 1, Item::ElseOpen)
+        && goes_on(alloc, local, reader, 1, Item::Close)
+        && reader.statements() == 2
 }
 
 #[test]
 fn reads_a_choice(rt: HostRuntime) -> Result<(), Fail> {
-    let alloc = rt.alloc();
-    let local = tables(alloc)?;
-    let mut reader = Reader::new(alloc);
-    let guards = only_first(alloc)?;
-    assert!(rt; reader.take(alloc, &local, 1, Item::IfOpen { guards })?);
-    assert!(rt; reader.take(alloc, &local, 2, Item::Chooses { kernel: 0 })?);
-    assert!(rt; reader.take(alloc, &local, 1, Item::Close)?);
-    assert!(rt; reader.take(alloc, &local, 1, Item::PickOpen { branch: 0 })?);
-    assert!(rt; reader.take(alloc, &local, 2, Item::Barrier)?);
-    assert!(rt; reader.open() == 2);
-    assert!(rt; reader.take(alloc, &local, 1, Item::ElseOpen)?);
-    assert!(rt; reader.take(alloc, &local, 1, Item::Close)?);
-    assert!(rt; reader.statements() == 2);
+    let local = tables(rt.alloc())?;
+    let mut reader = Reader::new(rt.alloc());
+    assert!(rt; takes_a_choice(rt.alloc(), &local, &mut reader));
     assert!(rt; reader.finish().is_some());
     Ok(())
 }
 
-#[test]
-fn reads_a_reduction_whose_label_is_not_spelled(rt: HostRuntime) -> Result<(), Fail> {
-    let alloc = rt.alloc();
-    let mut local = tables(alloc)?;
-    let name = Name::of(b"Q").ok_or(NoMemory)?;
-    let payload = Payload::Uint32(2);
-    local.labels.push(CoreLabel { name, payload })?;
-    let mut reader = Reader::new(alloc);
+fn takes_a_reduction(alloc: Global, local: &Local, reader: &mut Reader) -> bool {
+    if !goes_on(alloc, local, reader, 1, Item::Makes { label: 1 }) {
+        return false;
+    }
     let op = Op::Sum;
     let side = Side::Incoming;
-    assert!(rt; reader.take(alloc, &local, 1, Item::Makes { label: 1 })?);
-    let item = reader.relabelled(&local, Item::Allreduces { label: 0, op });
-    assert!(rt; reader.take(alloc, &local, 1, item)?);
-    assert!(rt; reader.take(alloc, &local, 1, Item::Takes { label: 1, side })?);
+    let item = reader.relabelled(local, Item::Allreduces { label: 0, op });
+    goes_on(alloc, local, reader, 1, item)
+        && goes_on(alloc, local, reader, 1, Item::Takes { label: 1, side })
+}
+
+#[test]
+fn reads_a_reduction_whose_label_is_not_spelled(rt: HostRuntime) -> Result<(), Fail> {
+    let local = two_labels(rt.alloc())?;
+    let mut reader = Reader::new(rt.alloc());
+    assert!(rt; takes_a_reduction(rt.alloc(), &local, &mut reader));
     assert!(rt; reader.finish().is_some());
     Ok(())
 }

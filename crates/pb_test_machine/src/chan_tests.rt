@@ -7,13 +7,10 @@ fn messages_are_taken_by_place(rt: HostRuntime) -> Result<(), Fail> {
     assert!(rt; channels.head(0, 1) == None);
     let words = Words::of(vec![in rt.alloc(); 7, 8]?);
     channels.put(rt.alloc(), 0, 1, 5, words)?;
-    assert!(rt; channels.head(0, 1) == Some(5));
-    assert!(rt; channels.head(1, 0) == None);
-    assert!(rt; channels.first(0, 1, 5) == Some(0));
-    assert!(rt; channels.in_flight() == 2);
+    assert!(rt; channels.head(0, 1) == Some(5) && channels.head(1, 0) == None);
+    assert!(rt; channels.first(0, 1, 5) == Some(0) && channels.in_flight() == 2);
     assert!(rt; channels.take(0, 1, 0).list().len() == 2);
-    assert!(rt; channels.head(0, 1) == None);
-    assert!(rt; channels.in_flight() == 0);
+    assert!(rt; channels.head(0, 1) == None && channels.in_flight() == 0);
     Ok(())
 }
 

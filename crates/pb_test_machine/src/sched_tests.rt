@@ -29,40 +29,33 @@ fn reads_what_is_printed(rt: HostRuntime) -> Result<(), Fail> {
 }
 
 #[test]
-fn tells_the_first_bad_line(rt: HostRuntime) -> Result<(), Fail> {
-    let bad = |line| Some(ScheduleFault::BadLine(line));
-    assert!(rt; fault_of(rt.alloc(), b"") == bad(1));
-    assert!(rt; fault_of(rt.alloc(), b"pabble schedule 1\n") == bad(2));
+fn tells_the_first_bad_line(rt: HostRuntime) {
+    for (line, text) in [
+        (1, ""),
+        (2, "pabble schedule 1\n"),
+        (2, "pabble schedule 1\nseed 00\n"),
+        (2, "pabble schedule 1\nseed 18446744073709551616\n"),
+        (4, "pabble schedule 1\nseed 1\n7\n7"),
+        (3, "pabble schedule 2\nseed 1\n0 x\n"),
+        (3, "pabble schedule 2\nseed 1\n0\n"),
+        (3, "pabble schedule 1\nseed 1\n4294967296\n"),
+    ] {
+        let bad = Some(ScheduleFault::BadLine(line));
+        assert!(rt; fault_of(rt.alloc(), text.as_bytes()) == bad, "{text}");
+    }
     assert!(rt; fault_of(rt.alloc(), b"pabble schedule 1\nseed 0\n") == None);
-    assert!(rt; fault_of(rt.alloc(), b"pabble schedule 1\nseed 00\n") == bad(2));
-    assert!(rt;
-        fault_of(
-            rt.alloc(),
-            b"pabble schedule 1\nseed 18446744073709551616\n"
-        ) == bad(2)
-    );
-    assert!(rt; fault_of(rt.alloc(), b"pabble schedule 1\nseed 1\n7\n7") == bad(4));
-    assert!(rt; fault_of(rt.alloc(), b"pabble schedule 2\nseed 1\n0 x\n") == bad(3));
-    assert!(rt; fault_of(rt.alloc(), b"pabble schedule 2\nseed 1\n0\n") == bad(3));
-    assert!(rt; fault_of(rt.alloc(), b"pabble schedule 1\nseed 1\n4294967296\n") == bad(3));
-    Ok(())
 }
 
 #[test]
-fn picks_are_those_of_the_draws(rt: HostRuntime) -> Result<(), Fail> {
+fn picks_are_those_of_the_draws(rt: HostRuntime) {
     let ready = [2, 3, 5, 7];
     let mut picks = Picks::new(42);
     let draw = picks.next();
-    assert!(rt; draw.among(&ready) == 5);
-    assert!(rt; draw.mode == Mode::Waiting);
+    assert!(rt; draw.among(&ready) == 5 && draw.mode == Mode::Waiting);
     let draw = picks.next();
-    assert!(rt; draw.among(&ready) == 2);
-    assert!(rt; draw.mode == Mode::Eager);
-    assert!(rt; pick(42, 0, &ready) == 5);
-    assert!(rt; pick_mode(42, 0) == Mode::Waiting);
-    assert!(rt; pick(7, 1, &ready) == 5);
-    assert!(rt; pick_mode(7, 0) == Mode::Eager);
-    Ok(())
+    assert!(rt; draw.among(&ready) == 2 && draw.mode == Mode::Eager);
+    assert!(rt; pick(42, 0, &ready) == 5 && pick_mode(42, 0) == Mode::Waiting);
+    assert!(rt; pick(7, 1, &ready) == 5 && pick_mode(7, 0) == Mode::Eager);
 }
 
 fn name_of(text: &[u8]) -> Result<Name, NoMemory> {
@@ -108,61 +101,62 @@ fn tree(alloc: Global) -> Result<CTree, NoMemory> {
     })
 }
 
-fn is_line(alloc: Global, tree: &CTree, action: Action, line: &[u8]) -> Result<bool, NoMemory> {
-    Ok(log_line(alloc, tree, &action)?.as_slice() == line)
+fn is_line(alloc: Global, action: Action, line: &[u8]) -> Result<bool, NoMemory> {
+    let tree = tree(alloc)?;
+    Ok(log_line(alloc, &tree, &action)?.as_slice() == line)
 }
 
 #[test]
 fn logs_kernels(rt: HostRuntime) -> Result<(), Fail> {
-    let tree = tree(rt.alloc())?;
     let choose = Action::Choose {
         rank: 0,
         kernel: 0,
         answer: 1,
     };
-    assert!(rt; is_line(rt.alloc(), &tree, choose, b"0 choose K 1\n")?);
+    assert!(rt; is_line(rt.alloc(), choose, b"0 choose K 1\n")?);
     let run = Action::Run {
         rank: 12,
         kernel: 0,
     };
-    assert!(rt; is_line(rt.alloc(), &tree, run, b"12 run K\n")?);
+    assert!(rt; is_line(rt.alloc(), run, b"12 run K\n")?);
     Ok(())
 }
 
 #[test]
 fn logs_messages(rt: HostRuntime) -> Result<(), Fail> {
-    let tree = tree(rt.alloc())?;
+    let words = Words::of(vec![in rt.alloc(); 5, 4_294_967_295]?);
     let send = Action::Send {
         rank: 0,
         to: 1,
         label: 0,
-        words: Words::of(vec![in rt.alloc(); 5, 4_294_967_295]?),
+        words,
     };
-    assert!(rt; is_line(rt.alloc(), &tree, send, b"0 send 1 A 5 -1\n")?);
+    assert!(rt; is_line(rt.alloc(), send, b"0 send 1 A 5 -1\n")?);
+    let words = Words::of(vec![in rt.alloc(); 4_294_967_295]?);
     let recv = Action::Recv {
         rank: 1,
         from: 0,
         label: 1,
-        words: Words::of(vec![in rt.alloc(); 4_294_967_295]?),
+        words,
     };
-    assert!(rt; is_line(rt.alloc(), &tree, recv, b"1 recv 0 B 4294967295\n")?);
+    assert!(rt; is_line(rt.alloc(), recv, b"1 recv 0 B 4294967295\n")?);
     Ok(())
 }
 
 #[test]
 fn logs_collectives(rt: HostRuntime) -> Result<(), Fail> {
-    let tree = tree(rt.alloc())?;
     let enter = Action::Enter {
         rank: 3,
         what: Joint::Barrier,
         words: Words::of(Vec::new(rt.alloc())),
     };
-    assert!(rt; is_line(rt.alloc(), &tree, enter, b"3 enter barrier\n")?);
+    assert!(rt; is_line(rt.alloc(), enter, b"3 enter barrier\n")?);
+    let words = Words::of(vec![in rt.alloc(); 2_147_483_648]?);
     let leave = Action::Leave {
         rank: 0,
         what: Joint::Labelled(0),
-        words: Words::of(vec![in rt.alloc(); 2_147_483_648]?),
+        words,
     };
-    assert!(rt; is_line(rt.alloc(), &tree, leave, b"0 leave A -2147483648\n")?);
+    assert!(rt; is_line(rt.alloc(), leave, b"0 leave A -2147483648\n")?);
     Ok(())
 }
