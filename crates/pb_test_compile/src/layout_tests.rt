@@ -1,18 +1,20 @@
 use crate::files::is_laid_out;
 
-/// What is shown, a file that shows it, and its endpoint program.
-const LAID_OUT: [(&str, &str, &str); 5] = [
-    (
-        "no statements leave no lines",
-        "const N = 2..max;\nglobal protocol P(role W[0..N-1]) { }\n",
-        "local P\nN 2 to max\ndone\n",
-    ),
-    (
-        "one message",
-        "const N = 2..max;
+/// What a file shows, the file, and its endpoint program.
+const FILES: &str = "\
+no statements leave no lines
+const N = 2..max;
+global protocol P(role W[0..N-1]) { }
+==
+local P
+N 2 to max
+done
+--
+one message
+const N = 2..max;
 global protocol P(role W[0..N-1]) { A() from W[0] to W[N-1]; }
-",
-        "local P
+==
+local P
 N 2 to max
 when W[0]
   send A to W[N-1]
@@ -21,11 +23,9 @@ when W[N-1]
   recv A from W[0]
 end
 done
-",
-    ),
-    (
-        "a loop is passed by one test",
-        "const N = 4..max;
+--
+a loop is passed by one test
+const N = 4..max;
 global protocol P(role W[0..N-1]) {
   rec X {
     choice K at W[0] { A() from W[0] to W[1]; continue X; }
@@ -33,8 +33,8 @@ global protocol P(role W[0..N-1]) {
   }
   C() from W[2] to W[3];
 }
-",
-        "local P
+==
+local P
 N 4 to max
 when W[0..1]
   loop 0
@@ -68,19 +68,17 @@ when W[3]
   recv C from W[2]
 end
 done
-",
-    ),
-    (
-        "a loop of nobody has no number",
-        "const N = 2..max;
+--
+a loop of nobody has no number
+const N = 2..max;
 global protocol P(role W[0..N-1]) {
   rec X { }
   rec Y {
     rec Z { A() from W[0] to W[1]; continue Y; }
   }
 }
-",
-        "local P
+==
+local P
 N 2 to max
 when W[0..1]
   loop 0
@@ -98,17 +96,15 @@ when W[0..1]
   end
 end
 done
-",
-    ),
-    (
-        "who is told by another rank has its own index",
-        "const N = 3..max;
+--
+who is told by another rank has its own index
+const N = 3..max;
 global protocol P(role W[0..N-1]) {
   choice K at W[0] { A() from W[0] to W[1]; B() from W[1] to W[2]; }
   or { C() from W[0] to W[1]; D() from W[1] to W[2]; }
 }
-",
-        "local P
+==
+local P
 N 3 to max
 when W[0..2]
   own I
@@ -147,16 +143,11 @@ when W[0..2]
   end
 end
 done
-",
-    ),
-];
+";
 
 #[test]
 fn files_are_laid_out(rt: HostRuntime) {
-    for (what, text, wanted) in &LAID_OUT {
-        assert!(rt;
-            is_laid_out(rt.alloc(), text.as_bytes(), wanted.as_bytes()),
-            "{what}"
-        );
+    for file in FILES.split("--\n") {
+        assert!(rt; is_laid_out(rt.alloc(), file), "{file}");
     }
 }

@@ -3,7 +3,6 @@ use pb_cread_statements::{
 };
 use pb_local::{CoreKernel, CoreLabel, KernelKind, NRange, Name, Role};
 use std::alloc::Global;
-use std::test::Fail;
 
 fn fixed(off: i32) -> Lin {
     Lin {
@@ -31,26 +30,46 @@ fn only_first(alloc: Global) -> Result<Guards, NoMemory> {
     Ok(guards)
 }
 
-fn tables(alloc: Global) -> Result<Local, NoMemory> {
-    let name = Name::of(b"P").ok_or(NoMemory)?;
-    let mut roles = Vec::new(alloc);
-    roles.push(Role {
-        name,
+fn name_of(word: &str) -> Result<Name, NoMemory> {
+    Name::of(word.as_bytes()).ok_or(NoMemory)
+}
+
+fn roles(alloc: Global) -> Result<Vec<Role>, NoMemory> {
+    let role = Role {
+        name: name_of("P")?,
         low: fixed(0),
         high: fixed(1),
-    })?;
+    };
+    Ok(vec![in alloc; role]?)
+}
+
+/// Labels with these names, each of two words.
+fn labels(alloc: Global, names: &str) -> Result<Vec<CoreLabel>, NoMemory> {
     let mut labels = Vec::new(alloc);
-    labels.push(CoreLabel {
-        name,
-        payload: Payload::Uint32(2),
-    })?;
-    let mut kernels = Vec::new(alloc);
-    kernels.push(CoreKernel {
-        name,
+    for name in names.split(' ') {
+        labels.push(CoreLabel {
+            name: name_of(name)?,
+            payload: Payload::Uint32(2),
+        })?;
+    }
+    Ok(labels)
+}
+
+fn kernels(alloc: Global) -> Result<Vec<CoreKernel>, NoMemory> {
+    let kernel = CoreKernel {
+        name: name_of("P")?,
         kind: KernelKind::Choice,
-    })?;
+    };
+    Ok(vec![in alloc; kernel]?)
+}
+
+fn tables(alloc: Global, names: &str) -> Result<Local, NoMemory> {
+    let protocol = name_of("P")?;
+    let roles = roles(alloc)?;
+    let labels = labels(alloc, names)?;
+    let kernels = kernels(alloc)?;
     Ok(Local {
-        protocol: name,
+        protocol,
         range: NRange { low: 2, high: None },
         roles,
         labels,
@@ -59,100 +78,89 @@ fn tables(alloc: Global) -> Result<Local, NoMemory> {
     })
 }
 
-/// The tables with a second label, which holds as much as the first.
-fn two_labels(alloc: Global) -> Result<Local, NoMemory> {
-    let name = Name::of(b"Q").ok_or(NoMemory)?;
-    let payload = Payload::Uint32(2);
-    let mut local = tables(alloc)?;
-    local.labels.push(CoreLabel { name, payload })?;
-    Ok(local)
-}
-
-/// Whether the line goes on from the lines before.
-fn goes_on(alloc: Global, local: &Local, reader: &mut Reader, depth: u32, item: Item) -> bool {
-    matches!(reader.take(alloc, local, depth, item), Ok(true))
-}
-
-/// Whether the line is known not to go on from the lines before.
-fn is_refused(alloc: Global, local: &Local, reader: &mut Reader, depth: u32, item: Item) -> bool {
-    matches!(reader.take(alloc, local, depth, item), Ok(false))
-}
-
-fn opens(alloc: Global, local: &Local, reader: &mut Reader) -> bool {
-    match only_first(alloc) {
-        Ok(guards) => goes_on(alloc, local, reader, 1, Item::IfOpen { guards }),
-        Err(_) => false,
-    }
-}
-
-fn takes_a_message(alloc: Global, local: &Local, reader: &mut Reader) -> bool {
+/// The line that a word stands for.
+fn item_of(alloc: Global, word: &str) -> Option<Item> {
     let to = first_rank();
-    goes_on(alloc, local, reader, 1, Item::Makes { label: 0 })
-        && goes_on(alloc, local, reader, 1, Item::Sends { label: 0, to })
-        && reader.statements() == 1
-        && reader.open() == 1
-}
-
-#[test]
-fn reads_a_message(rt: HostRuntime) -> Result<(), Fail> {
-    let local = tables(rt.alloc())?;
-    let mut reader = Reader::new(rt.alloc());
-    assert!(rt; takes_a_message(rt.alloc(), &local, &mut reader));
-    assert!(rt; reader.finish().is_some());
-    Ok(())
-}
-
-fn refuses_a_brace(alloc: Global, local: &Local, reader: &mut Reader) -> bool {
-    opens(alloc, local, reader)
-        && goes_on(alloc, local, reader, 2, Item::Makes { label: 0 })
-        && is_refused(alloc, local, reader, 1, Item::Close)
-}
-
-#[test]
-fn refuses_a_brace_amid_a_message(rt: HostRuntime) -> Result<(), Fail> {
-    let local = tables(rt.alloc())?;
-    let mut reader = Reader::new(rt.alloc());
-    assert!(rt; refuses_a_brace(rt.alloc(), &local, &mut reader));
-    Ok(())
-}
-
-fn takes_a_choice(alloc: Global, local: &Local, reader: &mut Reader) -> bool {
-    opens(alloc, local, reader)
-        && goes_on(alloc, local, reader, 2, Item::Chooses { kernel: 0 })
-        && goes_on(alloc, local, reader, 1, Item::Close)
-        && goes_on(alloc, local, reader, 1, Item::PickOpen { branch: 0 })
-        && goes_on(alloc, local, reader, 2, Item::Barrier)
-        && reader.open() == 2
-        && goes_on(alloc, local, reader, 1, Item::ElseOpen)
-        && goes_on(alloc, local, reader, 1, Item::Close)
-        && reader.statements() == 2
-}
-
-#[test]
-fn reads_a_choice(rt: HostRuntime) -> Result<(), Fail> {
-    let local = tables(rt.alloc())?;
-    let mut reader = Reader::new(rt.alloc());
-    assert!(rt; takes_a_choice(rt.alloc(), &local, &mut reader));
-    assert!(rt; reader.finish().is_some());
-    Ok(())
-}
-
-fn takes_a_reduction(alloc: Global, local: &Local, reader: &mut Reader) -> bool {
-    if !goes_on(alloc, local, reader, 1, Item::Makes { label: 1 }) {
-        return false;
-    }
     let op = Op::Sum;
     let side = Side::Incoming;
-    let item = reader.relabelled(local, Item::Allreduces { label: 0, op });
-    goes_on(alloc, local, reader, 1, item)
-        && goes_on(alloc, local, reader, 1, Item::Takes { label: 1, side })
+    match word {
+        "make_0" => Some(Item::Makes { label: 0 }),
+        "make_1" => Some(Item::Makes { label: 1 }),
+        "send_0" => Some(Item::Sends { label: 0, to }),
+        "sum_0" => Some(Item::Allreduces { label: 0, op }),
+        "take_1" => Some(Item::Takes { label: 1, side }),
+        "choose_0" => Some(Item::Chooses { kernel: 0 }),
+        "pick_0" => Some(Item::PickOpen { branch: 0 }),
+        "barrier" => Some(Item::Barrier),
+        "else" => Some(Item::ElseOpen),
+        "close" => Some(Item::Close),
+        "if" => match only_first(alloc) {
+            Ok(guards) => Some(Item::IfOpen { guards }),
+            Err(_) => None,
+        },
+        _ => None,
+    }
+}
+
+/// Whether a line, which is given by its depth and its word, goes on from the lines before.
+fn goes_on(alloc: Global, local: &Local, reader: &mut Reader, line: &str) -> Option<bool> {
+    let (depth, word) = line.split_once(' ')?;
+    let depth = depth.parse().ok()?;
+    let item = reader.relabelled(local, item_of(alloc, word)?);
+    reader.take(alloc, local, depth, item).ok()
+}
+
+/// How many of these lines go on, up to the first that doesn't.
+fn taken(alloc: Global, local: &Local, reader: &mut Reader, lines: &str) -> Option<u32> {
+    let mut taken = 0_u32;
+    for line in lines.split(", ") {
+        if !goes_on(alloc, local, reader, line)? {
+            return Some(taken);
+        }
+        taken = taken.saturating_add(1);
+    }
+    Some(taken)
+}
+
+fn read_in(alloc: Global, local: &Local, lines: &str) -> Option<(u32, u32, usize, bool)> {
+    let mut reader = Reader::new(alloc);
+    let taken = taken(alloc, local, &mut reader, lines)?;
+    let statements = reader.statements();
+    let open = reader.open();
+    Some((taken, statements, open, reader.finish().is_some()))
+}
+
+/// How many of these lines go on, how many statements have begun then, how many braces are open, and whether these are all
+/// lines of their statements.
+fn read(alloc: Global, labels: &str, lines: &str) -> Option<(u32, u32, usize, bool)> {
+    match tables(alloc, labels) {
+        Ok(local) => read_in(alloc, &local, lines),
+        Err(_) => None,
+    }
 }
 
 #[test]
-fn reads_a_reduction_whose_label_is_not_spelled(rt: HostRuntime) -> Result<(), Fail> {
-    let local = two_labels(rt.alloc())?;
-    let mut reader = Reader::new(rt.alloc());
-    assert!(rt; takes_a_reduction(rt.alloc(), &local, &mut reader));
-    assert!(rt; reader.finish().is_some());
-    Ok(())
+fn reads_a_message(rt: HostRuntime) {
+    let lines = "1 make_0, 1 send_0";
+    assert!(rt; read(rt.alloc(), "P", lines) == Some((2, 1, 1, true)));
+}
+
+#[test]
+fn refuses_a_brace_amid_a_message(rt: HostRuntime) {
+    let lines = "1 if, 2 make_0, 1 close";
+    assert!(rt; read(rt.alloc(), "P", lines).map(|read| read.0) == Some(2));
+}
+
+#[test]
+fn reads_a_choice(rt: HostRuntime) {
+    let open = "1 if, 2 choose_0, 1 close, 1 pick_0, 2 barrier";
+    assert!(rt; read(rt.alloc(), "P", open) == Some((5, 2, 2, false)));
+    let whole = "1 if, 2 choose_0, 1 close, 1 pick_0, 2 barrier, 1 else, 1 close";
+    assert!(rt; read(rt.alloc(), "P", whole) == Some((7, 2, 1, true)));
+}
+
+#[test]
+fn reads_a_reduction_whose_label_is_not_spelled(rt: HostRuntime) {
+    let lines = "1 make_1, 1 sum_0, 1 take_1";
+    assert!(rt; read(rt.alloc(), "P Q", lines) == Some((3, 1, 1, true)));
 }
