@@ -3,7 +3,6 @@ ghost use Rattle.pb_cread_frame.specs.Views.{IsReader};
 
 use pb_cread_frame::{FrameReader, NoMemory, is_line};
 use std::alloc::Global;
-use std::test::Fail;
 
 // Two roles, two labels of which one carries words, and a choice kernel with one line in its body, line 34.
 const HEAD: &str = "\
@@ -187,7 +186,7 @@ fn read_on(alloc: Global, reader: &mut FrameReader, text: &str) -> Result<Readin
 }
 
 #[test]
-fn reads_a_head(rt: HostRuntime) -> Result<(), Fail> {
+fn reads_a_head(rt: HostRuntime) -> Result<(), NoMemory> {
     let reading = read(rt.alloc(), HEAD)?;
     assert!(rt; reading.taken == 61 && reading.done);
     let text = format!(in rt.alloc(); "{HEAD}  MPI_Finalize();\n")?;
@@ -230,7 +229,7 @@ fn first_wrong(alloc: Global, change: Change) -> Result<usize, NoMemory> {
 }
 
 #[test]
-fn refuses_a_head_with_a_line_changed(rt: HostRuntime) -> Result<(), Fail> {
+fn refuses_a_head_with_a_line_changed(rt: HostRuntime) -> Result<(), NoMemory> {
     for (how, change) in [
         ("deleted", Change::Deleted),
         ("twice", Change::Doubled),
@@ -258,7 +257,7 @@ fn refuses_row(alloc: Global, row: &str) -> Result<bool, NoMemory> {
 }
 
 #[test]
-fn refuses_other_lines(rt: HostRuntime) -> Result<(), Fail> {
+fn refuses_other_lines(rt: HostRuntime) -> Result<(), NoMemory> {
     for row in OTHERS.split_inclusive('\n') {
         assert!(rt; refuses_row(rt.alloc(), row)?, "{row}");
     }
@@ -266,7 +265,7 @@ fn refuses_other_lines(rt: HostRuntime) -> Result<(), Fail> {
 }
 
 #[test]
-fn reads_64_roles(rt: HostRuntime) -> Result<(), Fail> {
+fn reads_64_roles(rt: HostRuntime) -> Result<(), NoMemory> {
     let text = with_roles(rt.alloc(), 65)?;
     assert!(rt; read(rt.alloc(), text.as_str())?.taken == 67);
     Ok(())

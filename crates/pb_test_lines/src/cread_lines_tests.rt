@@ -6,7 +6,6 @@ ghost use Rattle.pb_cread_lines.specs.Sample.{sample, role_named};
 use pb_cread_lines::{NoMemory, Tables, read_line};
 use pb_ctree::{Base, Lin, Local, NRange, Name, Role};
 use std::alloc::Global;
-use std::test::Fail;
 
 fn name_of(text: &[u8]) -> Result<Name, NoMemory>
     ensures { IfOk result (λ name. name ≡ text.now) }
@@ -83,7 +82,7 @@ fn is_sample_line(alloc: Global, line: &[u8]) -> Result<bool, NoMemory> {
 }
 
 #[test]
-fn reads_a_line(rt: HostRuntime) -> Result<(), Fail> {
+fn reads_a_line(rt: HostRuntime) -> Result<(), NoMemory> {
     let probe = b"  MPI_Probe(r_W(N, N - 1), MPI_ANY_TAG, MPI_COMM_WORLD, &st);";
     assert!(rt; is_sample_line(rt.alloc(), probe)?);
     Ok(())

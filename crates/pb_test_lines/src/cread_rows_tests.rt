@@ -4,7 +4,6 @@ use pb_cread_rows::{read_kernel, read_label, read_protocol, read_range, read_rol
 use pb_ctree::{CoreLabel, NRange, Name, NoMemory, Payload};
 use pb_text::Names;
 use std::alloc::Global;
-use std::test::Fail;
 
 // Which row of the tables a line is read as, or is not, and the line. A second label stands behind a label A.
 const ROWS: &str = "\
@@ -159,7 +158,7 @@ fn is_so(alloc: Global, row: &str) -> Result<bool, NoMemory> {
 }
 
 #[test]
-fn reads_rows_of_each_kind(rt: HostRuntime) -> Result<(), Fail> {
+fn reads_rows_of_each_kind(rt: HostRuntime) -> Result<(), NoMemory> {
     for row in ROWS.split_inclusive('\n') {
         assert!(rt; is_so(rt.alloc(), row)?, "{row}");
     }
@@ -167,7 +166,7 @@ fn reads_rows_of_each_kind(rt: HostRuntime) -> Result<(), Fail> {
 }
 
 #[test]
-fn a_row_has_one_line_feed(rt: HostRuntime) -> Result<(), Fail> {
+fn a_row_has_one_line_feed(rt: HostRuntime) -> Result<(), NoMemory> {
     assert!(rt; !is_protocol(rt.alloc(), b"/* protocol P */")?);
     assert!(rt; !is_protocol(rt.alloc(), b"/* protocol P */\n\n")?);
     Ok(())
@@ -191,7 +190,7 @@ fn has_values(
 }
 
 #[test]
-fn reads_values(rt: HostRuntime) -> Result<(), Fail> {
+fn reads_values(rt: HostRuntime) -> Result<(), NoMemory> {
     let line = b"/* role W_1 -3 to N + 17 */\n";
     assert!(rt; has_values(rt.alloc(), line, b"W_1", -3, 17)?);
     Ok(())

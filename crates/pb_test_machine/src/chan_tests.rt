@@ -1,8 +1,7 @@
-use pb_chan::{Channels, Words};
-use std::test::Fail;
+use pb_chan::{Channels, NoMemory, Words};
 
 #[test]
-fn messages_are_taken_by_place(rt: HostRuntime) -> Result<(), Fail> {
+fn messages_are_taken_by_place(rt: HostRuntime) -> Result<(), NoMemory> {
     let mut channels = Channels::new(rt.alloc());
     assert!(rt; channels.head(0, 1) == None);
     let words = Words::of(vec![in rt.alloc(); 7, 8]?);
@@ -15,7 +14,7 @@ fn messages_are_taken_by_place(rt: HostRuntime) -> Result<(), Fail> {
 }
 
 #[test]
-fn what_is_left_is_told_by_receiver(rt: HostRuntime) -> Result<(), Fail> {
+fn what_is_left_is_told_by_receiver(rt: HostRuntime) -> Result<(), NoMemory> {
     let mut channels = Channels::new(rt.alloc());
     assert!(rt; channels.any() == None);
     channels.put(rt.alloc(), 0, 3, 5, Words::of(vec![in rt.alloc(); 7]?))?;

@@ -1,8 +1,7 @@
-use pb_sim_ready::Ready;
-use std::test::Fail;
+use pb_sim_ready::{NoMemory, Ready};
 
 #[test]
-fn ready_numbers_ascend(rt: HostRuntime) -> Result<(), Fail> {
+fn ready_numbers_ascend(rt: HostRuntime) -> Result<(), NoMemory> {
     let mut ready = Ready::new(rt.alloc(), 5)?;
     ready.set(3, true);
     ready.set(1, true);
