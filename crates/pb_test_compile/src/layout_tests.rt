@@ -1,19 +1,20 @@
 use crate::files::is_laid_out;
-use std::test::Fail;
 
-#[test]
-fn no_statements_leave_no_lines(rt: HostRuntime) -> Result<(), Fail> {
-    let text = b"const N = 2..max;\nglobal protocol P(role W[0..N-1]) { }\n";
-    assert!(rt; is_laid_out(rt.alloc(), text, b"local P\nN 2 to max\ndone\n"));
-    Ok(())
-}
-
-#[test]
-fn one_message(rt: HostRuntime) -> Result<(), Fail> {
-    let text = b"const N = 2..max;
+/// What a file shows, the file, and its endpoint program.
+const FILES: &str = "\
+no statements leave no lines
+const N = 2..max;
+global protocol P(role W[0..N-1]) { }
+==
+local P
+N 2 to max
+done
+--
+one message
+const N = 2..max;
 global protocol P(role W[0..N-1]) { A() from W[0] to W[N-1]; }
-";
-    let wanted = b"local P
+==
+local P
 N 2 to max
 when W[0]
   send A to W[N-1]
@@ -22,14 +23,9 @@ when W[N-1]
   recv A from W[0]
 end
 done
-";
-    assert!(rt; is_laid_out(rt.alloc(), text, wanted));
-    Ok(())
-}
-
-#[test]
-fn a_loop_is_passed_by_one_test(rt: HostRuntime) -> Result<(), Fail> {
-    let text = b"const N = 4..max;
+--
+a loop is passed by one test
+const N = 4..max;
 global protocol P(role W[0..N-1]) {
   rec X {
     choice K at W[0] { A() from W[0] to W[1]; continue X; }
@@ -37,8 +33,8 @@ global protocol P(role W[0..N-1]) {
   }
   C() from W[2] to W[3];
 }
-";
-    let wanted = b"local P
+==
+local P
 N 4 to max
 when W[0..1]
   loop 0
@@ -72,22 +68,17 @@ when W[3]
   recv C from W[2]
 end
 done
-";
-    assert!(rt; is_laid_out(rt.alloc(), text, wanted));
-    Ok(())
-}
-
-#[test]
-fn a_loop_of_nobody_has_no_number(rt: HostRuntime) -> Result<(), Fail> {
-    let text = b"const N = 2..max;
+--
+a loop of nobody has no number
+const N = 2..max;
 global protocol P(role W[0..N-1]) {
   rec X { }
   rec Y {
     rec Z { A() from W[0] to W[1]; continue Y; }
   }
 }
-";
-    let wanted = b"local P
+==
+local P
 N 2 to max
 when W[0..1]
   loop 0
@@ -105,20 +96,15 @@ when W[0..1]
   end
 end
 done
-";
-    assert!(rt; is_laid_out(rt.alloc(), text, wanted));
-    Ok(())
-}
-
-#[test]
-fn who_is_told_by_another_rank_has_its_own_index(rt: HostRuntime) -> Result<(), Fail> {
-    let text = b"const N = 3..max;
+--
+who is told by another rank has its own index
+const N = 3..max;
 global protocol P(role W[0..N-1]) {
   choice K at W[0] { A() from W[0] to W[1]; B() from W[1] to W[2]; }
   or { C() from W[0] to W[1]; D() from W[1] to W[2]; }
 }
-";
-    let wanted = b"local P
+==
+local P
 N 3 to max
 when W[0..2]
   own I
@@ -158,6 +144,10 @@ when W[0..2]
 end
 done
 ";
-    assert!(rt; is_laid_out(rt.alloc(), text, wanted));
-    Ok(())
+
+#[test]
+fn files_are_laid_out(rt: HostRuntime) {
+    for file in FILES.split("--\n") {
+        assert!(rt; is_laid_out(rt.alloc(), file), "{file}");
+    }
 }

@@ -1,9 +1,7 @@
-use crate::worlds::{file_of, judged};
+use crate::worlds::{file_of, is_judged};
 use pb_cli_judge::{Status, judge};
-use pb_io::{MemFolder, MemSink};
+use pb_io::{MemFolder, MemSink, NoMemory};
 use std::alloc::Global;
-use std::process::Abort;
-use std::test::Fail;
 
 const FIRST: &str = "const N = 2..max;
 global protocol P(role W[0..N-1]) {
@@ -33,216 +31,148 @@ global protocol P(role W[0..N-1]) {
 }
 ";
 
-/// One row: a protocol, a log and N, and the status and the line that are wanted.
-#[derive(Clone, Copy)]
-struct Row<'a> {
-    text: &'a str,
-    log: &'a str,
-    n: u32,
-    status: Status,
-    line: &'a str,
+/// Whether `judge` answers to the log before an arrow what stands behind it: the exit status, and the line.
+fn is_so(alloc: Global, file: &str, n: u32, row: &str) -> Result<bool, NoMemory> {
+    let Some((log, answer)) = row.split_once("=> ") else {
+        return Ok(false);
+    };
+    match answer.split_once(' ') {
+        Some((code, line)) => {
+            let code = code.parse().unwrap_or(u8::MAX);
+            is_judged(alloc, file, log, n, code, line)
+        }
+        None => Ok(false),
+    }
 }
 
-fn shown(rt: &impl Abort, alloc: Global, row: Row) -> Result<(), Fail> {
-    let (status, line) = judged(alloc, row.text, row.log, row.n)?;
-    assert!(rt; line.as_str() == row.line);
-    assert!(rt; status == row.status);
+/// Logs of a message, and what is answered to each.
+const LOGS: &str = "\
+0 send 1 A
+1 recv 0 A
+ended
+=> 0 whole
+--
+1 recv 0 A
+0 send 1 A
+=> 0 whole
+--
+0 send 1 A
+=> 0 covered
+--
+1 recv 0 A
+pabble: turns 4
+=> 0 covered
+--
+=> 0 covered
+--
+0 send 1 A
+0 send 1 A
+=> 17 pabble: log line 2, rank 0 goes beyond
+--
+0 send 5 A
+=> 18 pabble: log line 1 is malformed
+--
+1 send 0 A
+0 send 1 B
+=> 18 pabble: log line 2 is malformed
+";
+
+#[test]
+fn rules_on_a_message(rt: HostRuntime) -> Result<(), NoMemory> {
+    for row in LOGS.split("--\n") {
+        assert!(rt; is_so(rt.alloc(), FIRST, 2, row)?, "{row}");
+    }
     Ok(())
 }
 
-fn first(
-    rt: &impl Abort,
-    alloc: Global,
-    log: &str,
-    status: Status,
-    line: &str,
-) -> Result<(), Fail> {
-    let row = Row {
-        text: FIRST,
-        log,
-        n: 2,
-        status,
-        line,
-    };
-    shown(rt, alloc, row)
-}
-
 #[test]
-fn rules_on_a_message(rt: HostRuntime) -> Result<(), Fail> {
-    let alloc = rt.alloc();
-    first(
-        &rt,
-        alloc,
-        "0 send 1 A\n1 recv 0 A\nended\n",
-        Status::Done,
-        "whole\n",
-    )?;
-    first(
-        &rt,
-        alloc,
-        "1 recv 0 A\n0 send 1 A\n",
-        Status::Done,
-        "whole\n",
-    )?;
-    first(&rt, alloc, "0 send 1 A\n", Status::Done, "covered\n")?;
-    first(
-        &rt,
-        alloc,
-        "1 recv 0 A\npabble: turns 4\n",
-        Status::Done,
-        "covered\n",
-    )?;
-    first(&rt, alloc, "", Status::Done, "covered\n")?;
-    first(
-        &rt,
-        alloc,
-        "0 send 1 A\n0 send 1 A\n",
-        Status::NotCovered,
-        "pabble: log line 2, rank 0 goes beyond\n",
-    )?;
-    first(
-        &rt,
-        alloc,
-        "0 send 5 A\n",
-        Status::Log,
-        "pabble: log line 1 is malformed\n",
-    )?;
-    first(
-        &rt,
-        alloc,
-        "1 send 0 A\n0 send 1 B\n",
-        Status::Log,
-        "pabble: log line 2 is malformed\n",
-    )
-}
-
-#[test]
-fn names_the_first_action_of_the_run_that_differs(rt: HostRuntime) -> Result<(), Fail> {
-    let alloc = rt.alloc();
-    let row = Row {
-        text: RING,
-        log: "1 send 2 A\n",
-        n: 3,
-        status: Status::NotCovered,
-        line: "pabble: log line 1, rank 1 differs\n",
-    };
-    shown(&rt, alloc, row)?;
-    let row = Row {
-        text: RING,
-        log: "2 send 0 A\n1 send 2 A\n",
-        n: 3,
-        status: Status::NotCovered,
-        line: "pabble: log line 2, rank 1 differs\n",
-    };
-    shown(&rt, alloc, row)
+fn names_the_first_action_of_the_run_that_differs(rt: HostRuntime) -> Result<(), NoMemory> {
+    for row in [
+        "1 send 2 A\n=> 17 pabble: log line 1, rank 1 differs\n",
+        "2 send 0 A\n1 send 2 A\n=> 17 pabble: log line 2, rank 1 differs\n",
+    ] {
+        assert!(rt; is_so(rt.alloc(), RING, 3, row)?, "{row}");
+    }
+    Ok(())
 }
 
 /// A round of the loop, as far as it is the same in each.
 const ROUND: &str =
     "0 send 1 A 5 -1\n1 recv 0 A 5 -1\n0 enter S 3\n1 enter S 4\n0 leave S 7\n1 leave S 7\n";
 
-fn looped(
-    rt: &impl Abort,
-    alloc: Global,
-    end: &str,
-    status: Status,
-    line: &str,
-) -> Result<(), Fail> {
-    let log = format!(in alloc; "{ROUND}0 choose K 0\n0 send 1 Go\n1 recv 0 Go\n{ROUND}{end}")?;
-    let row = Row {
-        text: LOOP,
-        log: &log,
-        n: 2,
-        status,
-        line,
-    };
-    shown(rt, alloc, row)
+/// How logs of the loop end, and what is answered to each.
+const ENDS: &str = "\
+=> 0 covered
+--
+0 choose K 1
+0 send 1 Stop
+1 recv 0 Stop
+=> 0 whole
+--
+0 choose K 1
+0 send 1 Go
+=> 17 pabble: log line 17, rank 0 differs
+--
+0 choose K 1
+0 send 1 Stop
+1 recv 0 Stop
+0 choose K 1
+=> 17 pabble: log line 19, rank 0 goes beyond
+--
+0 choose K 7
+=> 17 pabble: log line 16, rank 0 differs
+";
+
+/// Whether what is said of a log with this end is so.
+fn is_so_of_loop(alloc: Global, row: &str) -> Result<bool, NoMemory> {
+    let row = format!(in alloc; "{ROUND}0 choose K 0\n0 send 1 Go\n1 recv 0 Go\n{ROUND}{row}")?;
+    is_so(alloc, LOOP, 2, row.as_str())
 }
 
 #[test]
-fn follows_a_loop(rt: HostRuntime) -> Result<(), Fail> {
-    let alloc = rt.alloc();
-    looped(&rt, alloc, "", Status::Done, "covered\n")?;
-    looped(
-        &rt,
-        alloc,
-        "0 choose K 1\n0 send 1 Stop\n1 recv 0 Stop\n",
-        Status::Done,
-        "whole\n",
-    )?;
-    looped(
-        &rt,
-        alloc,
-        "0 choose K 1\n0 send 1 Go\n",
-        Status::NotCovered,
-        "pabble: log line 17, rank 0 differs\n",
-    )?;
-    looped(
-        &rt,
-        alloc,
-        "0 choose K 1\n0 send 1 Stop\n1 recv 0 Stop\n0 choose K 1\n",
-        Status::NotCovered,
-        "pabble: log line 19, rank 0 goes beyond\n",
-    )?;
-    looped(
-        &rt,
-        alloc,
-        "0 choose K 7\n",
-        Status::NotCovered,
-        "pabble: log line 16, rank 0 differs\n",
-    )
+fn follows_a_loop(rt: HostRuntime) -> Result<(), NoMemory> {
+    for row in ENDS.split("--\n") {
+        assert!(rt; is_so_of_loop(rt.alloc(), row)?, "{row}");
+    }
+    Ok(())
 }
 
 #[test]
-fn looks_at_the_range_and_the_ranks_before_the_log(rt: HostRuntime) -> Result<(), Fail> {
-    let alloc = rt.alloc();
-    let row = Row {
-        text: FIRST,
-        log: "?",
-        n: 1,
-        status: Status::OutOfRange,
-        line: "pabble: N = 1 outside 2..max\n",
-    };
-    shown(&rt, alloc, row)?;
-    let row = Row {
-        text: FIRST,
-        log: "?",
-        n: 1025,
-        status: Status::Limit,
-        line: "pabble: limit ranks\n",
-    };
-    shown(&rt, alloc, row)?;
-    let row = Row {
-        text: FIRST,
-        log: "0 send 1023 A\n1023 recv 0 A\n",
-        n: 1024,
-        status: Status::Done,
-        line: "whole\n",
-    };
-    shown(&rt, alloc, row)
+fn looks_at_the_range_and_the_ranks_before_the_log(rt: HostRuntime) -> Result<(), NoMemory> {
+    for (n, row) in [
+        (1, "?=> 12 pabble: N = 1 outside 2..max\n"),
+        (1025, "?=> 5 pabble: limit ranks\n"),
+        (1024, "0 send 1023 A\n1023 recv 0 A\n=> 0 whole\n"),
+    ] {
+        assert!(rt; is_so(rt.alloc(), FIRST, n, row)?, "{row}");
+    }
+    Ok(())
 }
 
 #[test]
-fn refuses_what_check_refuses(rt: HostRuntime) -> Result<(), Fail> {
-    let row = Row {
-        text: "",
-        log: "?",
-        n: 1,
-        status: Status::Refused,
-        line: "pabble: syntax at 1:1\n",
-    };
-    shown(&rt, rt.alloc(), row)
+fn refuses_what_check_refuses(rt: HostRuntime) -> Result<(), NoMemory> {
+    assert!(rt; is_judged(rt.alloc(), "", "?", 1, 1, "pabble: syntax at 1:1\n")?);
+    Ok(())
 }
 
-#[test]
-fn tells_faults_of_the_folder_and_the_sink(rt: HostRuntime) -> Result<(), Fail> {
-    let alloc = rt.alloc();
+/// A folder with a protocol file and no log.
+fn without_log(alloc: Global) -> Result<MemFolder, NoMemory> {
     let mut files = Vec::new(alloc);
     files.push(file_of(alloc, "p", FIRST)?)?;
-    let mut folder = MemFolder::new(files, Vec::new(alloc));
+    Ok(MemFolder::new(files, Vec::new(alloc)))
+}
+
+fn are_faults_told(alloc: Global, folder: &mut MemFolder, out: &mut MemSink) -> bool {
+    judge(alloc, "q", "l", 2, folder, out) == Status::ReadFault
+        && judge(alloc, "p", "l", 2, folder, out) == Status::WriteFault
+        && out.taken() == b"pabble: read fault\npabble".as_slice()
+}
+
+#[test]
+fn tells_faults_of_the_folder_and_the_sink(rt: HostRuntime) -> Result<(), NoMemory> {
+    let alloc = rt.alloc();
+    let mut folder = without_log(alloc)?;
     let mut out = MemSink::new(alloc, 25, 8192, Vec::new(alloc))?;
-    assert!(rt; judge(alloc, "q", "l", 2, &mut folder, &mut out) == Status::ReadFault);
-    assert!(rt; judge(alloc, "p", "l", 2, &mut folder, &mut out) == Status::WriteFault);
-    assert!(rt; out.taken() == b"pabble: read fault\npabble".as_slice());
+    assert!(rt; are_faults_told(alloc, &mut folder, &mut out));
     Ok(())
 }

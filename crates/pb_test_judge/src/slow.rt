@@ -4,11 +4,10 @@
 use crate::printed::line_of;
 use pb_compile::Core;
 use pb_core_sound::is_sound;
-use pb_plain::{flat_of, seats};
+use pb_plain::{Flat, flat_of, seats};
 use pb_plain_run::{Answers, RankAction, Sequence, Setting, sequential_run};
-use pb_text::Words;
-use std::alloc::Global;
-use std::test::Fail;
+use pb_text::{NoMemory, Words};
+use std::alloc::{AllocError, Global};
 
 /// How many steps of a run are made. A run that isn't over then has more actions of each rank than a log of these tests, or goes on
 /// for ever without it.
@@ -29,18 +28,23 @@ fn rank_of(text: &str) -> u64 {
     }
 }
 
-/// The lines of a rank.
-fn lines_of<'a>(alloc: Global, log: &'a str, rank: u64) -> Result<Vec<Line<'a>>, Fail> {
-    let mut lines = Vec::new(alloc);
+/// The line of a rank with so many of its lines before it.
+fn line_at(log: &str, rank: u64, before: usize) -> Option<Line<'_>> {
+    let mut count = 0_usize;
     for (at, text) in log.lines().enumerate() {
         if rank_of(text) == rank {
-            lines.push(Line {
-                text,
-                number: at.saturating_add(1),
-            })?;
+            if count == before {
+                let number = at.saturating_add(1);
+                return Some(Line { text, number });
+            }
+            count = count.saturating_add(1);
         }
     }
-    Ok(lines)
+    None
+}
+
+fn line_count(log: &str, rank: u64) -> usize {
+    log.lines().filter(|text| rank_of(text) == rank).count()
 }
 
 /// The word of a number, with a sign or without.
@@ -50,7 +54,7 @@ fn word_of(text: &str) -> u32 {
 }
 
 /// The words of a line from one of them on.
-fn words_in(alloc: Global, text: &str, from: usize) -> Result<Vec<u32>, Fail> {
+fn words_in(alloc: Global, text: &str, from: usize) -> Result<Vec<u32>, AllocError> {
     let mut words = Vec::new(alloc);
     for word in text.split(' ').skip(from) {
         words.push(word_of(word))?;
@@ -58,64 +62,94 @@ fn words_in(alloc: Global, text: &str, from: usize) -> Result<Vec<u32>, Fail> {
     Ok(words)
 }
 
+/// Adds the branch that a line shows.
+fn add_branch(answers: &mut Answers, text: &str) -> Result<(), AllocError> {
+    let branch = text.split(' ').nth(3).map(word_of);
+    answers.branches.push(branch.unwrap_or(0))
+}
+
+/// Adds the words of a line of a message, which may be none.
+fn add_message(answers: &mut Answers, alloc: Global, text: &str) -> Result<(), AllocError> {
+    let words = words_in(alloc, text, 4)?;
+    answers.words.push(Words::of(words))
+}
+
+/// Adds the words of a line of a collective, if there are any.
+fn add_joint(answers: &mut Answers, alloc: Global, text: &str) -> Result<(), AllocError> {
+    let words = words_in(alloc, text, 3)?;
+    if words.is_empty() {
+        return Ok(());
+    }
+    answers.words.push(Words::of(words))
+}
+
+/// Adds the answers that a line shows.
+fn add(answers: &mut Answers, alloc: Global, text: &str) -> Result<(), AllocError> {
+    match text.split(' ').nth(1) {
+        Some("choose") => add_branch(answers, text),
+        Some("send") => add_message(answers, alloc, text),
+        Some("enter") => add_joint(answers, alloc, text),
+        _ => Ok(()),
+    }
+}
+
 /// The answers that a rank's lines show.
-fn answers_in(alloc: Global, lines: &[Line]) -> Result<Answers, Fail> {
+fn answers_in(alloc: Global, log: &str, rank: u64) -> Result<Answers, AllocError> {
     let mut answers = Answers {
         branches: Vec::new(alloc),
         words: Vec::new(alloc),
     };
-    for line in lines {
-        match line.text.split(' ').nth(1) {
-            Some("choose") => {
-                let branch = words_in(alloc, line.text, 3)?;
-                answers.branches.push(branch.first().copied().unwrap_or(0))?;
-            }
-            Some("send") => {
-                let words = words_in(alloc, line.text, 4)?;
-                answers.words.push(Words::of(words))?;
-            }
-            Some("enter") => {
-                let words = words_in(alloc, line.text, 3)?;
-                if !words.is_empty() {
-                    answers.words.push(Words::of(words))?;
-                }
-            }
-            _ => {}
+    for text in log.lines() {
+        if rank_of(text) == rank {
+            add(&mut answers, alloc, text)?;
         }
     }
     Ok(answers)
 }
 
 /// The answers of each rank that the log shows.
-fn answers_of(alloc: Global, log: &str, total: u64) -> Result<Vec<Answers>, Fail> {
+fn answers_of(alloc: Global, log: &str, total: u64) -> Result<Vec<Answers>, AllocError> {
     let mut answers = Vec::new(alloc);
     for rank in 0..total {
-        let lines = lines_of(alloc, log, rank)?;
-        answers.push(answers_in(alloc, &lines)?)?;
+        answers.push(answers_in(alloc, log, rank)?)?;
     }
     Ok(answers)
 }
 
-/// The first actions of the run under the answers of a log.
-fn run_beside(alloc: Global, core: &Core, log: &str, n: i64) -> Result<(Sequence, u64), Fail> {
-    if !is_sound(core) || n < 0 || 1_024 < n {
-        return Err(Fail::new("the core isn't sound"));
-    }
-    let ranks = seats(alloc, &core.roles, n)?;
-    let total = ranks.len() as u64;
-    let protocol = flat_of(alloc, core, &ranks, n)?;
+/// The first actions of a protocol under the answers of a log.
+fn run_of(alloc: Global, core: &Core, protocol: &Flat, log: &str, total: u64) -> Option<Sequence> {
     let setting = Setting {
         total,
         labels: &core.labels,
     };
-    let answers = answers_of(alloc, log, total)?;
-    let run = sequential_run(alloc, &setting, &protocol, &answers, MOST_STEPS)?;
-    Ok((run, total))
+    let answers = answers_of(alloc, log, total).ok()?;
+    sequential_run(alloc, &setting, protocol, &answers, MOST_STEPS).ok()
+}
+
+/// The first actions of the run under the answers of a log, and how many ranks there are. None where memory ran out or the
+/// core isn't sound.
+fn run_beside(alloc: Global, core: &Core, log: &str, n: i64) -> Option<(Sequence, u64)> {
+    if !is_sound(core) || n < 0 || 1_024 < n {
+        return None;
+    }
+    let ranks = seats(alloc, &core.roles, n).ok()?;
+    let total = ranks.len() as u64;
+    match flat_of(alloc, core, &ranks, n) {
+        Ok(protocol) => Some((run_of(alloc, core, &protocol, log, total)?, total)),
+        Err(_) => None,
+    }
 }
 
 /// How many actions a rank has among these.
 fn count_of(actions: &[RankAction], rank: u64) -> usize {
     actions.iter().filter(|done| done.rank == rank).count()
+}
+
+fn is_line(alloc: Global, core: &Core, done: &RankAction, text: &str) -> Result<bool, NoMemory> {
+    match line_of(alloc, core, done) {
+        Ok(line) => Ok(line.as_slice() == text.as_bytes()),
+        Err(error) => Err(error),
+    }
 }
 
 /// The first action of the run that isn't the one in its place of the log: the line of that and the rank.
@@ -124,18 +158,14 @@ fn difference(
     core: &Core,
     log: &str,
     actions: &[RankAction],
-) -> Result<Option<String>, Fail> {
+) -> Result<Option<String>, NoMemory> {
     for (at, done) in actions.iter().enumerate() {
-        let lines = lines_of(alloc, log, done.rank)?;
-        let before = count_of(&actions[..at], done.rank);
-        if let Some(line) = lines.get(before) {
-            let wanted = line_of(alloc, core, done)?;
-            if line.text.as_bytes() != wanted.as_slice() {
-                let number = line.number;
-                let rank = done.rank;
-                return Ok(Some(format!(in alloc;
-                    "pabble: log line {number}, rank {rank} differs\n"
-                )?));
+        let rank = done.rank;
+        let before = count_of(&actions[..at], rank);
+        if let Some(Line { text, number }) = line_at(log, rank, before) {
+            if !is_line(alloc, core, done, text)? {
+                let line = format!(in alloc; "pabble: log line {number}, rank {rank} differs\n")?;
+                return Ok(Some(line));
             }
         }
     }
@@ -148,43 +178,44 @@ fn excess(
     log: &str,
     actions: &[RankAction],
     total: u64,
-) -> Result<Option<String>, Fail> {
+) -> Result<Option<String>, NoMemory> {
     for rank in 0..total {
-        let lines = lines_of(alloc, log, rank)?;
-        if let Some(line) = lines.get(count_of(actions, rank)) {
-            let number = line.number;
-            return Ok(Some(format!(in alloc;
-                "pabble: log line {number}, rank {rank} goes beyond\n"
-            )?));
+        if let Some(Line { number, .. }) = line_at(log, rank, count_of(actions, rank)) {
+            let line = format!(in alloc; "pabble: log line {number}, rank {rank} goes beyond\n")?;
+            return Ok(Some(line));
         }
     }
     Ok(None)
 }
 
 /// Whether each rank has as many lines as actions.
-fn is_whole(alloc: Global, log: &str, run: &Sequence, total: u64) -> Result<bool, Fail> {
-    for rank in 0..total {
-        let lines = lines_of(alloc, log, rank)?;
-        if lines.len() != count_of(&run.actions, rank) {
-            return Ok(false);
-        }
-    }
-    Ok(run.is_over)
+fn is_whole(log: &str, run: &Sequence, total: u64) -> bool {
+    run.is_over && (0..total).all(|rank| line_count(log, rank) == count_of(&run.actions, rank))
 }
 
-/// The line of the ruling on a log at N = n, which is well formed.
-pub fn ruling(alloc: Global, core: &Core, log: &str, n: u32) -> Result<String, Fail> {
-    let (run, total) = run_beside(alloc, core, log, i64::from(n))?;
+fn told(
+    alloc: Global,
+    core: &Core,
+    log: &str,
+    run: &Sequence,
+    total: u64,
+) -> Result<String, NoMemory> {
     if let Some(line) = difference(alloc, core, log, &run.actions)? {
         return Ok(line);
     }
     if let Some(line) = excess(alloc, log, &run.actions, total)? {
         return Ok(line);
     }
-    let kept = if is_whole(alloc, log, &run, total)? {
+    let kept = if is_whole(log, run, total) {
         "whole\n"
     } else {
         "covered\n"
     };
     Ok(String::from_str(alloc, kept)?)
+}
+
+/// The line of the ruling on a log at N = n, which is well formed. None where memory ran out or the core isn't sound.
+pub fn ruling(alloc: Global, core: &Core, log: &str, n: u32) -> Option<String> {
+    let (run, total) = run_beside(alloc, core, log, i64::from(n))?;
+    told(alloc, core, log, &run, total).ok()
 }

@@ -3,36 +3,37 @@
 ghost use Rattle.std.specs.Prelude.{◌≤◌, IfOk};
 ghost use Rattle.pb_ctree.specs.Trees.{IsTree};
 
-use pb_cli_judge::{Status, judge};
+use pb_cli_judge::judge;
 use pb_cli_simulate::{CTree, Options, simulate_tree};
-use pb_compile::{Compiled, Core, accept, compile};
+use pb_compile::{Core, accept, compile};
 use pb_io::{MemFile, MemFolder, MemSink};
-use pb_text::{MOST_EVENTS, MOST_TEXT_BYTES};
+use pb_text::{MOST_EVENTS, MOST_TEXT_BYTES, NoMemory};
 use std::alloc::{AllocError, Global};
-use std::test::Fail;
 
 /// How many bytes a log may have.
 const ROOM: usize = 65_536;
 
-/// The core of a protocol file that is accepted.
-pub fn core_of(alloc: Global, file: &str) -> Result<Core, Fail> {
+/// The core of a protocol file, where it is accepted.
+pub fn core_of(alloc: Global, file: &str) -> Option<Core> {
     let bytes = file.as_bytes();
     if bytes.len() > MOST_TEXT_BYTES as usize {
-        return Err(Fail::new("the file is too long"));
+        return None;
     }
-    Ok(accept(alloc, bytes)?)
+    accept(alloc, bytes).ok()
 }
 
 /// The C tree of a protocol file that is accepted.
-fn tree_of(alloc: Global, file: &str) -> Result<CTree, Fail>
+fn tree_of(alloc: Global, file: &str) -> Result<CTree, NoMemory>
     ensures { IfOk result IsTree }
 {
     let bytes = file.as_bytes();
     if bytes.len() > MOST_TEXT_BYTES as usize {
-        return Err(Fail::new("the file is too long"));
+        return Err(NoMemory);
     }
-    let Compiled { core: _core, tree } = compile(alloc, bytes)?;
-    Ok(tree)
+    match compile(alloc, bytes) {
+        Ok(compiled) => Ok(compiled.tree),
+        Err(_) => Err(NoMemory),
+    }
 }
 
 /// What a rank's kernel answers at one of its calls.
@@ -43,42 +44,75 @@ fn answer(seed: u64, rank: u32, count: u64) -> u32 {
     mixed.wrapping_mul(40_503).wrapping_add(first) >> 3
 }
 
-/// What a simulation of a protocol file writes.
-pub fn log_of(alloc: Global, file: &str, options: Options) -> Result<String, Fail> {
+fn simulate(
+    alloc: Global,
+    file: &str,
+    options: Options,
+    out: &mut MemSink,
+) -> Result<(), NoMemory> {
     if options.turns > MOST_EVENTS {
-        return Err(Fail::new("too many events"));
+        return Err(NoMemory);
     }
-    let mut out = MemSink::new(alloc, ROOM, ROOM, Vec::new(alloc))?;
-    let tree = tree_of(alloc, file)?;
     let answers = |seed: u64, rank: u32, count: u64| answer(seed, rank, count);
-    let _status = simulate_tree(alloc, tree, options, answers, &mut out);
-    Ok(String::from_str(alloc, std::str::from_utf8(out.taken())?)?)
+    match tree_of(alloc, file) {
+        Ok(tree) => {
+            let _status = simulate_tree(alloc, tree, options, answers, out);
+            Ok(())
+        }
+        Err(error) => Err(error),
+    }
+}
+
+fn sink(alloc: Global) -> Result<MemSink, NoMemory> {
+    MemSink::new(alloc, ROOM, ROOM, Vec::new(alloc))
+}
+
+/// What a simulation of a protocol file writes.
+pub fn log_of(alloc: Global, file: &str, options: Options) -> Option<String> {
+    let mut out = sink(alloc).ok()?;
+    simulate(alloc, file, options, &mut out).ok()?;
+    String::from_str(alloc, std::str::from_utf8(out.taken()).ok()?).ok()
 }
 
 /// The file with this name and text.
 pub fn file_of(alloc: Global, name: &str, text: &str) -> Result<MemFile, AllocError> {
-    Ok(MemFile {
-        name: String::from_str(alloc, name)?,
-        bytes: Vec::from_slice(alloc, text.as_bytes())?,
-    })
+    let name = String::from_str(alloc, name)?;
+    let bytes = Vec::from_slice(alloc, text.as_bytes())?;
+    Ok(MemFile { name, bytes })
 }
 
-/// The status of `judge` on a protocol file and a log at N = n, and what it writes.
-pub fn judged(alloc: Global, file: &str, log: &str, n: u32) -> Result<(Status, String), Fail> {
+fn folder(alloc: Global, file: &str, log: &str) -> Result<MemFolder, AllocError> {
     let mut files = Vec::new(alloc);
     files.push(file_of(alloc, "p", file)?)?;
     files.push(file_of(alloc, "l", log)?)?;
-    let mut folder = MemFolder::new(files, Vec::new(alloc));
-    let mut out = MemSink::new(alloc, ROOM, ROOM, Vec::new(alloc))?;
-    let status = judge(alloc, "p", "l", n, &mut folder, &mut out);
-    Ok((
-        status,
-        String::from_str(alloc, std::str::from_utf8(out.taken())?)?,
-    ))
+    Ok(MemFolder::new(files, Vec::new(alloc)))
 }
 
-/// What `judge` writes of a protocol file and a log at N = n.
-pub fn ruled(alloc: Global, file: &str, log: &str, n: u32) -> Result<String, Fail> {
-    let (_status, line) = judged(alloc, file, log, n)?;
-    Ok(line)
+/// Whether `judge` ends with this exit status on a protocol file and a log at N = n, and writes this line.
+pub fn is_judged(
+    alloc: Global,
+    file: &str,
+    log: &str,
+    n: u32,
+    code: u8,
+    line: &str,
+) -> Result<bool, NoMemory> {
+    let mut folder = folder(alloc, file, log)?;
+    let mut out = sink(alloc)?;
+    let status = judge(alloc, "p", "l", n, &mut folder, &mut out);
+    Ok(status.code() == code && out.taken() == line.as_bytes())
+}
+
+/// Whether `judge` writes this line of a protocol file and a log at N = n.
+pub fn is_ruled(
+    alloc: Global,
+    file: &str,
+    log: &str,
+    n: u32,
+    line: &str,
+) -> Result<bool, NoMemory> {
+    let mut folder = folder(alloc, file, log)?;
+    let mut out = sink(alloc)?;
+    let _status = judge(alloc, "p", "l", n, &mut folder, &mut out);
+    Ok(out.taken() == line.as_bytes())
 }

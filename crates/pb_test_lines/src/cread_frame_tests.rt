@@ -2,76 +2,102 @@ ghost use Rattle.std.specs.Prelude.{OnOk};
 ghost use Rattle.pb_cread_frame.specs.Views.{IsReader};
 
 use pb_cread_frame::{FrameReader, NoMemory, is_line};
-use pb_text::push_number;
 use std::alloc::Global;
-use std::test::Fail;
 
 // Two roles, two labels of which one carries words, and a choice kernel with one line in its body, line 34.
-const HEAD: [&[u8]; 61] = [
-    b"/* pabble 1 */\n",
-    b"/* protocol P */\n",
-    b"/* N 2 to 9 */\n",
-    b"/* role W 0 to N - 1 */\n",
-    b"/* role M 1 to 1 */\n",
-    b"/* label A () */\n",
-    b"/* label B int32[64] */\n",
-    b"#include <mpi.h>\n",
-    b"#include <stdint.h>\n",
-    b"static int32_t is[1024], ir[1024];\n",
-    b"static uint32_t us[1024], ur[1024];\n",
-    b"/*@ prelude */\n",
-    b"/*@ end */\n",
-    b"static int32_t r_W(int32_t N, int32_t x)\n",
-    b"{\n",
-    b"  return x + 0 * N + 0;\n",
-    b"}\n",
-    b"static int32_t r_M(int32_t N, int32_t x)\n",
-    b"{\n",
-    b"  return x + 1 * N + -1;\n",
-    b"}\n",
-    b"static void make_B(int32_t N, int32_t role, int32_t index, int32_t *v)\n",
-    b"{\n",
-    b"/*@ kernel make_B */\n",
-    b"/*@ end */\n",
-    b"}\n",
-    b"static void take_B(int32_t N, int32_t role, int32_t index, const int32_t *v)\n",
-    b"{\n",
-    b"/*@ kernel take_B */\n",
-    b"/*@ end */\n",
-    b"}\n",
-    b"static int32_t c_K(int32_t N, int32_t role, int32_t index)\n",
-    b"{\n",
-    b"/*@ kernel c_K */\n",
-    b"  return 0;\n",
-    b"/*@ end */\n",
-    b"}\n",
-    b"int main(int argc, char **argv)\n",
-    b"{\n",
-    b"  int size, rank;\n",
-    b"  int32_t N, R, I, a, i;\n",
-    b"  MPI_Status st;\n",
-    b"  MPI_Init(&argc, &argv);\n",
-    b"  MPI_Comm_size(MPI_COMM_WORLD, &size);\n",
-    b"  MPI_Comm_rank(MPI_COMM_WORLD, &rank);\n",
-    b"  N = (size - 1) / 1;\n",
-    b"  R = 0;\n",
-    b"  I = 0;\n",
-    b"  a = 0;\n",
-    b"  i = 0;\n",
-    b"  if (N < 2 || N > 9 || 1 * N + 1 != size) {\n",
-    b"    MPI_Abort(MPI_COMM_WORLD, 2);\n",
-    b"  }\n",
-    b"  if (rank >= 0 * N + 0) {\n",
-    b"    R = 0;\n",
-    b"    I = rank - (0 * N + 0);\n",
-    b"  }\n",
-    b"  if (rank >= 1 * N + 0) {\n",
-    b"    R = 1;\n",
-    b"    I = rank - (1 * N + -1);\n",
-    b"  }\n",
-];
+const HEAD: &str = "\
+/* pabble 1 */
+/* protocol P */
+/* N 2 to 9 */
+/* role W 0 to N - 1 */
+/* role M 1 to 1 */
+/* label A () */
+/* label B int32[64] */
+#include <mpi.h>
+#include <stdint.h>
+static int32_t is[1024], ir[1024];
+static uint32_t us[1024], ur[1024];
+/*@ prelude */
+/*@ end */
+static int32_t r_W(int32_t N, int32_t x)
+{
+  return x + 0 * N + 0;
+}
+static int32_t r_M(int32_t N, int32_t x)
+{
+  return x + 1 * N + -1;
+}
+static void make_B(int32_t N, int32_t role, int32_t index, int32_t *v)
+{
+/*@ kernel make_B */
+/*@ end */
+}
+static void take_B(int32_t N, int32_t role, int32_t index, const int32_t *v)
+{
+/*@ kernel take_B */
+/*@ end */
+}
+static int32_t c_K(int32_t N, int32_t role, int32_t index)
+{
+/*@ kernel c_K */
+  return 0;
+/*@ end */
+}
+int main(int argc, char **argv)
+{
+  int size, rank;
+  int32_t N, R, I, a, i;
+  MPI_Status st;
+  MPI_Init(&argc, &argv);
+  MPI_Comm_size(MPI_COMM_WORLD, &size);
+  MPI_Comm_rank(MPI_COMM_WORLD, &rank);
+  N = (size - 1) / 1;
+  R = 0;
+  I = 0;
+  a = 0;
+  i = 0;
+  if (N < 2 || N > 9 || 1 * N + 1 != size) {
+    MPI_Abort(MPI_COMM_WORLD, 2);
+  }
+  if (rank >= 0 * N + 0) {
+    R = 0;
+    I = rank - (0 * N + 0);
+  }
+  if (rank >= 1 * N + 0) {
+    R = 1;
+    I = rank - (1 * N + -1);
+  }
+";
 
-/// What is done to one line of a text.
+/// Lines that can't stand there, each behind the number of the head's line in whose place it stands.
+const OTHERS: &str = "\
+0 /* pabble 2 */
+1 /* protocol */
+2 /* N 0 to 9 */
+3 /* label A () */
+4 /* role W 1 to 1 */
+4 /* role M 01 to 1 */
+6 /* label A int32[64] */
+6 /* label B int32[1025] */
+7 /* role X 0 to 0 */
+8 #include <mpi.h>
+11 /*@ prelude */\x20
+12 /*@ end */ int x;
+12 /*@ kernel c_K */
+15   return x + 0 * N;
+19   return x + 1 * N + 0;
+23 /*@ kernel take_B */
+31 static int32_t k_K(int32_t N, int32_t role, int32_t index)
+35 /*@ end */\x20
+37 static void k_K(int32_t N, int32_t role, int32_t index)
+37 /* label C () */
+45   N = size - 1;
+50   if (N < 2 || 1 * N + 1 != size) {
+50   if (N < 2 || 1 * N + 1 != size || N > 9) {
+59     I = rank - (1 * N + 0);
+";
+
+/// What is done to one line of the head.
 #[derive(Clone, Copy)]
 enum Change {
     Deleted,
@@ -79,69 +105,44 @@ enum Change {
     Indented,
     /// The byte before the line feed is gone.
     Shortened,
-    /// The line feed is gone.
+    /// The line feed is gone, and all that stands behind it.
     Cut,
 }
 
-fn push_line(alloc: Global, lines: &mut Vec<Vec<u8>>, parts: &[&[u8]]) -> Result<(), NoMemory> {
-    let mut line = Vec::new(alloc);
-    for part in parts {
-        line.extend_from_slice(part)?;
+/// What a line becomes, in two pieces.
+fn changed(line: &str, change: Change) -> (&str, &str) {
+    match change {
+        Change::Deleted => ("", ""),
+        Change::Doubled => (line, line),
+        Change::Indented => (" ", line),
+        Change::Shortened => (line.get(..line.len().saturating_sub(2)).unwrap_or(""), "\n"),
+        Change::Cut => (line.trim_end(), ""),
     }
-    lines.push(line)?;
-    Ok(())
 }
 
-fn push_changed(
+/// The head's first lines, of which the one with a number has become these pieces.
+fn head_with(
     alloc: Global,
-    lines: &mut Vec<Vec<u8>>,
-    line: &[u8],
-    change: Change,
-) -> Result<(), NoMemory> {
-    match (change, line) {
-        (Change::Doubled, _) => {
-            push_line(alloc, lines, &[line])?;
-            push_line(alloc, lines, &[line])
-        }
-        (Change::Indented, _) => push_line(alloc, lines, &[b" ", line]),
-        (Change::Shortened, [front @ .., _, _]) => push_line(alloc, lines, &[front, b"\n"]),
-        (Change::Cut, [front @ .., _]) => push_line(alloc, lines, &[front]),
-        (Change::Deleted | Change::Shortened | Change::Cut, _) => Ok(()),
+    count: usize,
+    at: usize,
+    pieces: (&str, &str),
+) -> Result<String, NoMemory> {
+    let mut text = String::new(alloc);
+    for (number, line) in HEAD.split_inclusive('\n').take(count).enumerate() {
+        let (first, second) = if number == at { pieces } else { (line, "") };
+        text.push_str(first)?;
+        text.push_str(second)?;
     }
-}
-
-/// The head with one line changed.
-fn changed(alloc: Global, at: usize, change: Change) -> Result<Vec<Vec<u8>>, NoMemory> {
-    let mut lines = Vec::new(alloc);
-    for (number, line) in HEAD.iter().enumerate() {
-        if number == at {
-            push_changed(alloc, &mut lines, line, change)?;
-        } else {
-            push_line(alloc, &mut lines, &[line])?;
-        }
-    }
-    Ok(lines)
-}
-
-/// The head's first lines, up to a number, and one line behind them.
-fn front_with(alloc: Global, count: usize, last: &[u8]) -> Result<Vec<Vec<u8>>, NoMemory> {
-    let mut lines = Vec::new(alloc);
-    for line in HEAD.iter().take(count) {
-        push_line(alloc, &mut lines, &[line])?;
-    }
-    push_line(alloc, &mut lines, &[last])?;
-    Ok(lines)
+    Ok(text)
 }
 
 /// The lines before the roles', and then those of this many roles.
-fn with_roles(alloc: Global, count: i64) -> Result<Vec<Vec<u8>>, NoMemory> {
-    let mut lines = front_with(alloc, 2, b"/* N 2 to 9 */\n")?;
+fn with_roles(alloc: Global, count: u32) -> Result<String, NoMemory> {
+    let mut text = head_with(alloc, 3, 3, ("", ""))?;
     for number in 0..count {
-        let mut name = Vec::new(alloc);
-        push_number(&mut name, number)?;
-        push_line(alloc, &mut lines, &[b"/* role R", &name, b" 0 to 0 */\n"])?;
+        text.push_str(format!(in alloc; "/* role R{number} 0 to 0 */\n")?.as_str())?;
     }
-    Ok(lines)
+    Ok(text)
 }
 
 fn takes(alloc: Global, reader: &mut FrameReader, line: &[u8]) -> Result<bool, NoMemory>
@@ -161,135 +162,111 @@ struct Reading {
     done: bool,
 }
 
-fn read(alloc: Global, lines: &[Vec<u8>]) -> Result<Reading, NoMemory> {
-    let mut reader = FrameReader::new(alloc)?;
-    for (taken, line) in lines.iter().enumerate() {
-        if !takes(alloc, &mut reader, line)? {
+fn read(alloc: Global, text: &str) -> Result<Reading, NoMemory> {
+    match FrameReader::new(alloc) {
+        Ok(mut reader) => read_on(alloc, &mut reader, text),
+        Err(error) => Err(error),
+    }
+}
+
+fn read_on(alloc: Global, reader: &mut FrameReader, text: &str) -> Result<Reading, NoMemory>
+    requires { IsReader reader.old }
+{
+    let mut taken = 0_usize;
+    for line in text.split_inclusive('\n') {
+        if !takes(alloc, reader, line.as_bytes())? {
             return Ok(Reading { taken, done: false });
         }
+        taken = taken.saturating_add(1);
     }
     Ok(Reading {
-        taken: lines.len(),
+        taken,
         done: reader.is_done(),
     })
 }
 
-fn is_head_with(alloc: Global, at: usize, change: Change) -> Result<bool, NoMemory> {
-    let lines = changed(alloc, at, change)?;
-    Ok(read(alloc, &lines)?.done)
-}
-
-/// Whether the head's first lines, up to a number, are taken, and the line behind them is not.
-fn refuses(alloc: Global, count: usize, line: &[u8]) -> Result<bool, NoMemory> {
-    let lines = front_with(alloc, count, line)?;
-    Ok(read(alloc, &lines)?.taken == count)
-}
-
 #[test]
-fn reads_a_head(rt: HostRuntime) -> Result<(), Fail> {
-    let lines = front_with(rt.alloc(), 60, b"  }\n")?;
-    let reading = read(rt.alloc(), &lines)?;
-    assert!(rt; reading.taken == 61);
-    assert!(rt; reading.done);
-    assert!(rt; refuses(rt.alloc(), 61, b"  MPI_Finalize();\n")?);
+fn reads_a_head(rt: HostRuntime) -> Result<(), NoMemory> {
+    let reading = read(rt.alloc(), HEAD)?;
+    assert!(rt; reading.taken == 61 && reading.done);
+    let text = format!(in rt.alloc(); "{HEAD}  MPI_Finalize();\n")?;
+    assert!(rt; read(rt.alloc(), text.as_str())?.taken == 61);
     Ok(())
 }
 
-// A label without words may be gone, and so may a line of a body.
-#[test]
-fn refuses_a_head_without_a_line(rt: HostRuntime) -> Result<(), Fail> {
-    for at in 0..61 {
-        assert!(rt;
-            is_head_with(rt.alloc(), at, Change::Deleted)? == (at == 5 || at == 34),
-            "at {at}"
-        );
+/// Whether a changed line of the head leaves it a head.
+fn is_head_with(
+    alloc: Global,
+    at: usize,
+    line: &'static str,
+    change: Change,
+) -> Result<bool, NoMemory> {
+    let count = match change {
+        Change::Cut => at.saturating_add(1),
+        _ => 61,
+    };
+    let text = head_with(alloc, count, at, changed(line, change))?;
+    Ok(read(alloc, text.as_str())?.done)
+}
+
+// A label without words may be gone, and a line of a body may be changed, but not lose its end.
+fn is_kept(at: usize, change: Change) -> bool {
+    match change {
+        Change::Deleted => at == 5 || at == 34,
+        Change::Doubled | Change::Indented | Change::Shortened => at == 34,
+        Change::Cut => false,
     }
-    Ok(())
 }
 
-#[test]
-fn refuses_a_head_with_a_line_twice(rt: HostRuntime) -> Result<(), Fail> {
-    for at in 0..61 {
-        assert!(rt;
-            is_head_with(rt.alloc(), at, Change::Doubled)? == (at == 34),
-            "at {at}"
-        );
+/// The first line of the head that isn't read as it should be with this change, or 61.
+fn first_wrong(alloc: Global, change: Change) -> Result<usize, NoMemory> {
+    for (at, line) in HEAD.split_inclusive('\n').enumerate() {
+        if is_head_with(alloc, at, line, change)? != is_kept(at, change) {
+            return Ok(at);
+        }
     }
-    Ok(())
+    Ok(61)
 }
 
 #[test]
-fn refuses_a_head_with_a_line_indented(rt: HostRuntime) -> Result<(), Fail> {
-    for at in 0..61 {
-        assert!(rt;
-            is_head_with(rt.alloc(), at, Change::Indented)? == (at == 34),
-            "at {at}"
-        );
-    }
-    Ok(())
-}
-
-#[test]
-fn refuses_a_head_with_a_line_shortened(rt: HostRuntime) -> Result<(), Fail> {
-    for at in 0..61 {
-        assert!(rt;
-            is_head_with(rt.alloc(), at, Change::Shortened)? == (at == 34),
-            "at {at}"
-        );
-    }
-    Ok(())
-}
-
-#[test]
-fn refuses_a_head_with_a_line_cut(rt: HostRuntime) -> Result<(), Fail> {
-    for at in 0..61 {
-        assert!(rt; !is_head_with(rt.alloc(), at, Change::Cut)?, "at {at}");
-    }
-    Ok(())
-}
-
-#[test]
-fn refuses_other_lines(rt: HostRuntime) -> Result<(), Fail> {
-    for (count, line) in [
-        (0, b"/* pabble 2 */\n".as_slice()),
-        (1, b"/* protocol */\n"),
-        (2, b"/* N 0 to 9 */\n"),
-        (3, b"/* label A () */\n"),
-        (4, b"/* role W 1 to 1 */\n"),
-        (4, b"/* role M 01 to 1 */\n"),
-        (6, b"/* label A int32[64] */\n"),
-        (6, b"/* label B int32[1025] */\n"),
-        (7, b"/* role X 0 to 0 */\n"),
-        (8, b"#include <mpi.h>\n"),
-        (11, b"/*@ prelude */ \n"),
-        (12, b"/*@ end */ int x;\n"),
-        (12, b"/*@ kernel c_K */\n"),
-        (15, b"  return x + 0 * N;\n"),
-        (19, b"  return x + 1 * N + 0;\n"),
-        (23, b"/*@ kernel take_B */\n"),
-        (
-            31,
-            b"static int32_t k_K(int32_t N, int32_t role, int32_t index)\n",
-        ),
-        (35, b"/*@ end */ \n"),
-        (
-            37,
-            b"static void k_K(int32_t N, int32_t role, int32_t index)\n",
-        ),
-        (37, b"/* label C () */\n"),
-        (45, b"  N = size - 1;\n"),
-        (50, b"  if (N < 2 || 1 * N + 1 != size) {\n"),
-        (50, b"  if (N < 2 || 1 * N + 1 != size || N > 9) {\n"),
-        (59, b"    I = rank - (1 * N + 0);\n"),
+fn refuses_a_head_with_a_line_changed(rt: HostRuntime) -> Result<(), NoMemory> {
+    for (how, change) in [
+        ("deleted", Change::Deleted),
+        ("twice", Change::Doubled),
+        ("indented", Change::Indented),
+        ("shortened", Change::Shortened),
+        ("cut", Change::Cut),
     ] {
-        assert!(rt; refuses(rt.alloc(), count, line)?, "line {count}");
+        let at = first_wrong(rt.alloc(), change)?;
+        assert!(rt; at == 61, "line {at} {how}");
+    }
+    Ok(())
+}
+
+/// Whether the head is read up to this line, which stands in the place of its own.
+fn refuses(alloc: Global, at: usize, line: &str) -> Result<bool, NoMemory> {
+    let text = head_with(alloc, 61, at, (line, ""))?;
+    Ok(read(alloc, text.as_str())?.taken == at)
+}
+
+fn refuses_row(alloc: Global, row: &str) -> Result<bool, NoMemory> {
+    match row.split_once(' ') {
+        Some((at, line)) => refuses(alloc, at.parse().unwrap_or(usize::MAX), line),
+        None => Ok(false),
+    }
+}
+
+#[test]
+fn refuses_other_lines(rt: HostRuntime) -> Result<(), NoMemory> {
+    for row in OTHERS.split_inclusive('\n') {
+        assert!(rt; refuses_row(rt.alloc(), row)?, "{row}");
     }
     Ok(())
 }
 
 #[test]
-fn reads_64_roles(rt: HostRuntime) -> Result<(), Fail> {
-    let lines = with_roles(rt.alloc(), 65)?;
-    assert!(rt; read(rt.alloc(), &lines)?.taken == 67);
+fn reads_64_roles(rt: HostRuntime) -> Result<(), NoMemory> {
+    let text = with_roles(rt.alloc(), 65)?;
+    assert!(rt; read(rt.alloc(), text.as_str())?.taken == 67);
     Ok(())
 }

@@ -6,7 +6,6 @@ ghost use Rattle.pb_cread_lines.specs.Sample.{sample, role_named};
 use pb_cread_lines::{NoMemory, Tables, read_line};
 use pb_ctree::{Base, Lin, Local, NRange, Name, Role};
 use std::alloc::Global;
-use std::test::Fail;
 
 fn name_of(text: &[u8]) -> Result<Name, NoMemory>
     ensures { IfOk result (λ name. name ≡ text.now) }
@@ -66,11 +65,25 @@ fn is_read(alloc: Global, local: &Local, tables: &Tables, line: &[u8]) -> Result
     Ok(read_line(alloc, local, tables, line, &mut scratch)?.is_some())
 }
 
+fn is_read_by(alloc: Global, local: &Local, line: &[u8]) -> Result<bool, NoMemory>
+    requires { HasHead (program_of local.now) }
+{
+    match Tables::of(alloc, local) {
+        Ok(tables) => is_read(alloc, local, &tables, line),
+        Err(error) => Err(error),
+    }
+}
+
+fn is_sample_line(alloc: Global, line: &[u8]) -> Result<bool, NoMemory> {
+    match sample_with_head(alloc) {
+        Ok(local) => is_read_by(alloc, &local, line),
+        Err(error) => Err(error),
+    }
+}
+
 #[test]
-fn reads_a_line(rt: HostRuntime) -> Result<(), Fail> {
-    let local = sample_with_head(rt.alloc())?;
-    let tables = Tables::of(rt.alloc(), &local)?;
+fn reads_a_line(rt: HostRuntime) -> Result<(), NoMemory> {
     let probe = b"  MPI_Probe(r_W(N, N - 1), MPI_ANY_TAG, MPI_COMM_WORLD, &st);";
-    assert!(rt; is_read(rt.alloc(), &local, &tables, probe)?);
+    assert!(rt; is_sample_line(rt.alloc(), probe)?);
     Ok(())
 }

@@ -4,7 +4,82 @@ use pb_cread_rows::{read_kernel, read_label, read_protocol, read_range, read_rol
 use pb_ctree::{CoreLabel, NRange, Name, NoMemory, Payload};
 use pb_text::Names;
 use std::alloc::Global;
-use std::test::Fail;
+
+// Which row of the tables a line is read as, or is not, and the line. A second label stands behind a label A.
+const ROWS: &str = "\
+protocol: /* protocol P */
+protocol: /* protocol _9 */
+protocol: /* protocol abcdefghijabcdefghijabcdefghijabcdefghijabcdefghijabcdefghijabcd */
+no protocol: /* protocol abcdefghijabcdefghijabcdefghijabcdefghijabcdefghijabcdefghijabcde */
+no protocol: /* protocol 9P */
+no protocol: /* protocol max */
+no protocol: /* protocol  */
+no protocol: /* protocol P*/
+no protocol:  /* protocol P */
+range: /* N 2 to max */
+range: /* N 1 to 1 */
+range: /* N 3 to 2000000000 */
+range: /* N 2000000000 to max */
+no range: /* N 0 to max */
+no range: /* N 3 to 2 */
+no range: /* N 3 to 2000000001 */
+no range: /* N 2000000001 to max */
+no range: /* N 4294967297 to max */
+no range: /* N 02 to max */
+no range: /* N 2 to 03 */
+no range: /* N 2 to Max */
+no range: /* N 2 to */
+no range: /* N 2  to max */
+role: /* role W 0 to N - 1 */
+role: /* role W 7 to 7 */
+role: /* role W -1000000 to N + 1000000 */
+role: /* role W N to N */
+no role: /* role W 00 to N - 1 */
+no role: /* role W 0 to N - 01 */
+no role: /* role W 0 to N + 0 */
+no role: /* role W 0 to N - 0 */
+no role: /* role W -0 to N */
+no role: /* role W +1 to N */
+no role: /* role W 0 to N-1 */
+no role: /* role W 0 to i */
+no role: /* role W 0 to 1000001 */
+no role: /* role W 1 to 0 */
+no role: /* role W 2 to N - 1 */
+no role: /* role W N to 9 */
+no role: /* role W 0 */
+no role: /* role role 0 to 1 */
+no role: /* role 0 to 1 */
+no role: /* role W 0 to 1 */\x20
+label: /* label A () */
+label: /* label A int32[1] */
+label: /* label A int32[1024] */
+label: /* label A uint32[1024] */
+no label: /* label A int32[0] */
+no label: /* label A int32[1025] */
+no label: /* label A uint32[0] */
+no label: /* label A uint32[1025] */
+no label: /* label A int32[01] */
+no label: /* label A int32[] */
+no label: /* label A int32[4294967297] */
+no label: /* label A int64[1] */
+no label: /* label A (1) */
+no label: /* label A */
+no label: /* label to () */
+kernel: static void k_K(int32_t N, int32_t role, int32_t index)
+kernel: static int32_t c_K(int32_t N, int32_t role, int32_t index)
+no kernel: static void c_K(int32_t N, int32_t role, int32_t index)
+no kernel: static int32_t k_K(int32_t N, int32_t role, int32_t index)
+no kernel: static void k_(int32_t N, int32_t role, int32_t index)
+no kernel: static void k_do(int32_t N, int32_t role, int32_t index)
+no kernel: static void k_K(int32_t N, int32_t role)
+no kernel: static void k_K(int32_t N, int32_t role, int32_t index) {
+no kernel: int main(int argc, char **argv)
+second label: /* label B () */
+second label: /* label a () */
+second label: /* label AA () */
+no second label: /* label A () */
+no second label: /* label A int32[1] */
+";
 
 fn from_two() -> NRange {
     NRange { low: 2, high: None }
@@ -33,140 +108,6 @@ fn is_kernel(alloc: Global, line: &[u8]) -> Result<bool, NoMemory> {
     Ok(read_kernel(alloc, &[], &names, line)?.is_some())
 }
 
-#[test]
-fn reads_protocols(rt: HostRuntime) -> Result<(), Fail> {
-    for line in [
-        b"/* protocol P */\n".as_slice(),
-        b"/* protocol _9 */\n",
-        b"/* protocol abcdefghijabcdefghijabcdefghijabcdefghijabcdefghijabcdefghijabcd */\n",
-    ] {
-        assert!(rt; is_protocol(rt.alloc(), line)?);
-    }
-    for line in [
-        b"/* protocol abcdefghijabcdefghijabcdefghijabcdefghijabcdefghijabcdefghijabcde */\n".as_slice(),
-        b"/* protocol 9P */\n",
-        b"/* protocol max */\n",
-        b"/* protocol  */\n",
-        b"/* protocol P*/\n",
-        b"/* protocol P */",
-        b"/* protocol P */\n\n",
-        b" /* protocol P */\n",
-    ] {
-        assert!(rt; !is_protocol(rt.alloc(), line)?);
-    }
-    Ok(())
-}
-
-#[test]
-fn reads_ranges(rt: HostRuntime) -> Result<(), Fail> {
-    for line in [
-        b"/* N 2 to max */\n".as_slice(),
-        b"/* N 1 to 1 */\n",
-        b"/* N 3 to 2000000000 */\n",
-        b"/* N 2000000000 to max */\n",
-    ] {
-        assert!(rt; is_range(rt.alloc(), line)?);
-    }
-    for line in [
-        b"/* N 0 to max */\n".as_slice(),
-        b"/* N 3 to 2 */\n",
-        b"/* N 3 to 2000000001 */\n",
-        b"/* N 2000000001 to max */\n",
-        b"/* N 4294967297 to max */\n",
-        b"/* N 02 to max */\n",
-        b"/* N 2 to 03 */\n",
-        b"/* N 2 to Max */\n",
-        b"/* N 2 to */\n",
-        b"/* N 2  to max */\n",
-    ] {
-        assert!(rt; !is_range(rt.alloc(), line)?);
-    }
-    Ok(())
-}
-
-#[test]
-fn reads_roles(rt: HostRuntime) -> Result<(), Fail> {
-    for line in [
-        b"/* role W 0 to N - 1 */\n".as_slice(),
-        b"/* role W 7 to 7 */\n",
-        b"/* role W -1000000 to N + 1000000 */\n",
-        b"/* role W N to N */\n",
-    ] {
-        assert!(rt; is_role(rt.alloc(), line)?);
-    }
-    for line in [
-        b"/* role W 00 to N - 1 */\n".as_slice(),
-        b"/* role W 0 to N - 01 */\n",
-        b"/* role W 0 to N + 0 */\n",
-        b"/* role W 0 to N - 0 */\n",
-        b"/* role W -0 to N */\n",
-        b"/* role W +1 to N */\n",
-        b"/* role W 0 to N-1 */\n",
-        b"/* role W 0 to i */\n",
-        b"/* role W 0 to 1000001 */\n",
-        b"/* role W 1 to 0 */\n",
-        b"/* role W 2 to N - 1 */\n",
-        b"/* role W N to 9 */\n",
-        b"/* role W 0 */\n",
-        b"/* role role 0 to 1 */\n",
-        b"/* role 0 to 1 */\n",
-        b"/* role W 0 to 1 */ \n",
-    ] {
-        assert!(rt; !is_role(rt.alloc(), line)?);
-    }
-    Ok(())
-}
-
-#[test]
-fn reads_labels(rt: HostRuntime) -> Result<(), Fail> {
-    for line in [
-        b"/* label A () */\n".as_slice(),
-        b"/* label A int32[1] */\n",
-        b"/* label A int32[1024] */\n",
-        b"/* label A uint32[1024] */\n",
-    ] {
-        assert!(rt; is_label(rt.alloc(), line)?);
-    }
-    for line in [
-        b"/* label A int32[0] */\n".as_slice(),
-        b"/* label A int32[1025] */\n",
-        b"/* label A uint32[0] */\n",
-        b"/* label A uint32[1025] */\n",
-        b"/* label A int32[01] */\n",
-        b"/* label A int32[] */\n",
-        b"/* label A int32[4294967297] */\n",
-        b"/* label A int64[1] */\n",
-        b"/* label A (1) */\n",
-        b"/* label A */\n",
-        b"/* label to () */\n",
-    ] {
-        assert!(rt; !is_label(rt.alloc(), line)?);
-    }
-    Ok(())
-}
-
-#[test]
-fn reads_kernels(rt: HostRuntime) -> Result<(), Fail> {
-    for line in [
-        b"static void k_K(int32_t N, int32_t role, int32_t index)\n".as_slice(),
-        b"static int32_t c_K(int32_t N, int32_t role, int32_t index)\n",
-    ] {
-        assert!(rt; is_kernel(rt.alloc(), line)?);
-    }
-    for line in [
-        b"static void c_K(int32_t N, int32_t role, int32_t index)\n".as_slice(),
-        b"static int32_t k_K(int32_t N, int32_t role, int32_t index)\n",
-        b"static void k_(int32_t N, int32_t role, int32_t index)\n",
-        b"static void k_do(int32_t N, int32_t role, int32_t index)\n",
-        b"static void k_K(int32_t N, int32_t role)\n",
-        b"static void k_K(int32_t N, int32_t role, int32_t index) {\n",
-        b"int main(int argc, char **argv)\n",
-    ] {
-        assert!(rt; !is_kernel(rt.alloc(), line)?);
-    }
-    Ok(())
-}
-
 fn name_of(text: &[u8]) -> Result<Name, NoMemory>
     ensures { IfOk result (λ name. name ≡ text.now) }
 {
@@ -187,28 +128,70 @@ fn is_next_label(alloc: Global, before: &[u8], line: &[u8]) -> Result<bool, NoMe
         name: name_of(before)?,
         payload: Payload::Unit,
     };
-    let names = names_of(alloc, label.name)?;
-    Ok(read_label(alloc, &[label], &names, line)?.is_some())
+    match names_of(alloc, label.name) {
+        Ok(names) => Ok(read_label(alloc, &[label], &names, line)?.is_some()),
+        Err(error) => Err(error),
+    }
+}
+
+fn is_read_as(alloc: Global, kind: &str, line: &[u8]) -> Result<bool, NoMemory> {
+    match kind {
+        "protocol" => is_protocol(alloc, line),
+        "range" => is_range(alloc, line),
+        "role" => is_role(alloc, line),
+        "label" => is_label(alloc, line),
+        "kernel" => is_kernel(alloc, line),
+        "second label" => is_next_label(alloc, b"A", line),
+        _ => Err(NoMemory),
+    }
+}
+
+/// Whether what stands in the table is so.
+fn is_so(alloc: Global, row: &str) -> Result<bool, NoMemory> {
+    let Some((kind, line)) = row.split_once(": ") else {
+        return Ok(false);
+    };
+    match kind.strip_prefix("no ") {
+        Some(kind) => Ok(!is_read_as(alloc, kind, line.as_bytes())?),
+        None => is_read_as(alloc, kind, line.as_bytes()),
+    }
 }
 
 #[test]
-fn reads_no_name_twice(rt: HostRuntime) -> Result<(), Fail> {
-    assert!(rt; is_next_label(rt.alloc(), b"A", b"/* label B () */\n")?);
-    assert!(rt; is_next_label(rt.alloc(), b"A", b"/* label a () */\n")?);
-    assert!(rt; is_next_label(rt.alloc(), b"A", b"/* label AA () */\n")?);
-    assert!(rt; !is_next_label(rt.alloc(), b"A", b"/* label A () */\n")?);
-    assert!(rt; !is_next_label(rt.alloc(), b"A", b"/* label A int32[1] */\n")?);
+fn reads_rows_of_each_kind(rt: HostRuntime) -> Result<(), NoMemory> {
+    for row in ROWS.split_inclusive('\n') {
+        assert!(rt; is_so(rt.alloc(), row)?, "{row}");
+    }
     Ok(())
 }
 
 #[test]
-fn reads_values(rt: HostRuntime) -> Result<(), Fail> {
-    let names = Names::new(rt.alloc());
+fn a_row_has_one_line_feed(rt: HostRuntime) -> Result<(), NoMemory> {
+    assert!(rt; !is_protocol(rt.alloc(), b"/* protocol P */")?);
+    assert!(rt; !is_protocol(rt.alloc(), b"/* protocol P */\n\n")?);
+    Ok(())
+}
+
+/// Whether the line is a role's with this name and these numbers.
+fn has_values(
+    alloc: Global,
+    line: &[u8],
+    name: &[u8],
+    low: i32,
+    high: i32,
+) -> Result<bool, NoMemory> {
+    let names = Names::new(alloc);
+    match read_role(alloc, from_two(), &[], &names, line)? {
+        Some(role) => {
+            Ok(role.name.bytes() == name && role.low.off == low && role.high.off == high)
+        }
+        None => Ok(false),
+    }
+}
+
+#[test]
+fn reads_values(rt: HostRuntime) -> Result<(), NoMemory> {
     let line = b"/* role W_1 -3 to N + 17 */\n";
-    let read = read_role(rt.alloc(), from_two(), &[], &names, line)?;
-    let role = read.ok_or("no role")?;
-    assert!(rt; role.name.bytes() == b"W_1".as_slice());
-    assert!(rt; role.low.off == -3);
-    assert!(rt; role.high.off == 17);
+    assert!(rt; has_values(rt.alloc(), line, b"W_1", -3, 17)?);
     Ok(())
 }

@@ -1,297 +1,190 @@
-ghost use Rattle.std.specs.Prelude.{◌≡◌, ◌<◌, IfOk, pos, [], ◌∷◌, Some, codes, map};
-ghost use Rattle.pb_local.specs.Tree.{plain, plain_all, parts_of, program_of, more, nothing, part, no_part, again};
-ghost use Rattle.pb_local.specs.Ranks.{total};
-ghost use Rattle.pb_local.specs.WellMade.{IsWellMade, IsInRange};
+ghost use Rattle.std.specs.Prelude.{◌≡◌, IfOk};
+ghost use Rattle.pb_local.specs.Tree.{program_of};
+ghost use Rattle.pb_local.specs.WellMade.{IsInRange};
 ghost use Rattle.pb_ctree.specs.Trees.{IsTree};
-ghost use Rattle.pb_machine.specs.Sample.{fixed, rank_peer, guard_at, message, test_of, relay, choice_of_two, together, body, role_named, label_named, sample_with, endless, far};
 ghost use Rattle.pb_machine.specs.Steps.{Fits, next_shown, param_of, shown};
 
-use pb_ctree::{
-    Base, CoreKernel, CoreLabel, Guard, Guards, KernelKind, Lin, Local, NRange, Name, Payload,
-    Peer, Relay, Role, Stmt, Test, emit,
-};
-use pb_machine::{Act, CTree, Input, Joint, Next, NoMemory, Op, Rank};
+use pb_cread::read_c;
+use pb_machine::{Act, CTree, Input, Joint, Next, NoMemory, Op, Rank, total_of};
 use std::alloc::Global;
 use std::process::Abort;
-use std::test::Fail;
 
-// ---- the program of specs/Sample.antt
-
-fn fixed(off: i32) -> Lin
-    ensures { result ≡ fixed off }
+/// What stands before the statements of each text, and behind them.
+const HEAD: &str = "\
+/* pabble 1 */
+/* protocol P */
+/* N 2 to max */
+/* role W 0 to N - 1 */
+/* label A uint32[1] */
+/* label B uint32[1] */
+#include <mpi.h>
+#include <stdint.h>
+static int32_t is[1024], ir[1024];
+static uint32_t us[1024], ur[1024];
+/*@ prelude */
+/*@ end */
+static int32_t r_W(int32_t N, int32_t x)
 {
-    Lin {
-        base: Base::Fixed,
-        off,
+  return x + 0 * N + 0;
+}
+static void make_A(int32_t N, int32_t role, int32_t index, uint32_t *v)
+{
+/*@ kernel make_A */
+/*@ end */
+}
+static void take_A(int32_t N, int32_t role, int32_t index, const uint32_t *v)
+{
+/*@ kernel take_A */
+/*@ end */
+}
+static void make_B(int32_t N, int32_t role, int32_t index, uint32_t *v)
+{
+/*@ kernel make_B */
+/*@ end */
+}
+static void take_B(int32_t N, int32_t role, int32_t index, const uint32_t *v)
+{
+/*@ kernel take_B */
+/*@ end */
+}
+static int32_t c_C(int32_t N, int32_t role, int32_t index)
+{
+/*@ kernel c_C */
+  return 0;
+/*@ end */
+}
+static void k_K(int32_t N, int32_t role, int32_t index)
+{
+/*@ kernel k_K */
+/*@ end */
+}
+int main(int argc, char **argv)
+{
+  int size, rank;
+  int32_t N, R, I, a, i;
+  MPI_Status st;
+  MPI_Init(&argc, &argv);
+  MPI_Comm_size(MPI_COMM_WORLD, &size);
+  MPI_Comm_rank(MPI_COMM_WORLD, &rank);
+  N = (size - 0) / 1;
+  R = 0;
+  I = 0;
+  a = 0;
+  i = 0;
+  if (N < 2 || 1 * N + 0 != size) {
+    MPI_Abort(MPI_COMM_WORLD, 2);
+  }
+  if (rank >= 0 * N + 0) {
+    R = 0;
+    I = rank - (0 * N + 0);
+  }
+";
+
+const END: &str = "\
+  MPI_Finalize();
+  return 0;
+}
+";
+
+/// Each kind of statement: a loop in which rank 0 chooses and rank 1 is told, with a relay that no rank is, and collectives.
+const WHOLE: &str = "  for (i = 0; i <= 1; i++) {
+    k_K(N, R, I);
+  }
+  i = I + 3;
+  L0: {
+    if (R == 0 && I == 0) {
+      a = c_C(N, R, I);
+    } else {
+      if (R == 0 && I == 5) {
+        MPI_Probe(r_W(N, 1), MPI_ANY_TAG, MPI_COMM_WORLD, &st);
+      } else {
+        MPI_Probe(r_W(N, 0), MPI_ANY_TAG, MPI_COMM_WORLD, &st);
+      }
+      if (st.MPI_TAG == 0 && (R == 0)) {
+        a = 0;
+      } else if (st.MPI_TAG == 1 && (R == 0)) {
+        a = 1;
+      } else {
+        MPI_Abort(MPI_COMM_WORLD, 3);
+      }
+    }
+    if (a == 0) {
+      if (R == 0 && I == 0) {
+        make_A(N, R, I, us);
+        MPI_Send(us, 1, MPI_UINT32_T, r_W(N, 1), 0, MPI_COMM_WORLD);
+      } else {
+        MPI_Recv(ur, 1, MPI_UINT32_T, r_W(N, 0), 0, MPI_COMM_WORLD, MPI_STATUS_IGNORE);
+        take_A(N, R, I, ur);
+      }
+      goto L0;
+    } else {
+      if (R == 0 && I == 0) {
+        make_B(N, R, I, us);
+        MPI_Send(us, 1, MPI_UINT32_T, r_W(N, 1), 1, MPI_COMM_WORLD);
+      } else {
+        MPI_Recv(ur, 1, MPI_UINT32_T, r_W(N, 0), 1, MPI_COMM_WORLD, MPI_STATUS_IGNORE);
+        take_B(N, R, I, ur);
+      }
+    }
+  }
+  MPI_Barrier(MPI_COMM_WORLD);
+  if (R == 0 && I == 1) make_A(N, R, I, us);
+  MPI_Bcast(us, 1, MPI_UINT32_T, r_W(N, 1), MPI_COMM_WORLD);
+  take_A(N, R, I, us);
+  make_A(N, R, I, us);
+  MPI_Reduce(us, ur, 1, MPI_UINT32_T, MPI_SUM, r_W(N, 0), MPI_COMM_WORLD);
+  if (R == 0 && I == 0) take_A(N, R, I, ur);
+  make_A(N, R, I, us);
+  MPI_Allreduce(us, ur, 1, MPI_UINT32_T, MPI_MAX, MPI_COMM_WORLD);
+  take_A(N, R, I, ur);
+";
+
+/// No rank ever does anything.
+const ENDLESS: &str = "  L0: {
+    goto L0;
+  }
+";
+
+/// All send to a third rank.
+const FAR: &str = "  make_A(N, R, I, us);
+  MPI_Send(us, 1, MPI_UINT32_T, r_W(N, 2), 0, MPI_COMM_WORLD);
+";
+
+/// The tree of the text with these statements.
+fn tree_of(alloc: Global, statements: &str) -> Result<CTree, NoMemory>
+    ensures { IfOk result IsTree }
+{
+    let text = format!(in alloc; "{HEAD}{statements}{END}")?;
+    match read_c(alloc, text.as_bytes()) {
+        Ok(text) => Ok(text.tree),
+        Err(_) => Err(NoMemory),
     }
 }
 
-fn rank_peer(off: i32) -> Peer
-    ensures { result ≡ rank_peer off }
-{
-    Peer {
-        role: 0,
-        at: fixed(off),
-    }
-}
-
-fn guard_at(end: Option<Lin>) -> Guard
-    ensures { result ≡ guard_at end }
-{
-    Guard {
-        role: 0,
-        low: end,
-        high: end,
-        from: None,
-        to: None,
-    }
-}
-
-fn only(alloc: Global, end: Option<Lin>) -> Result<Guards, NoMemory>
-    ensures { IfOk result (λ guards. guards ≡ guard_at end ∷ []) }
-{
-    let mut guards = Guards::new(alloc);
-    guards.push(guard_at(end))?;
-    Ok(guards)
-}
-
-fn one(alloc: Global, stmt: Stmt) -> Result<Vec<Stmt>, NoMemory>
-    ensures { IfOk result (λ list. plain_all list.items ≡ more (plain stmt) nothing) }
-{
-    let mut list = Vec::new(alloc);
-    list.push(stmt)?;
-    Ok(list)
-}
-
-fn message(alloc: Global, label: u32) -> Result<Stmt, NoMemory>
-    ensures { IfOk result (λ stmt. plain stmt ≡ message label) }
-{
-    let to = rank_peer(1);
-    let from = rank_peer(0);
-    Ok(Stmt::If {
-        guards: only(alloc, Some(fixed(0)))?,
-        first: one(alloc, Stmt::Send { label, to })?,
-        other: one(alloc, Stmt::Recv { label, from })?,
-    })
-}
-
-fn test_of(alloc: Global, branch: u32) -> Result<Test, NoMemory>
-    ensures { IfOk result (λ test. test ≡ test_of branch) }
-{
-    Ok(Test {
-        branch,
-        label: branch,
-        guards: only(alloc, None)?,
-    })
-}
-
-/// The statement in front of the others.
-fn before(stmt: Stmt, mut others: Vec<Stmt>) -> Result<Vec<Stmt>, NoMemory>
-    ensures { IfOk result (λ list. plain_all list.items ≡ more (plain stmt) (plain_all others.items)) }
-{
-    others.insert(0, stmt)?;
-    Ok(others)
-}
-
-fn tests(alloc: Global) -> Result<Vec<Test>, NoMemory>
-    ensures { IfOk result (λ tests. tests.items ≡ test_of 0 ∷ test_of 1 ∷ []) }
-{
-    let mut tests = Vec::new(alloc);
-    tests.push(test_of(alloc, 0)?)?;
-    tests.push(test_of(alloc, 1)?)?;
-    Ok(tests)
-}
-
-fn relays(alloc: Global) -> Result<Vec<Relay>, NoMemory>
-    ensures { IfOk result (λ relays. relays.items ≡ relay ∷ []) }
-{
-    let mut relays = Vec::new(alloc);
-    relays.push(Relay {
-        guards: only(alloc, Some(fixed(5)))?,
-        from: rank_peer(1),
-    })?;
-    Ok(relays)
-}
-
-fn branches(alloc: Global) -> Result<Vec<Vec<Stmt>>, NoMemory>
-    ensures { IfOk result (λ parts. parts_of (map (λ v. map plain v.items) parts.items) ≡ part (more (message 0) (more (again 0) nothing)) (part (more (message 1) nothing) no_part)) }
-{
-    let mut parts = Vec::new(alloc);
-    let again = one(alloc, Stmt::Again { id: 0 })?;
-    parts.push(before(message(alloc, 0)?, again)?)?;
-    parts.push(one(alloc, message(alloc, 1)?)?)?;
-    Ok(parts)
-}
-
-#[tactic(auto, using(pb_local::proofs::Plains::choice_plain))]
-fn choice(alloc: Global) -> Result<Stmt, NoMemory>
-    ensures { IfOk result (λ stmt. plain stmt ≡ choice_of_two) }
-{
-    let relays = relays(alloc)?;
-    let tests = tests(alloc)?;
-    let branches = branches(alloc)?;
-    Ok(Stmt::Choice {
-        who: guard_at(Some(fixed(0))),
-        kernel: 0,
-        relays,
-        from: rank_peer(0),
-        tests,
-        branches,
-    })
-}
-
-fn together(alloc: Global) -> Result<Vec<Stmt>, NoMemory>
-    ensures { IfOk result (λ list. plain_all list.items ≡ together) }
-{
-    let all = one(
-        alloc,
-        Stmt::Allreduce {
-            label: 0,
-            op: Op::Max,
-        },
-    )?;
-    let gather = Stmt::Reduce {
-        label: 0,
-        op: Op::Sum,
-        root: rank_peer(0),
-    };
-    let tell = Stmt::Broadcast {
-        label: 0,
-        root: rank_peer(1),
-    };
-    before(Stmt::Barrier, before(tell, before(gather, all)?)?)
-}
-
-fn body(alloc: Global) -> Result<Vec<Stmt>, NoMemory>
-    ensures { IfOk result (λ list. plain_all list.items ≡ body) }
-{
-    let rounds = Stmt::For {
-        low: fixed(0),
-        high: fixed(1),
-        body: one(alloc, Stmt::Run { kernel: 1 })?,
-    };
-    let choices = Stmt::Loop {
-        id: 0,
-        body: one(alloc, choice(alloc)?)?,
-    };
-    let others = before(choices, together(alloc)?)?;
-    before(rounds, before(Stmt::Own { off: 3 }, others)?)
-}
-
-fn name_of(text: &[u8]) -> Result<Name, NoMemory>
-    ensures { IfOk result (λ name. name ≡ text.now) }
-{
-    match Name::of(text) {
-        Some(name) => Ok(name),
-        None => Err(NoMemory),
-    }
-}
-
-fn roles(alloc: Global) -> Result<Vec<Role>, NoMemory>
-    ensures { IfOk result (λ roles. roles.items ≡ role_named (codes "W") ∷ []) }
-{
-    let name = name_of(b"W")?;
-    let high = Lin {
-        base: Base::Param,
-        off: -1,
-    };
-    let mut roles = Vec::new(alloc);
-    roles.push(Role {
-        name,
-        low: fixed(0),
-        high,
-    })?;
-    Ok(roles)
-}
-
-fn labels(alloc: Global) -> Result<Vec<CoreLabel>, NoMemory>
-    ensures { IfOk result (λ labels. labels.items ≡ label_named (codes "A") ∷ label_named (codes "B") ∷ []) }
-{
-    let payload = Payload::Uint32(1);
-    let first = name_of(b"A")?;
-    let second = name_of(b"B")?;
-    let mut labels = Vec::new(alloc);
-    labels.push(CoreLabel {
-        name: first,
-        payload,
-    })?;
-    labels.push(CoreLabel {
-        name: second,
-        payload,
-    })?;
-    Ok(labels)
-}
-
-fn kernels(alloc: Global) -> Result<Vec<CoreKernel>, NoMemory>
-    ensures { IfOk result (λ kernels. kernels.items ≡ (sample_with nothing).kernels) }
-{
-    let first = name_of(b"C")?;
-    let second = name_of(b"K")?;
-    let mut kernels = Vec::new(alloc);
-    kernels.push(CoreKernel {
-        name: first,
-        kind: KernelKind::Choice,
-    })?;
-    kernels.push(CoreKernel {
-        name: second,
-        kind: KernelKind::Compute,
-    })?;
-    Ok(kernels)
-}
-
-fn endless(alloc: Global) -> Result<Vec<Stmt>, NoMemory>
-    ensures { IfOk result (λ list. plain_all list.items ≡ endless) }
-{
-    let body = one(alloc, Stmt::Again { id: 0 })?;
-    one(alloc, Stmt::Loop { id: 0, body })
-}
-
-fn far(alloc: Global) -> Result<Vec<Stmt>, NoMemory>
-    ensures { IfOk result (λ list. plain_all list.items ≡ far) }
-{
-    let to = rank_peer(2);
-    one(alloc, Stmt::Send { label: 0, to })
-}
-
-fn sample(alloc: Global, body: Vec<Stmt>) -> Result<Local, NoMemory>
-    ensures { IfOk result (λ local. program_of local ≡ sample_with (plain_all body.items)) }
-{
-    let protocol = name_of(b"P")?;
-    let roles = roles(alloc)?;
-    let labels = labels(alloc)?;
-    let kernels = kernels(alloc)?;
-    Ok(Local {
-        protocol,
-        range: NRange { low: 2, high: None },
-        roles,
-        labels,
-        kernels,
-        body,
-    })
-}
-
-#[tactic(auto, using(pb_machine::proofs::Samples::two_ranks, pb_machine::proofs::Samples::has_two))]
-fn tree(alloc: Global, body: Vec<Stmt>) -> Result<CTree, NoMemory>
-    requires { IsWellMade (sample_with (plain_all body.items)) }
-    ensures made { IfOk result IsTree }
-    ensures two { IfOk result (λ tree. total tree.local.roles.items (pos 2) ≡ 2) }
-    ensures range { IfOk result (λ tree. IsInRange tree.local.range 2) }
-{
-    let local = sample(alloc, body)?;
-    emit(alloc, &local)
-}
-
-// ---- their ranks
-
-/// One of the two ranks at its start.
-fn start(alloc: Global, tree: &CTree, rank: u32) -> Result<Rank, NoMemory>
+/// One of two ranks at its start.
+fn begin(alloc: Global, tree: &CTree, rank: u32) -> Result<Rank, NoMemory>
     requires made { IsTree tree.now }
-    requires two { total tree.now.local.roles.items (pos 2) ≡ 2 }
     requires range { IsInRange tree.now.local.range 2 }
-    requires there { rank < 2 }
     ensures { IfOk result (λ r. Fits tree.now r) }
 {
-    Rank::new(alloc, tree, 2, rank)
+    match total_of(tree, 2, 2) {
+        Some(total) if rank < total => Rank::new(alloc, tree, 2, rank),
+        _ => Err(NoMemory),
+    }
+}
+
+/// The same of a tree for each N from 2 on.
+fn start(alloc: Global, tree: &CTree, rank: u32) -> Result<Rank, NoMemory>
+    requires { IsTree tree.now }
+    ensures { IfOk result (λ r. Fits tree.now r) }
+{
+    if tree.local.range.low > 2 {
+        return Err(NoMemory);
+    }
+    match tree.local.range.high {
+        None => begin(alloc, tree, rank),
+        Some(_) => Err(NoMemory),
+    }
 }
 
 /// What comes next, which is then done, with this answer or label.
@@ -332,174 +225,106 @@ fn act_on(rank: &mut Rank, tree: &CTree, act: Act, answer: u32)
     }
 }
 
+fn enter(what: Joint, root: Option<u32>, op: Option<Op>) -> Next {
+    Next::Acts(Act::Enter { what, root, op })
+}
+
+/// What a word stands for. Behind it stands the answer or the label, and of a message only the label.
+fn next_of(word: &str) -> Option<Next> {
+    match word {
+        "silent" => Some(Next::Silent),
+        "run" => Some(Next::Acts(Act::Run { kernel: 1 })),
+        "choose 0" | "choose 1" => Some(Next::Acts(Act::Choose {
+            kernel: 0,
+            branches: 2,
+        })),
+        "send 0" => Some(Next::Acts(Act::Send { to: 1, label: 0 })),
+        "send 1" => Some(Next::Acts(Act::Send { to: 1, label: 1 })),
+        "wait 0" | "wait 1" | "wait 7" => Some(Next::Waits { from: 0 }),
+        "recv 0" => Some(Next::Acts(Act::Recv { from: 0, label: 0 })),
+        "recv 1" => Some(Next::Acts(Act::Recv { from: 0, label: 1 })),
+        "barrier" => Some(enter(Joint::Barrier, None, None)),
+        "tell" => Some(enter(Joint::Labelled(0), Some(1), None)),
+        "gather" => Some(enter(Joint::Labelled(0), Some(0), Some(Op::Sum))),
+        "compare" => Some(enter(Joint::Labelled(0), None, Some(Op::Max))),
+        "leave" => Some(Next::Acts(Act::Leave)),
+        "ended" => Some(Next::Ended),
+        _ => None,
+    }
+}
+
+fn answer_of(word: &str) -> u32 {
+    match word.split_once(' ') {
+        Some((_, number)) => number.parse().unwrap_or(0),
+        None => 0,
+    }
+}
+
 /// The rank does all this, one after the other.
-fn follow(rt: &impl Abort, rank: &mut Rank, tree: &CTree, steps: &[(Next, u32)])
+fn follow(rt: &impl Abort, rank: &mut Rank, tree: &CTree, words: &str)
     requires made { IsTree tree.now }
     requires fits { Fits tree.now rank.old }
     ensures { Fits tree.now rank.new }
 {
-    for (next, answer) in steps {
-        assert!(rt; step(rank, tree, *answer) == *next);
+    for word in words.split(", ") {
+        let next = step(rank, tree, answer_of(word));
+        assert!(rt; Some(next) == next_of(word), "{word}");
     }
 }
 
-const RUN: Next = Next::Acts(Act::Run { kernel: 1 });
+const ROUNDS: &str = "silent, run, silent, run, silent, silent, silent";
 
-const CHOOSE: Next = Next::Acts(Act::Choose {
-    kernel: 0,
-    branches: 2,
-});
+const CHOICES: &str = "choose 0, silent, send 0, silent, choose 1, silent, send 1";
 
-const LEAVE: Next = Next::Acts(Act::Leave);
+const READINGS: &str = "wait 0, silent, recv 0, silent, wait 1, silent, recv 1";
 
-const ROUNDS: [(Next, u32); 7] = [
-    (Next::Silent, 0),
-    (RUN, 0),
-    (Next::Silent, 0),
-    (RUN, 0),
-    (Next::Silent, 0),
-    (Next::Silent, 0),
-    (Next::Silent, 0),
-];
-
-const CHOICES: [(Next, u32); 7] = [
-    (CHOOSE, 0),
-    (Next::Silent, 0),
-    (Next::Acts(Act::Send { to: 1, label: 0 }), 0),
-    (Next::Silent, 0),
-    (CHOOSE, 1),
-    (Next::Silent, 0),
-    (Next::Acts(Act::Send { to: 1, label: 1 }), 0),
-];
-
-const READINGS: [(Next, u32); 7] = [
-    (Next::Waits { from: 0 }, 0),
-    (Next::Silent, 0),
-    (Next::Acts(Act::Recv { from: 0, label: 0 }), 0),
-    (Next::Silent, 0),
-    (Next::Waits { from: 0 }, 1),
-    (Next::Silent, 0),
-    (Next::Acts(Act::Recv { from: 0, label: 1 }), 0),
-];
-
-const TOGETHER: [(Next, u32); 9] = [
-    (
-        Next::Acts(Act::Enter {
-            what: Joint::Barrier,
-            root: None,
-            op: None,
-        }),
-        0,
-    ),
-    (LEAVE, 0),
-    (
-        Next::Acts(Act::Enter {
-            what: Joint::Labelled(0),
-            root: Some(1),
-            op: None,
-        }),
-        0,
-    ),
-    (LEAVE, 0),
-    (
-        Next::Acts(Act::Enter {
-            what: Joint::Labelled(0),
-            root: Some(0),
-            op: Some(Op::Sum),
-        }),
-        0,
-    ),
-    (LEAVE, 0),
-    (
-        Next::Acts(Act::Enter {
-            what: Joint::Labelled(0),
-            root: None,
-            op: Some(Op::Max),
-        }),
-        0,
-    ),
-    (LEAVE, 0),
-    (Next::Ended, 0),
-];
-
-const SILENT: [(Next, u32); 8] = [(Next::Silent, 0); 8];
-
-#[tactic(auto, using(pb_machine::proofs::Samples::all_made))]
-fn whole_tree(alloc: Global) -> Result<CTree, NoMemory>
-    ensures made { IfOk result IsTree }
-    ensures two { IfOk result (λ tree. total tree.local.roles.items (pos 2) ≡ 2) }
-    ensures range { IfOk result (λ tree. IsInRange tree.local.range 2) }
-{
-    let body = body(alloc)?;
-    tree(alloc, body)
-}
-
-#[tactic(auto, using(pb_machine::proofs::Samples::all_endless))]
-fn endless_tree(alloc: Global) -> Result<CTree, NoMemory>
-    ensures made { IfOk result IsTree }
-    ensures two { IfOk result (λ tree. total tree.local.roles.items (pos 2) ≡ 2) }
-    ensures range { IfOk result (λ tree. IsInRange tree.local.range 2) }
-{
-    let body = endless(alloc)?;
-    tree(alloc, body)
-}
-
-#[tactic(auto, using(pb_machine::proofs::Samples::all_far))]
-fn far_tree(alloc: Global) -> Result<CTree, NoMemory>
-    ensures made { IfOk result IsTree }
-    ensures two { IfOk result (λ tree. total tree.local.roles.items (pos 2) ≡ 2) }
-    ensures range { IfOk result (λ tree. IsInRange tree.local.range 2) }
-{
-    let body = far(alloc)?;
-    tree(alloc, body)
-}
+const TOGETHER: &str = "barrier, leave, tell, leave, gather, leave, compare, leave, ended";
 
 #[test]
-fn chooses_and_sends(rt: HostRuntime) -> Result<(), Fail> {
-    let tree = whole_tree(rt.alloc())?;
+fn chooses_and_sends(rt: HostRuntime) -> Result<(), NoMemory> {
+    let tree = tree_of(rt.alloc(), WHOLE)?;
     let mut rank = start(rt.alloc(), &tree, 0)?;
-    follow(&rt, &mut rank, &tree, &ROUNDS);
-    follow(&rt, &mut rank, &tree, &CHOICES);
-    follow(&rt, &mut rank, &tree, &TOGETHER);
+    follow(&rt, &mut rank, &tree, ROUNDS);
+    follow(&rt, &mut rank, &tree, CHOICES);
+    follow(&rt, &mut rank, &tree, TOGETHER);
     Ok(())
 }
 
 #[test]
-fn reads_and_receives(rt: HostRuntime) -> Result<(), Fail> {
-    let tree = whole_tree(rt.alloc())?;
+fn reads_and_receives(rt: HostRuntime) -> Result<(), NoMemory> {
+    let tree = tree_of(rt.alloc(), WHOLE)?;
     let mut rank = start(rt.alloc(), &tree, 1)?;
-    follow(&rt, &mut rank, &tree, &ROUNDS);
-    assert!(rt; rank.takes(&tree, 0));
-    assert!(rt; rank.takes(&tree, 1));
-    assert!(rt; !rank.takes(&tree, 2));
-    follow(&rt, &mut rank, &tree, &READINGS);
+    follow(&rt, &mut rank, &tree, ROUNDS);
+    assert!(rt; rank.takes(&tree, 0) && rank.takes(&tree, 1) && !rank.takes(&tree, 2));
+    follow(&rt, &mut rank, &tree, READINGS);
     assert!(rt; !rank.takes(&tree, 0));
-    follow(&rt, &mut rank, &tree, &TOGETHER);
+    follow(&rt, &mut rank, &tree, TOGETHER);
     Ok(())
 }
 
 #[test]
-fn a_wrong_label_makes_undefined(rt: HostRuntime) -> Result<(), Fail> {
-    let tree = whole_tree(rt.alloc())?;
+fn a_wrong_label_makes_undefined(rt: HostRuntime) -> Result<(), NoMemory> {
+    let tree = tree_of(rt.alloc(), WHOLE)?;
     let mut rank = start(rt.alloc(), &tree, 1)?;
-    follow(&rt, &mut rank, &tree, &ROUNDS);
-    assert!(rt; step(&mut rank, &tree, 7) == Next::Waits { from: 0 });
+    follow(&rt, &mut rank, &tree, ROUNDS);
+    follow(&rt, &mut rank, &tree, "wait 7");
     assert!(rt; rank.next(&tree) == Next::Undefined);
     Ok(())
 }
 
 #[test]
-fn silent_rounds_are_lost(rt: HostRuntime) -> Result<(), Fail> {
-    let tree = endless_tree(rt.alloc())?;
+fn silent_rounds_are_lost(rt: HostRuntime) -> Result<(), NoMemory> {
+    let tree = tree_of(rt.alloc(), ENDLESS)?;
     let mut rank = start(rt.alloc(), &tree, 0)?;
-    follow(&rt, &mut rank, &tree, &SILENT);
+    let silent = "silent, silent, silent, silent, silent, silent, silent, silent";
+    follow(&rt, &mut rank, &tree, silent);
     assert!(rt; rank.next(&tree) == Next::Lost);
     Ok(())
 }
 
 #[test]
-fn no_such_rank_is_undefined(rt: HostRuntime) -> Result<(), Fail> {
-    let tree = far_tree(rt.alloc())?;
+fn no_such_rank_is_undefined(rt: HostRuntime) -> Result<(), NoMemory> {
+    let tree = tree_of(rt.alloc(), FAR)?;
     let rank = start(rt.alloc(), &tree, 0)?;
     assert!(rt; rank.next(&tree) == Next::Undefined);
     Ok(())

@@ -1,8 +1,8 @@
+use crate::answers::{folder, is_answer, sink};
 use pb_cli_simulate::{Mode, Modes, Options, Shown, Status, replay, sim};
-use pb_io::{MemFile, MemFolder, MemSink};
+use pb_io::{MemFolder, MemSink, NoMemory};
 use pb_text::MOST_EVENTS;
 use std::alloc::{AllocError, Global};
-use std::test::Fail;
 
 /// What each text begins with, up to the labels, and behind them up to the statements.
 const LABELLED: &str = "/* pabble 1 */
@@ -70,24 +70,45 @@ const EXCHANGED: &str = "  if (R == 0 && I == 0) {
   }
 ";
 
-/// A text with these labels and statements.
-fn text(alloc: Global, labels: &str, statements: &[&str]) -> Result<Vec<u8>, AllocError> {
-    let mut text = Vec::new(alloc);
-    text.extend_from_slice(LABELLED.as_bytes())?;
-    text.extend_from_slice(labels.as_bytes())?;
-    text.extend_from_slice(FRAME.as_bytes())?;
-    for statement in statements {
-        text.extend_from_slice(statement.as_bytes())?;
-    }
-    text.extend_from_slice(END.as_bytes())?;
-    Ok(text)
+const A: &str = "/* label A () */\n";
+
+const AB: &str = "/* label A () */\n/* label B () */\n";
+
+/// A text's labels, and its statements in two pieces.
+#[derive(Clone, Copy)]
+struct Parts {
+    labels: &'static str,
+    first: &'static str,
+    second: &'static str,
 }
 
-fn file(alloc: Global, name: &str, bytes: Vec<u8>) -> Result<MemFile, AllocError> {
-    Ok(MemFile {
-        name: String::from_str(alloc, name)?,
-        bytes,
-    })
+const TWO_MESSAGES: Parts = Parts {
+    labels: AB,
+    first: EXCHANGED,
+    second: "",
+};
+
+fn with_a(first: &'static str, second: &'static str) -> Parts {
+    Parts {
+        labels: A,
+        first,
+        second,
+    }
+}
+
+fn text(alloc: Global, parts: Parts) -> Result<Vec<u8>, AllocError> {
+    let mut text = Vec::new(alloc);
+    for part in [
+        LABELLED,
+        parts.labels,
+        FRAME,
+        parts.first,
+        parts.second,
+        END,
+    ] {
+        text.extend_from_slice(part.as_bytes())?;
+    }
+    Ok(text)
 }
 
 /// A simulation by seed 0.
@@ -101,215 +122,246 @@ fn options(n: u32, mode: Mode) -> Options {
     }
 }
 
-/// The status and the output of `sim` on a text, where each word is 4294967295.
-fn simulated(alloc: Global, text: Vec<u8>, options: Options) -> Result<(Status, Vec<u8>), Fail> {
-    let mut files = Vec::new(alloc);
-    files.push(file(alloc, "t", text)?)?;
-    let mut folder = MemFolder::new(files, Vec::new(alloc));
-    let mut out = MemSink::new(alloc, 8192, 8192, Vec::new(alloc))?;
+/// The status of `sim`, where each word is 4294967295.
+fn simulate(alloc: Global, folder: &mut MemFolder, options: Options, out: &mut MemSink) -> Status {
     if options.turns > MOST_EVENTS {
-        return Ok((Status::Usage, Vec::new(alloc)));
+        return Status::Usage;
     }
-    let status = sim(
-        alloc,
-        "t",
-        options,
-        |_seed: u64, _rank: u32, _count: u64| 4_294_967_295,
-        &mut folder,
-        &mut out,
-    );
-    Ok((status, Vec::from_slice(alloc, out.taken())?))
+    let answers = |_seed: u64, _rank: u32, _count: u64| 4_294_967_295;
+    sim(alloc, "t", options, answers, folder, out)
 }
 
-/// The same of `replay` for N = 2.
-fn replayed(alloc: Global, text: Vec<u8>, schedule: &str) -> Result<(Status, Vec<u8>), Fail> {
-    let mut files = Vec::new(alloc);
-    files.push(file(alloc, "t", text)?)?;
-    files.push(file(alloc, "s", Vec::from_slice(alloc, schedule.as_bytes())?)?)?;
-    let mut folder = MemFolder::new(files, Vec::new(alloc));
-    let mut out = MemSink::new(alloc, 8192, 8192, Vec::new(alloc))?;
-    let status = replay(
-        alloc,
-        "t",
-        "s",
-        2,
-        |_seed: u64, _rank: u32, _count: u64| 0,
-        &mut folder,
-        &mut out,
-    );
-    Ok((status, Vec::from_slice(alloc, out.taken())?))
+fn is_simulated(
+    alloc: Global,
+    text: &[u8],
+    options: Options,
+    answer: &str,
+) -> Result<bool, NoMemory> {
+    let mut folder = folder(alloc, text, b"")?;
+    let mut out = sink(alloc, 8192)?;
+    let status = simulate(alloc, &mut folder, options, &mut out);
+    Ok(is_answer(status, out.taken(), answer))
 }
 
-const A: &str = "/* label A () */\n";
+/// Whether this is what `sim` answers to a text.
+fn simulates(alloc: Global, parts: Parts, options: Options, answer: &str) -> bool {
+    match text(alloc, parts) {
+        Ok(text) => is_simulated(alloc, &text, options, answer) == Ok(true),
+        Err(_) => false,
+    }
+}
 
-const AB: &str = "/* label A () */\n/* label B () */\n";
+fn is_replayed(
+    alloc: Global,
+    text: &[u8],
+    schedule: &[u8],
+    answer: &str,
+) -> Result<bool, NoMemory> {
+    let mut folder = folder(alloc, text, schedule)?;
+    let mut out = sink(alloc, 8192)?;
+    let answers = |_seed: u64, _rank: u32, _count: u64| 0;
+    let status = replay(alloc, "t", "s", 2, answers, &mut folder, &mut out);
+    Ok(is_answer(status, out.taken(), answer))
+}
+
+/// Whether `replay`, for N = 2 and where each word is 0, answers to the schedule before an arrow what stands behind it.
+fn replays(alloc: Global, parts: Parts, row: &str) -> bool {
+    let Some((schedule, answer)) = row.split_once("=> ") else {
+        return false;
+    };
+    match text(alloc, parts) {
+        Ok(text) => is_replayed(alloc, &text, schedule.as_bytes(), answer) == Ok(true),
+        Err(_) => false,
+    }
+}
 
 #[test]
-fn one_message(rt: HostRuntime) -> Result<(), Fail> {
-    let alloc = rt.alloc();
-    for (n, status, output) in [
-        (2, Status::Done, "0 send 1 A\n1 recv 0 A\nended\n"),
-        (1, Status::OutOfRange, "pabble: N = 1 outside 2..max\n"),
-        (1025, Status::Limit, "pabble: limit ranks\n"),
+fn one_message(rt: HostRuntime) {
+    let parts = with_a(SENDS, RECEIVES);
+    for (n, answer) in [
+        (2, "0\n0 send 1 A\n1 recv 0 A\nended\n"),
+        (1, "12\npabble: N = 1 outside 2..max\n"),
+        (1025, "5\npabble: limit ranks\n"),
     ] {
-        let (got, bytes) = simulated(
-            alloc,
-            text(alloc, A, &[SENDS, RECEIVES])?,
-            options(n, Mode::Eager),
-        )?;
-        assert!(rt; got == status);
-        assert!(rt; bytes.as_slice() == output.as_bytes());
+        let asked = options(n, Mode::Eager);
+        assert!(rt; simulates(rt.alloc(), parts, asked, answer), "{answer}");
     }
-    Ok(())
 }
 
 #[test]
-fn signed_words(rt: HostRuntime) -> Result<(), Fail> {
-    let alloc = rt.alloc();
+fn signed_words(rt: HostRuntime) {
     let send =
         "  if (R == 0 && I == 0) {\n    make_A(N, R, I, is);\n    MPI_Send(is, 2, MPI_INT32_T, r_W(N, 1), 0, MPI_COMM_WORLD);\n  }\n";
-    let (status, _bytes) = simulated(alloc, text(alloc, A, &[send])?, options(2, Mode::Eager))?;
-    assert!(rt; status == Status::Text);
-    Ok(())
+    let asked = options(2, Mode::Eager);
+    assert!(rt;
+        simulates(
+            rt.alloc(),
+            with_a(send, ""),
+            asked,
+            "8\npabble: text at 37:1\n"
+        )
+    );
 }
 
 #[test]
-fn changed_texts(rt: HostRuntime) -> Result<(), Fail> {
-    let alloc = rt.alloc();
+fn changed_texts(rt: HostRuntime) {
     let lost = "  L0: {\n    goto L0;\n  }\n";
     let undefined =
         "  if (R == 0 && I == 0) {\n    MPI_Send(us, 0, MPI_UINT32_T, r_W(N, N), 0, MPI_COMM_WORLD);\n  }\n";
-    for (statements, output) in [
-        ([lost, ""], "pabble: stuck, rank 0 is lost\n"),
+    for (first, second, answer) in [
+        (lost, "", "10\npabble: stuck, rank 0 is lost\n"),
         (
-            [SENDS, ""],
-            "0 send 1 A\npabble: stuck, rank 1 has A from 0 left over\n",
+            SENDS,
+            "",
+            "10\n0 send 1 A\npabble: stuck, rank 1 has A from 0 left over\n",
         ),
-        (["", RECEIVES], "pabble: stuck, rank 1 waits for A from 0\n"),
         (
-            [undefined, RECEIVES],
-            "pabble: stuck, rank 0 is undefined\n",
+            "",
+            RECEIVES,
+            "10\npabble: stuck, rank 1 waits for A from 0\n",
+        ),
+        (
+            undefined,
+            RECEIVES,
+            "10\npabble: stuck, rank 0 is undefined\n",
         ),
     ] {
-        let (status, bytes) = simulated(
-            alloc,
-            text(alloc, A, statements.as_slice())?,
-            options(2, Mode::Eager),
-        )?;
-        assert!(rt; bytes.as_slice() == output.as_bytes());
-        assert!(rt; status == Status::Stuck);
+        let asked = options(2, Mode::Eager);
+        assert!(rt;
+            simulates(rt.alloc(), with_a(first, second), asked, answer),
+            "{answer}"
+        );
     }
+}
+
+#[test]
+fn a_waiting_send_is_stuck(rt: HostRuntime) {
+    let asked = options(2, Mode::Waiting);
+    let answer = "10\n0 send 1 A\npabble: stuck, rank 0 waits until 1 takes A\n";
+    assert!(rt; simulates(rt.alloc(), TWO_MESSAGES, asked, answer));
+}
+
+fn is_done_in_50_bytes(alloc: Global, text: &[u8], options: Options) -> Result<bool, NoMemory> {
+    let mut folder = folder(alloc, text, b"")?;
+    let mut out = sink(alloc, 8192)?;
+    let status = simulate(alloc, &mut folder, options, &mut out);
+    Ok(status == Status::Done && out.taken().len() == 50)
+}
+
+#[test]
+fn eager_sends_are_done(rt: HostRuntime) -> Result<(), NoMemory> {
+    let text = text(rt.alloc(), TWO_MESSAGES)?;
+    assert!(rt; is_done_in_50_bytes(rt.alloc(), &text, options(2, Mode::Eager))?);
     Ok(())
 }
 
 #[test]
-fn waiting_and_eager_sends(rt: HostRuntime) -> Result<(), Fail> {
-    let alloc = rt.alloc();
-    let (status, bytes) = simulated(
-        alloc,
-        text(alloc, AB, &[EXCHANGED])?,
-        options(2, Mode::Waiting),
-    )?;
-    assert!(rt;
-        bytes.as_slice() == b"0 send 1 A\npabble: stuck, rank 0 waits until 1 takes A\n".as_slice()
-    );
-    assert!(rt; status == Status::Stuck);
-    let (status, bytes) = simulated(
-        alloc,
-        text(alloc, AB, &[EXCHANGED])?,
-        options(2, Mode::Eager),
-    )?;
-    assert!(rt; status == Status::Done);
-    assert!(rt; bytes.len() == 50);
-    Ok(())
-}
-
-#[test]
-fn texts_at_fault(rt: HostRuntime) -> Result<(), Fail> {
-    let alloc = rt.alloc();
+fn texts_at_fault(rt: HostRuntime) {
     let unspaced = "  if (R == 0 && I == N-1) {\n  }\n";
-    let (status, bytes) = simulated(
-        alloc,
-        text(alloc, A, &[SENDS, unspaced])?,
-        options(2, Mode::Eager),
-    )?;
-    assert!(rt; bytes.as_slice() == b"pabble: text at 39:1\n".as_slice());
-    assert!(rt; status == Status::Text);
-    Ok(())
+    let asked = options(2, Mode::Eager);
+    assert!(rt;
+        simulates(
+            rt.alloc(),
+            with_a(SENDS, unspaced),
+            asked,
+            "8\npabble: text at 39:1\n"
+        )
+    );
 }
 
+/// Schedules of one message from rank 0 to rank 1, and what is answered to them.
+const SCHEDULES: &str = "\
+pabble schedule 1
+seed 0
+1
+1
+1
+=> 9
+pabble: schedule line 5
+--
+pabble schedule 1
+seed 0
+1\x20
+=> 9
+pabble: schedule line 3
+--
+pabble schedule 1
+seed 0
+4294967295
+=> 9
+pabble: schedule line 3
+--
+pabble schedule 1
+seed 0
+4294967296
+=> 9
+pabble: schedule line 3
+--
+pabble schedule 1
+seed 0
+=> 11
+pabble: turns 0
+--
+pabble schedule 1
+seed 0
+0
+0
+0
+1
+1
+1
+0
+=> 9
+0 send 1 A
+1 recv 0 A
+pabble: schedule line 9
+";
+
 #[test]
-fn replays(rt: HostRuntime) -> Result<(), Fail> {
-    let alloc = rt.alloc();
-    for (schedule, status, output) in [
-        (
-            "pabble schedule 1\nseed 0\n1\n1\n1\n",
-            Status::Schedule,
-            "pabble: schedule line 5\n",
-        ),
-        (
-            "pabble schedule 1\nseed 0\n1 \n",
-            Status::Schedule,
-            "pabble: schedule line 3\n",
-        ),
-        (
-            "pabble schedule 1\nseed 0\n4294967295\n",
-            Status::Schedule,
-            "pabble: schedule line 3\n",
-        ),
-        (
-            "pabble schedule 1\nseed 0\n4294967296\n",
-            Status::Schedule,
-            "pabble: schedule line 3\n",
-        ),
-        (
-            "pabble schedule 1\nseed 0\n",
-            Status::Turns,
-            "pabble: turns 0\n",
-        ),
-        (
-            "pabble schedule 1\nseed 0\n0\n0\n0\n1\n1\n1\n0\n",
-            Status::Schedule,
-            "0 send 1 A\n1 recv 0 A\npabble: schedule line 9\n",
-        ),
-    ] {
-        let (got, bytes) = replayed(alloc, text(alloc, A, &[SENDS, RECEIVES])?, schedule)?;
-        assert!(rt; bytes.as_slice() == output.as_bytes());
-        assert!(rt; got == status);
+fn replays_one_message(rt: HostRuntime) {
+    for row in SCHEDULES.split("--\n") {
+        assert!(rt; replays(rt.alloc(), with_a(SENDS, RECEIVES), row), "{row}");
     }
-    Ok(())
 }
 
+/// The same of two messages that are received in the other order.
+const WITH_MODES: &str = "\
+pabble schedule 2
+seed 0
+0 w
+0 w
+1 e
+1 e
+=> 10
+0 send 1 A
+pabble: stuck, rank 0 waits until 1 takes A
+--
+pabble schedule 1
+seed 0
+0
+0
+1
+1
+=> 11
+0 send 1 A
+pabble: turns 4
+--
+pabble schedule 2
+seed 0
+0 x
+=> 9
+pabble: schedule line 3
+";
+
 #[test]
-fn replays_with_modes(rt: HostRuntime) -> Result<(), Fail> {
-    let alloc = rt.alloc();
-    for (schedule, status, output) in [
-        (
-            "pabble schedule 2\nseed 0\n0 w\n0 w\n1 e\n1 e\n",
-            Status::Stuck,
-            "0 send 1 A\npabble: stuck, rank 0 waits until 1 takes A\n",
-        ),
-        (
-            "pabble schedule 1\nseed 0\n0\n0\n1\n1\n",
-            Status::Turns,
-            "0 send 1 A\npabble: turns 4\n",
-        ),
-        (
-            "pabble schedule 2\nseed 0\n0 x\n",
-            Status::Schedule,
-            "pabble: schedule line 3\n",
-        ),
-    ] {
-        let (got, bytes) = replayed(alloc, text(alloc, AB, &[EXCHANGED])?, schedule)?;
-        assert!(rt; bytes.as_slice() == output.as_bytes());
-        assert!(rt; got == status);
+fn replays_with_modes(rt: HostRuntime) {
+    for row in WITH_MODES.split("--\n") {
+        assert!(rt; replays(rt.alloc(), TWO_MESSAGES, row), "{row}");
     }
-    Ok(())
 }
 
-#[test]
-fn a_schedule_is_replayed(rt: HostRuntime) -> Result<(), Fail> {
-    let alloc = rt.alloc();
+/// The schedule of a simulation by seed 7.
+fn schedule_of(alloc: Global, text: &[u8]) -> Result<MemSink, NoMemory> {
     let asked = Options {
         n: 2,
         seed: 7,
@@ -317,11 +369,23 @@ fn a_schedule_is_replayed(rt: HostRuntime) -> Result<(), Fail> {
         modes: Modes::Mixed,
         shown: Shown::Schedule,
     };
-    let (status, schedule) = simulated(alloc, text(alloc, A, &[SENDS, RECEIVES])?, asked)?;
-    assert!(rt; status == Status::Done);
-    let schedule = std::str::from_utf8(&schedule)?;
-    let (status, bytes) = replayed(alloc, text(alloc, A, &[SENDS, RECEIVES])?, schedule)?;
-    assert!(rt; status == Status::Done);
-    assert!(rt; bytes.as_slice() == b"0 send 1 A\n1 recv 0 A\nended\n".as_slice());
+    let mut folder = folder(alloc, text, b"")?;
+    let mut out = sink(alloc, 8192)?;
+    match simulate(alloc, &mut folder, asked, &mut out) {
+        Status::Done => Ok(out),
+        _ => Err(NoMemory),
+    }
+}
+
+fn is_replayed_so(alloc: Global, text: &[u8], answer: &str) -> Result<bool, NoMemory> {
+    let out = schedule_of(alloc, text)?;
+    is_replayed(alloc, text, out.taken(), answer)
+}
+
+#[test]
+fn a_schedule_is_replayed(rt: HostRuntime) -> Result<(), NoMemory> {
+    let text = text(rt.alloc(), with_a(SENDS, RECEIVES))?;
+    let answer = "0\n0 send 1 A\n1 recv 0 A\nended\n";
+    assert!(rt; is_replayed_so(rt.alloc(), &text, answer)?);
     Ok(())
 }

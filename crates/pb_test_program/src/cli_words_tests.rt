@@ -1,7 +1,118 @@
-use pb_cli_words::{Command, Mode, Modes, Shown, command_in};
+use pb_cli_words::{Command, Mode, Modes, Options, Shown, command_in};
 use pb_text::{MOST_EVENTS, MOST_NUMBER};
 use std::alloc::{AllocError, Global};
-use std::test::Fail;
+
+/// Words, and what they ask for: the letters of the command, of a simulation also those of its modes and of what is shown, and
+/// the first letters of the files.
+const COMMANDS: &str = "\
+check p => cp
+check -- -p => c-p
+check - => c-
+gen p => gp
+gen -- p => gp
+gen p k => kpk
+gen p -- -k => kp-k
+gen -- p k => kpk
+project p => pp
+sim t --n 8 => sel.t
+--n 8 sim t => sel.t
+--n=8 sim -- t => sel.t
+sim --n=00000000000000000008 t => sel.t
+sim --mode waiting t --n 8 --schedule => sws.t
+sim --mode=mixed t --seed 7 --turns=0100 --n 8 => sml!t
+replay t s --n 2 => r2ts
+replay t --n 2 -- s => r2ts
+--n 2 replay -- t s => r2ts
+run p --n 2000000000 --seed 18446744073709551615 => uNp
+run p --n=2 => up
+run --n 2 p => up
+demo 4 => d4
+demo 04 => d4
+demo -- 4 => d4
+demo 4000 => dM
+cost p => op
+cost -- p => op
+expand p => ep
+expand -- p => ep
+strips p => stp
+strips -- p => stp
+judge p l --n 2 => j2pl
+judge p --n=02 -- l => j2pl
+--n 2 judge p l => j2pl
+";
+
+/// Words that ask for nothing.
+const REFUSED: &str = "\
+check => -
+ => -
+gen => -
+-- check p => -
+check p q => -
+check -p => -
+check --p => -
+check --n 2 p => -
+gen p --schedule => -
+gen --n 2 p => -
+-- gen p => -
+gen p k l => -
+gen p k --n 2 => -
+gen p -- k l => -
+sim t => -
+sim t --n => -
+sim t --n --seed 7 => -
+sim t --n -1 => -
+sim t --n - => -
+sim t --n 2 --n 3 => -
+sim t --n 2 --n=2 => -
+sim t --n 2000000001 => -
+sim t --n 000000000000000000008 => -
+sim t --n  => -
+sim t --n=  => -
+sim t --n 8x => -
+sim t --n 2 --turns 0 => -
+sim t --n 2 --turns 1000001 => -
+sim t --n 2 --seed 18446744073709551616 => -
+sim t --n 2 --mode often => -
+sim t --n 2 --schedule --schedule => -
+sim t --n 2 --schedule= => -
+sim t --nn 2 => -
+sim t u --n 2 => -
+replay t --n 2 => -
+replay t s u --n 2 => -
+replay t s => -
+replay t s --n 2 --seed 7 => -
+replay t s --seed 7 => -
+run p => -
+run p --n 2 --n 3 => -
+demo => -
+demo 0 => -
+demo 4001 => -
+demo 4 5 => -
+demo -- 4 5 => -
+demo p => -
+demo -4 => -
+demo --n 2 4 => -
+demo 4 --schedule => -
+-- demo 4 => -
+cost => -
+cost p q => -
+cost p --n 2 => -
+cost p --schedule => -
+expand => -
+expand p q => -
+expand p --n 2 => -
+strips => -
+strips p q => -
+strips p --n 2 => -
+-- cost p => -
+judge p --n 2 => -
+judge p l => -
+judge p l m --n 2 => -
+judge p l --n 2 --n 2 => -
+judge p l --n 2 --seed 7 => -
+judge p l --n 2 --schedule => -
+judge p l --n 2000000001 => -
+";
 
 fn words(alloc: Global, line: &str) -> Result<Vec<String>, AllocError> {
     let mut words = Vec::new(alloc);
@@ -11,218 +122,98 @@ fn words(alloc: Global, line: &str) -> Result<Vec<String>, AllocError> {
     Ok(words)
 }
 
-/// The letters of what is asked for: the command's, and of a simulation the modes', `s` where the schedule is shown, and the
-/// file's first letter.
-fn letters(alloc: Global, line: &str) -> Result<Vec<u8>, AllocError> {
-    let words = words(alloc, line)?;
-    let mut out = Vec::new(alloc);
-    match command_in(alloc, words.as_slice()) {
-        Err(_) => out.extend_from_slice(b"no memory")?,
-        Ok(None) => out.push(b'-')?,
-        Ok(Some(Command::Check(file))) => {
-            out.push(b'c')?;
-            out.extend_from_slice(file.as_bytes())?;
-        }
-        Ok(Some(Command::Gen(file))) => {
-            out.push(b'g')?;
-            out.extend_from_slice(file.as_bytes())?;
-        }
-        Ok(Some(Command::GenWith(file, kernels))) => {
-            out.push(b'k')?;
-            out.extend_from_slice(file.as_bytes())?;
-            out.extend_from_slice(kernels.as_bytes())?;
-        }
-        Ok(Some(Command::Project(file))) => {
-            out.push(b'p')?;
-            out.extend_from_slice(file.as_bytes())?;
-        }
-        Ok(Some(Command::Sim(file, options))) => {
-            out.push(b's')?;
-            out.push(match options.modes {
-                Modes::Each(Mode::Eager) => b'e',
-                Modes::Each(Mode::Waiting) => b'w',
-                Modes::Mixed => b'm',
-            })?;
-            out.push(match options.shown {
-                Shown::Log => b'l',
-                Shown::Schedule => b's',
-            })?;
-            if options.n == 8 && options.seed == 7 && options.turns == 100 {
-                out.push(b'!')?;
-            }
-            if options.n == 8 && options.seed == 0 && options.turns == MOST_EVENTS {
-                out.push(b'.')?;
-            }
-            out.extend_from_slice(file.as_bytes())?;
-        }
-        Ok(Some(Command::Replay(text, schedule, n))) => {
-            out.push(b'r')?;
-            if n == 2 {
-                out.push(b'2')?;
-            }
-            out.extend_from_slice(text.as_bytes())?;
-            out.extend_from_slice(schedule.as_bytes())?;
-        }
-        Ok(Some(Command::Run(file, options))) => {
-            out.push(b'u')?;
-            if options.n == MOST_NUMBER {
-                out.push(b'N')?;
-            }
-            out.extend_from_slice(file.as_bytes())?;
-        }
-        Ok(Some(Command::Demo(count))) => {
-            out.push(b'd')?;
-            if count == 4 {
-                out.push(b'4')?;
-            }
-            if count == 4_000 {
-                out.push(b'M')?;
-            }
-        }
-        Ok(Some(Command::Expand(file))) => {
-            out.push(b'e')?;
-            out.extend_from_slice(file.as_bytes())?;
-        }
-        Ok(Some(Command::Strips(file))) => {
-            out.push(b's')?;
-            out.push(b't')?;
-            out.extend_from_slice(file.as_bytes())?;
-        }
-        Ok(Some(Command::Cost(file))) => {
-            out.push(b'o')?;
-            out.extend_from_slice(file.as_bytes())?;
-        }
-        Ok(Some(Command::Judge(file, log, n))) => {
-            out.push(b'j')?;
-            if n == 2 {
-                out.push(b'2')?;
-            }
-            out.extend_from_slice(file.as_bytes())?;
-            out.extend_from_slice(log.as_bytes())?;
-        }
+/// Whether the letters of a command are followed by those of its files, which may be one.
+fn is_spelled(wanted: &str, letters: &str, first: &str, second: &str) -> bool {
+    match wanted.strip_prefix(letters) {
+        Some(files) => files.strip_prefix(first) == Some(second),
+        None => false,
     }
-    Ok(out)
+}
+
+/// The letter of the numbers that are asked for.
+fn numbers(options: &Options) -> &'static str {
+    match (options.n, options.seed, options.turns) {
+        (8, 7, 100) => "!",
+        (8, 0, MOST_EVENTS) => ".",
+        _ => "",
+    }
+}
+
+fn is_simulation(wanted: &str, file: &str, options: &Options) -> bool {
+    let mode = match options.modes {
+        Modes::Each(Mode::Eager) => "se",
+        Modes::Each(Mode::Waiting) => "sw",
+        Modes::Mixed => "sm",
+    };
+    let shown = match options.shown {
+        Shown::Log => "l",
+        Shown::Schedule => "s",
+    };
+    match wanted.strip_prefix(mode) {
+        Some(rest) => is_spelled(rest, shown, numbers(options), file),
+        None => false,
+    }
+}
+
+fn is_demo(wanted: &str, count: u32) -> bool {
+    match count {
+        4 => wanted == "d4",
+        4_000 => wanted == "dM",
+        _ => wanted == "d",
+    }
+}
+
+fn is_command(wanted: &str, command: &Command) -> bool {
+    match *command {
+        Command::Check(file) => is_spelled(wanted, "c", file, ""),
+        Command::Gen(file) => is_spelled(wanted, "g", file, ""),
+        Command::GenWith(file, kernels) => is_spelled(wanted, "k", file, kernels),
+        Command::Project(file) => is_spelled(wanted, "p", file, ""),
+        Command::Sim(file, options) => is_simulation(wanted, file, &options),
+        Command::Replay(text, schedule, 2) => is_spelled(wanted, "r2", text, schedule),
+        Command::Replay(text, schedule, _) => is_spelled(wanted, "r", text, schedule),
+        Command::Run(file, options) if options.n == MOST_NUMBER => is_spelled(
+            wanted, "uN", file, "",
+        ),
+        Command::Run(file, _) => is_spelled(wanted, "u", file, ""),
+        Command::Demo(count) => is_demo(wanted, count),
+        Command::Expand(file) => is_spelled(wanted, "e", file, ""),
+        Command::Strips(file) => is_spelled(wanted, "st", file, ""),
+        Command::Cost(file) => is_spelled(wanted, "o", file, ""),
+        Command::Judge(file, log, 2) => is_spelled(wanted, "j2", file, log),
+        Command::Judge(file, log, _) => is_spelled(wanted, "j", file, log),
+    }
+}
+
+fn is_asked(alloc: Global, words: &[String], wanted: &str) -> bool {
+    match command_in(alloc, words) {
+        Ok(Some(command)) => is_command(wanted, &command),
+        Ok(None) => wanted == "-",
+        Err(_) => false,
+    }
+}
+
+/// Whether the words before an arrow ask for what stands behind it.
+fn is_so(alloc: Global, row: &str) -> bool {
+    let Some((line, wanted)) = row.split_once(" => ") else {
+        return false;
+    };
+    match words(alloc, line) {
+        Ok(words) => is_asked(alloc, words.as_slice(), wanted),
+        Err(_) => false,
+    }
 }
 
 #[test]
-fn reads_commands(rt: HostRuntime) -> Result<(), Fail> {
-    for (line, asked) in [
-        ("check p", "cp"),
-        ("check -- -p", "c-p"),
-        ("check -", "c-"),
-        ("gen p", "gp"),
-        ("gen -- p", "gp"),
-        ("gen p k", "kpk"),
-        ("gen p -- -k", "kp-k"),
-        ("gen -- p k", "kpk"),
-        ("project p", "pp"),
-        ("sim t --n 8", "sel.t"),
-        ("--n 8 sim t", "sel.t"),
-        ("--n=8 sim -- t", "sel.t"),
-        ("sim --n=00000000000000000008 t", "sel.t"),
-        ("sim --mode waiting t --n 8 --schedule", "sws.t"),
-        ("sim --mode=mixed t --seed 7 --turns=0100 --n 8", "sml!t"),
-        ("replay t s --n 2", "r2ts"),
-        ("replay t --n 2 -- s", "r2ts"),
-        ("--n 2 replay -- t s", "r2ts"),
-        ("run p --n 2000000000 --seed 18446744073709551615", "uNp"),
-        ("run p --n=2", "up"),
-        ("run --n 2 p", "up"),
-        ("demo 4", "d4"),
-        ("demo 04", "d4"),
-        ("demo -- 4", "d4"),
-        ("demo 4000", "dM"),
-        ("cost p", "op"),
-        ("cost -- p", "op"),
-        ("expand p", "ep"),
-        ("expand -- p", "ep"),
-        ("strips p", "stp"),
-        ("strips -- p", "stp"),
-        ("judge p l --n 2", "j2pl"),
-        ("judge p --n=02 -- l", "j2pl"),
-        ("--n 2 judge p l", "j2pl"),
-    ] {
-        let got = letters(rt.alloc(), line)?;
-        assert!(rt; got.as_slice() == asked.as_bytes());
+fn reads_commands(rt: HostRuntime) {
+    for row in COMMANDS.lines() {
+        assert!(rt; is_so(rt.alloc(), row), "{row}");
     }
-    Ok(())
 }
 
 #[test]
-fn refuses_words_in_no_form(rt: HostRuntime) -> Result<(), Fail> {
-    for line in [
-        "",
-        "check",
-        "gen",
-        "-- check p",
-        "check p q",
-        "check -p",
-        "check --p",
-        "check --n 2 p",
-        "gen p --schedule",
-        "gen --n 2 p",
-        "-- gen p",
-        "gen p k l",
-        "gen p k --n 2",
-        "gen p -- k l",
-        "sim t",
-        "sim t --n",
-        "sim t --n --seed 7",
-        "sim t --n -1",
-        "sim t --n -",
-        "sim t --n 2 --n 3",
-        "sim t --n 2 --n=2",
-        "sim t --n 2000000001",
-        "sim t --n 000000000000000000008",
-        "sim t --n ",
-        "sim t --n= ",
-        "sim t --n 8x",
-        "sim t --n 2 --turns 0",
-        "sim t --n 2 --turns 1000001",
-        "sim t --n 2 --seed 18446744073709551616",
-        "sim t --n 2 --mode often",
-        "sim t --n 2 --schedule --schedule",
-        "sim t --n 2 --schedule=",
-        "sim t --nn 2",
-        "sim t u --n 2",
-        "replay t --n 2",
-        "replay t s u --n 2",
-        "replay t s",
-        "replay t s --n 2 --seed 7",
-        "replay t s --seed 7",
-        "run p",
-        "run p --n 2 --n 3",
-        "demo",
-        "demo 0",
-        "demo 4001",
-        "demo 4 5",
-        "demo -- 4 5",
-        "demo p",
-        "demo -4",
-        "demo --n 2 4",
-        "demo 4 --schedule",
-        "-- demo 4",
-        "cost",
-        "cost p q",
-        "cost p --n 2",
-        "cost p --schedule",
-        "expand",
-        "expand p q",
-        "expand p --n 2",
-        "strips",
-        "strips p q",
-        "strips p --n 2",
-        "-- cost p",
-        "judge p --n 2",
-        "judge p l",
-        "judge p l m --n 2",
-        "judge p l --n 2 --n 2",
-        "judge p l --n 2 --seed 7",
-        "judge p l --n 2 --schedule",
-        "judge p l --n 2000000001",
-    ] {
-        let got = letters(rt.alloc(), line)?;
-        assert!(rt; got.as_slice() == b"-".as_slice());
+fn refuses_words_in_no_form(rt: HostRuntime) {
+    for row in REFUSED.lines() {
+        assert!(rt; is_so(rt.alloc(), row), "{row}");
     }
-    Ok(())
 }

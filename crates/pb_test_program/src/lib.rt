@@ -2,6 +2,8 @@
 #![tactic(auto)]
 
 #[cfg(test)]
+mod answers;
+#[cfg(test)]
 mod cli_demo_tests;
 #[cfg(test)]
 mod cli_simulate_tests;

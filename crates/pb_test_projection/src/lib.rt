@@ -11,3 +11,5 @@ mod part_takers_tests;
 mod part_tests;
 #[cfg(test)]
 mod project_piece_tests;
+#[cfg(test)]
+mod trees;

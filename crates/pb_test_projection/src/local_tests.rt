@@ -1,9 +1,8 @@
 use pb_local::{
-    Base, CoreKernel, CoreLabel, Guard, Guards, KernelKind, Lin, Local, NRange, Name, NoMemory, Op,
-    Payload, Peer, Relay, Role, Stmt, Test, print_local,
+    Base, CoreKernel, CoreLabel, Guard, Guards, KernelKind, Lin, Local, NRange, Name, NoMemory,
+    Payload, Peer, Role, Stmt, print_local,
 };
 use std::alloc::Global;
-use std::test::Fail;
 
 fn fixed(off: i32) -> Lin {
     Lin {
@@ -36,50 +35,46 @@ fn only(alloc: Global, guard: Guard) -> Result<Guards, NoMemory> {
 }
 
 fn when(alloc: Global, guard: Guard, stmt: Stmt) -> Result<Stmt, NoMemory> {
-    let mut first = Vec::new(alloc);
-    first.push(stmt)?;
+    let first = vec![in alloc; stmt]?;
+    let guards = only(alloc, guard)?;
     Ok(Stmt::If {
-        guards: only(alloc, guard)?,
+        guards,
         first,
         other: Vec::new(alloc),
     })
 }
 
-fn empty(alloc: Global) -> Result<Local, NoMemory> {
-    let name = Name::of(b"P").ok_or(NoMemory)?;
-    let role = Name::of(b"W").ok_or(NoMemory)?;
-    let label = Name::of(b"A").ok_or(NoMemory)?;
-    let kernel = Name::of(b"K").ok_or(NoMemory)?;
-    let mut roles = Vec::new(alloc);
-    roles.push(Role {
-        name: role,
-        low: fixed(0),
-        high: param(-1),
-    })?;
-    let mut labels = Vec::new(alloc);
-    labels.push(CoreLabel {
-        name: label,
-        payload: Payload::Uint32(2),
-    })?;
-    let mut kernels = Vec::new(alloc);
-    kernels.push(CoreKernel {
-        name: kernel,
-        kind: KernelKind::Choice,
-    })?;
-    Ok(Local {
-        protocol: name,
-        range: NRange { low: 2, high: None },
-        roles,
-        labels,
-        kernels,
-        body: Vec::new(alloc),
-    })
+fn name_of(word: &[u8]) -> Result<Name, NoMemory> {
+    Name::of(word).ok_or(NoMemory)
 }
 
-#[test]
-fn prints_a_message(rt: HostRuntime) -> Result<(), Fail> {
-    let alloc = rt.alloc();
-    let mut local = empty(alloc)?;
+fn roles(alloc: Global) -> Result<Vec<Role>, NoMemory> {
+    let role = Role {
+        name: name_of(b"W")?,
+        low: fixed(0),
+        high: param(-1),
+    };
+    Ok(vec![in alloc; role]?)
+}
+
+fn labels(alloc: Global) -> Result<Vec<CoreLabel>, NoMemory> {
+    let label = CoreLabel {
+        name: name_of(b"A")?,
+        payload: Payload::Uint32(2),
+    };
+    Ok(vec![in alloc; label]?)
+}
+
+fn kernels(alloc: Global) -> Result<Vec<CoreKernel>, NoMemory> {
+    let kernel = CoreKernel {
+        name: name_of(b"K")?,
+        kind: KernelKind::Choice,
+    };
+    Ok(vec![in alloc; kernel]?)
+}
+
+/// The rank 0 sends to the last.
+fn body(alloc: Global) -> Result<Vec<Stmt>, NoMemory> {
     let to = Peer {
         role: 0,
         at: param(-1),
@@ -88,13 +83,57 @@ fn prints_a_message(rt: HostRuntime) -> Result<(), Fail> {
         role: 0,
         at: fixed(0),
     };
-    let send = Stmt::Send { label: 0, to };
-    local.body.push(when(alloc, one(0, fixed(0)), send)?)?;
-    let recv = Stmt::Recv { label: 0, from };
-    local.body.push(when(alloc, one(0, param(-1)), recv)?)?;
-    let want =
-        b"local P\nN 2 to max\nwhen W[0]\n  send A to W[N-1]\nend\nwhen W[N-1]\n  recv A from W[0]\nend\ndone\n";
-    assert!(rt; print_local(alloc, &local)?.as_slice() == want.as_slice());
-    assert!(rt; print_local(alloc, &local.copy(alloc)?)?.as_slice() == want.as_slice());
+    let send = when(alloc, one(0, fixed(0)), Stmt::Send { label: 0, to })?;
+    let recv = when(alloc, one(0, param(-1)), Stmt::Recv { label: 0, from })?;
+    Ok(vec![in alloc; send, recv]?)
+}
+
+fn message(alloc: Global) -> Result<Local, NoMemory> {
+    let protocol = name_of(b"P")?;
+    let roles = roles(alloc)?;
+    let labels = labels(alloc)?;
+    let kernels = kernels(alloc)?;
+    let body = body(alloc)?;
+    Ok(Local {
+        protocol,
+        range: NRange { low: 2, high: None },
+        roles,
+        labels,
+        kernels,
+        body,
+    })
+}
+
+const TEXT: &str = "\
+local P
+N 2 to max
+when W[0]
+  send A to W[N-1]
+end
+when W[N-1]
+  recv A from W[0]
+end
+done
+";
+
+fn prints(alloc: Global, local: &Local, text: &str) -> bool {
+    match print_local(alloc, local) {
+        Ok(printed) => printed.as_slice() == text.as_bytes(),
+        Err(_) => false,
+    }
+}
+
+#[test]
+fn prints_a_message(rt: HostRuntime) -> Result<(), NoMemory> {
+    let local = message(rt.alloc())?;
+    assert!(rt; prints(rt.alloc(), &local, TEXT));
+    Ok(())
+}
+
+#[test]
+fn prints_a_copy(rt: HostRuntime) -> Result<(), NoMemory> {
+    let local = message(rt.alloc())?;
+    let copy = local.copy(rt.alloc())?;
+    assert!(rt; prints(rt.alloc(), &copy, TEXT));
     Ok(())
 }

@@ -1,14 +1,13 @@
+use crate::trees::{HERE, block, end, fixed, message, stmt};
 use pb_affine::{Base, Guard, Lin};
 use pb_core_language::{
-    Core, CoreBlock, CoreEnd, CoreKernel, CoreKind, CoreLabel, CoreRole, CoreStmt, KernelKind,
-    NRange, Name, Payload, Place,
+    Core, CoreEnd, CoreKernel, CoreKind, CoreLabel, CoreRole, CoreStmt, KernelKind, NRange, Name,
+    Payload,
 };
 use pb_core_sound::is_sound;
 use pb_part::{First, FirstKind, Source, firsts};
+use pb_part_areas::NoMemory;
 use std::alloc::Global;
-use std::test::Fail;
-
-const HERE: Place = Place { line: 1, col: 1 };
 
 const FIRST: Lin = Lin {
     base: Base::Fixed,
@@ -20,113 +19,110 @@ const LAST: Lin = Lin {
     off: -1,
 };
 
-fn fixed(off: i32) -> Lin {
-    Lin {
-        base: Base::Fixed,
-        off,
-    }
-}
-
-fn end(at: Lin) -> CoreEnd {
-    CoreEnd {
-        role: 0,
-        at,
-        place: HERE,
-    }
-}
-
-fn stmt(what: CoreKind) -> CoreStmt {
-    CoreStmt {
-        number: 0,
-        place: HERE,
-        what,
-    }
-}
-
 /// `run K at W[index];`
 fn run(index: i32) -> CoreStmt {
-    let at = end(fixed(index));
+    let at = fixed(index);
     stmt(CoreKind::Run { kernel: 0, at })
 }
 
-/// The protocol of the ranks `W[0..N-1]` with these statements, for the N from `low` on.
-fn protocol(alloc: Global, low: u32, list: Vec<CoreStmt>) -> Result<Core, Fail> {
-    let name = Name::of(b"P").ok_or("a name")?;
+fn roles(alloc: Global, name: Name) -> Result<Vec<CoreRole>, NoMemory> {
     let role = CoreRole {
         name,
         place: HERE,
         low: FIRST,
         high: LAST,
     };
-    let label = CoreLabel {
-        name,
-        payload: Payload::Unit,
-    };
-    let kernel = CoreKernel {
-        name,
-        kind: KernelKind::Compute,
-    };
+    Ok(vec![in alloc; role]?)
+}
+
+fn labels(alloc: Global, name: Name) -> Result<Vec<CoreLabel>, NoMemory> {
+    let payload = Payload::Unit;
+    Ok(vec![in alloc; CoreLabel { name, payload }]?)
+}
+
+fn kernels(alloc: Global, name: Name) -> Result<Vec<CoreKernel>, NoMemory> {
+    let kind = KernelKind::Compute;
+    Ok(vec![in alloc; CoreKernel { name, kind }]?)
+}
+
+/// The protocol of the ranks `W[0..N-1]` with these statements, for the N from `low` on.
+fn protocol(alloc: Global, low: u32, list: Vec<CoreStmt>) -> Result<Core, NoMemory> {
+    let name = Name::of(b"P").ok_or(NoMemory)?;
+    let roles = roles(alloc, name)?;
+    let labels = labels(alloc, name)?;
+    let kernels = kernels(alloc, name)?;
     Ok(Core {
         protocol: name,
         range: NRange { low, high: None },
-        roles: vec![in alloc; role]?,
-        labels: vec![in alloc; label]?,
-        kernels: vec![in alloc; kernel]?,
-        body: CoreBlock {
-            number: 0,
-            place: HERE,
-            list,
-        },
+        roles,
+        labels,
+        kernels,
+        body: block(list),
         statements: 1,
         blocks: 1,
     })
 }
 
-/// What the ranks find first among these statements.
-fn found_in(alloc: Global, low: u32, list: Vec<CoreStmt>) -> Result<Vec<First>, Fail> {
-    let core = protocol(alloc, low, list)?;
+/// What the ranks find first among these statements. None where memory ran out or the core isn't sound.
+fn found_in(alloc: Global, low: u32, list: Vec<CoreStmt>) -> Option<Vec<First>> {
+    let core = protocol(alloc, low, list).ok()?;
     if !is_sound(&core) {
-        return Err(Fail::new("the core isn't sound"));
+        return None;
     }
-    Ok(firsts(alloc, &core, 0)?)
+    firsts(alloc, &core, 0).ok()
 }
 
-fn between(low: Lin, high: Lin) -> Guard {
+/// The ranks from one end to another.
+fn between(low: CoreEnd, high: CoreEnd) -> Guard {
     Guard {
         role: 0,
-        low: Some(low),
-        high: Some(high),
+        low: Some(low.at),
+        high: Some(high.at),
         from: None,
         to: None,
     }
 }
 
-#[test]
-fn all_ranks_come_to_a_barrier(rt: HostRuntime) -> Result<(), Fail> {
-    let alloc = rt.alloc();
-    let list = found_in(alloc, 2, vec![in alloc; stmt(CoreKind::Barrier)]?)?;
-    assert!(rt; list.len() == 1);
-    assert!(rt; list[0].kind == FirstKind::Other);
-    assert!(rt; list[0].guards.list() == [between(FIRST, LAST)].as_slice());
-    Ok(())
+fn is_first(first: &First, kind: FirstKind, guards: &[Guard]) -> bool {
+    first.kind == kind && first.guards.list() == guards
+}
+
+fn is_barrier_of_all(found: &[First]) -> bool {
+    let all = [between(end(FIRST), end(LAST))];
+    match found {
+        [first] => is_first(first, FirstKind::Other, &all),
+        _ => false,
+    }
 }
 
 #[test]
-fn ranks_that_find_the_same_go_together(rt: HostRuntime) -> Result<(), Fail> {
-    let alloc = rt.alloc();
-    let sent = stmt(CoreKind::Message {
-        label: 0,
-        from: end(FIRST),
-        to: end(fixed(8)),
-    });
-    let list = found_in(alloc, 20, vec![in alloc; run(0), sent, run(4)]?)?;
-    assert!(rt; list.len() == 3);
-    assert!(rt; list[0].kind == FirstKind::Other);
-    let both = [between(FIRST, FIRST), between(fixed(4), fixed(4))];
-    assert!(rt; list[0].guards.list() == both.as_slice());
+fn all_ranks_come_to_a_barrier(rt: HostRuntime) -> Result<(), NoMemory> {
+    let list = vec![in rt.alloc(); stmt(CoreKind::Barrier)]?;
+    let found = found_in(rt.alloc(), 2, list).ok_or(NoMemory)?;
+    assert!(rt; is_barrier_of_all(&found));
+    Ok(())
+}
+
+/// Whether the ranks 0 and 4 find another statement, rank 8 a message from rank 0, and all others nothing.
+fn are_three(found: &[First]) -> bool {
     let from = Source { role: 0, at: FIRST };
-    assert!(rt; list[1].kind == FirstKind::Receive { from, label: 0 });
-    assert!(rt; list[1].guards.list() == [between(fixed(8), fixed(8))].as_slice());
-    assert!(rt; list[2].kind == FirstKind::Nothing);
+    let runners = [between(fixed(0), fixed(0)), between(fixed(4), fixed(4))];
+    let receivers = [between(fixed(8), fixed(8))];
+    match found {
+        [first, second, third] => {
+            is_first(first, FirstKind::Other, &runners)
+                && is_first(second, FirstKind::Receive { from, label: 0 }, &receivers)
+                && third.kind == FirstKind::Nothing
+        }
+        _ => false,
+    }
+}
+
+#[test]
+fn ranks_that_find_the_same_go_together(rt: HostRuntime) -> Result<(), NoMemory> {
+    let sent = message(0, fixed(0), fixed(8));
+    let list = vec![in rt.alloc(); run(0), sent, run(4)]?;
+    let found = found_in(rt.alloc(), 20, list).ok_or(NoMemory)?;
+    assert!(rt; are_three(&found));
     Ok(())
 }

@@ -6,7 +6,6 @@ ghost use Rattle.pb_cprint.specs.Sample.{sample, role_named};
 use pb_cprint::{NoMemory, print_c};
 use pb_ctree::{Base, CTree, Lin, Local, NRange, Name, Role, Stmt, default_bodies, emit};
 use std::alloc::Global;
-use std::test::Fail;
 
 fn name_of(text: &[u8]) -> Result<Name, NoMemory>
     ensures { IfOk result (λ name. name ≡ text.now) }
@@ -77,7 +76,7 @@ fn sample_text(alloc: Global) -> Result<Vec<u8>, NoMemory> {
 }
 
 #[test]
-fn prints_a_barrier(rt: HostRuntime) -> Result<(), Fail> {
+fn prints_a_barrier(rt: HostRuntime) -> Result<(), NoMemory> {
     let text = sample_text(rt.alloc())?;
     assert!(rt; text.len() == 741);
     assert!(rt; text.starts_with(b"/* pabble 1 */\n/* protocol P */\n"));

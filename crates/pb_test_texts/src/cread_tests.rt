@@ -1,7 +1,6 @@
 use pb_cprint::{NoMemory, print_c};
 use pb_cread::{CText, Place, TextFault, read_c};
 use std::alloc::Global;
-use std::test::Fail;
 
 const FIRST: &[u8] = b"/* pabble 1 */
 /* protocol P */
@@ -145,7 +144,7 @@ fn is_read(alloc: Global, text: &[u8]) -> Result<bool, NoMemory> {
 }
 
 #[test]
-fn reads_statements_of_every_kind(rt: HostRuntime) -> Result<(), Fail> {
+fn reads_statements_of_every_kind(rt: HostRuntime) -> Result<(), NoMemory> {
     for middle in [STATEMENTS, b""] {
         let text = joined(rt.alloc(), middle)?;
         assert!(rt; is_read(rt.alloc(), &text)?);
@@ -159,7 +158,7 @@ fn is_refused_early(alloc: Global, text: &[u8]) -> bool {
 }
 
 #[test]
-fn refuses_a_text_that_ends_too_early(rt: HostRuntime) -> Result<(), Fail> {
+fn refuses_a_text_that_ends_too_early(rt: HostRuntime) -> Result<(), NoMemory> {
     let mut text = joined(rt.alloc(), b"")?;
     assert!(rt; read_c(rt.alloc(), b"").err() == unexpected(1));
     assert!(rt; is_refused_early(rt.alloc(), &text));
@@ -169,7 +168,7 @@ fn refuses_a_text_that_ends_too_early(rt: HostRuntime) -> Result<(), Fail> {
 }
 
 #[test]
-fn names_the_first_line_that_does_not_go_on(rt: HostRuntime) -> Result<(), Fail> {
+fn names_the_first_line_that_does_not_go_on(rt: HostRuntime) -> Result<(), NoMemory> {
     for (line, middle) in [
         (74, "  MPI_Barrier(MPI_COMM_WORLD); \n"),
         (74, "   MPI_Barrier(MPI_COMM_WORLD);\n"),
@@ -207,7 +206,7 @@ fn nested(alloc: Global, depth: usize) -> Result<Vec<u8>, NoMemory> {
 }
 
 #[test]
-fn counts_open_braces(rt: HostRuntime) -> Result<(), Fail> {
+fn counts_open_braces(rt: HostRuntime) -> Result<(), NoMemory> {
     for (depth, fault) in [(255, None), (256, Some(TextFault::TooDeep(at_line(329))))] {
         let middle = nested(rt.alloc(), depth)?;
         assert!(rt; fault_in(rt.alloc(), &middle)? == fault);
@@ -224,7 +223,7 @@ fn barriers(alloc: Global, count: usize) -> Result<Vec<u8>, NoMemory> {
 }
 
 #[test]
-fn counts_statements(rt: HostRuntime) -> Result<(), Fail> {
+fn counts_statements(rt: HostRuntime) -> Result<(), NoMemory> {
     for (count, fault) in [
         (50_000, None),
         (50_001, Some(TextFault::TooMany(at_line(50_074)))),

@@ -1,7 +1,6 @@
 use pb_ctree::{CoreKernel, CoreLabel, Formula, KernelKind, Local, NRange, Payload};
 use pb_kernels::{Bodies, CTree, KName, KernelFault, Kind, Name, NoMemory, merge, read_kernels};
 use std::alloc::Global;
-use std::test::Fail;
 
 /// A kernel's body.
 const KERNEL: &str = "/*@ kernel k_K */\n  if (N > 2) { puts(\"}\"); }\n/*@ end */\n";
@@ -21,34 +20,35 @@ fn named(kind: Kind, word: &[u8]) -> Result<KName, NoMemory> {
     })
 }
 
-/// A tree with the label A of one word, a compute kernel K and a choice kernel C.
-fn tree(alloc: Global) -> Result<CTree, NoMemory> {
-    let mut labels = Vec::new(alloc);
-    labels.push(CoreLabel {
+fn kernel(word: &[u8], kind: KernelKind) -> Result<CoreKernel, NoMemory> {
+    let name = name_of(word)?;
+    Ok(CoreKernel { name, kind })
+}
+
+fn labels(alloc: Global) -> Result<Vec<CoreLabel>, NoMemory> {
+    let label = CoreLabel {
         name: name_of(b"A")?,
         payload: Payload::Int32(1),
-    })?;
-    let mut kernels = Vec::new(alloc);
-    kernels.push(CoreKernel {
-        name: name_of(b"K")?,
-        kind: KernelKind::Compute,
-    })?;
-    kernels.push(CoreKernel {
-        name: name_of(b"C")?,
-        kind: KernelKind::Choice,
-    })?;
-    with_tables(alloc, labels, kernels)
+    };
+    Ok(vec![in alloc; label]?)
+}
+
+fn kernels(alloc: Global) -> Result<Vec<CoreKernel>, NoMemory> {
+    let compute = kernel(b"K", KernelKind::Compute)?;
+    let choice = kernel(b"C", KernelKind::Choice)?;
+    Ok(vec![in alloc; compute, choice]?)
 }
 
 /// A tree with no role and no statement.
 fn with_tables(
     alloc: Global,
+    protocol: Name,
     labels: Vec<CoreLabel>,
     kernels: Vec<CoreKernel>,
-) -> Result<CTree, NoMemory> {
-    Ok(CTree {
+) -> CTree {
+    CTree {
         local: Local {
-            protocol: name_of(b"P")?,
+            protocol,
             range: NRange { low: 2, high: None },
             roles: Vec::new(alloc),
             labels,
@@ -58,17 +58,23 @@ fn with_tables(
         size: Formula { a: 1, b: 0 },
         bases: Vec::new(alloc),
         places: Vec::new(alloc),
-    })
+    }
+}
+
+/// A tree with the label A of one word, a compute kernel K and a choice kernel C.
+fn tree(alloc: Global) -> Result<CTree, NoMemory> {
+    let protocol = name_of(b"P")?;
+    let labels = labels(alloc)?;
+    let kernels = kernels(alloc)?;
+    Ok(with_tables(alloc, protocol, labels, kernels))
 }
 
 /// A tree with the one kernel K.
 fn one_kernel(alloc: Global) -> Result<CTree, NoMemory> {
-    let mut kernels = Vec::new(alloc);
-    kernels.push(CoreKernel {
-        name: name_of(b"K")?,
-        kind: KernelKind::Compute,
-    })?;
-    with_tables(alloc, Vec::new(alloc), kernels)
+    let protocol = name_of(b"P")?;
+    let kernel = kernel(b"K", KernelKind::Compute)?;
+    let kernels = vec![in alloc; kernel]?;
+    Ok(with_tables(alloc, protocol, Vec::new(alloc), kernels))
 }
 
 /// No fault, or that the marker of this line is none.
@@ -85,34 +91,36 @@ fn is_told(alloc: Global, text: &str, fault: Option<KernelFault>) -> bool {
 }
 
 /// What is said of a file, or of putting its bodies into a tree.
-fn misfit(alloc: Global, tree: CTree, text: &str) -> Option<KernelFault> {
+fn misfit(alloc: Global, tree: &CTree, text: &str) -> Option<KernelFault> {
     match read_kernels(alloc, text.as_bytes()) {
-        Ok(file) => merge(alloc, &tree, file).err(),
+        Ok(file) => merge(alloc, tree, file).err(),
         Err(fault) => Some(fault),
     }
 }
 
-/// Whether a tree lacks a body of this name in the file: one with a label and two kernels, or one with one kernel.
-fn is_missing(
-    alloc: Global,
-    has_all: bool,
-    text: &str,
-    kind: Kind,
-    word: &str,
-) -> Result<bool, NoMemory> {
-    let missing = KernelFault::Missing(named(kind, word.as_bytes())?);
-    let tree = if has_all {
-        tree(alloc)?
-    } else {
-        one_kernel(alloc)?
-    };
-    Ok(misfit(alloc, tree, text) == Some(missing))
+fn misfit_of(alloc: Global, tree: Result<CTree, NoMemory>, text: &str) -> Option<KernelFault> {
+    match tree {
+        Ok(tree) => misfit(alloc, &tree, text),
+        Err(error) => Some(KernelFault::from(error)),
+    }
 }
 
-/// Whether a tree with one kernel has no function for a body of the file, which is this compute kernel's.
-fn is_extra(alloc: Global, text: &str, word: &str) -> Result<bool, NoMemory> {
-    let extra = KernelFault::Extra(named(Kind::Compute, word.as_bytes())?);
-    Ok(misfit(alloc, one_kernel(alloc)?, text) == Some(extra))
+/// Whether a tree with a label and two kernels lacks a body of this name in the file.
+fn lacks(alloc: Global, text: &str, kind: Kind, word: &[u8]) -> Result<bool, NoMemory> {
+    let missing = KernelFault::Missing(named(kind, word)?);
+    Ok(misfit_of(alloc, tree(alloc), text) == Some(missing))
+}
+
+/// Whether a tree with the one kernel K lacks its body in the file.
+fn lacks_kernel(alloc: Global, text: &str) -> Result<bool, NoMemory> {
+    let missing = KernelFault::Missing(named(Kind::Compute, b"K")?);
+    Ok(misfit_of(alloc, one_kernel(alloc), text) == Some(missing))
+}
+
+/// Whether a tree with the one kernel K has no function for a body of the file, which is this compute kernel's.
+fn is_extra(alloc: Global, text: &str, word: &[u8]) -> Result<bool, NoMemory> {
+    let extra = KernelFault::Extra(named(Kind::Compute, word)?);
+    Ok(misfit_of(alloc, one_kernel(alloc), text) == Some(extra))
 }
 
 fn are_bodies(bodies: &Bodies, prelude: &[u8], list: &[&[u8]]) -> bool {
@@ -126,39 +134,36 @@ fn are_bodies(bodies: &Bodies, prelude: &[u8], list: &[&[u8]]) -> bool {
 }
 
 /// Whether these are the bodies that stand in a tree's text.
-fn is_merged(alloc: Global, tree: CTree, text: &str, prelude: &[u8], list: &[&[u8]]) -> bool {
+fn is_merged(alloc: Global, tree: &CTree, text: &str, prelude: &[u8], list: &[&[u8]]) -> bool {
     let Ok(file) = read_kernels(alloc, text.as_bytes()) else {
         return false;
     };
-    match merge(alloc, &tree, file) {
+    match merge(alloc, tree, file) {
         Ok(bodies) => are_bodies(&bodies, prelude, list),
         Err(_) => false,
     }
 }
 
 #[test]
-fn a_body_stands_byte_for_byte(rt: HostRuntime) -> Result<(), Fail> {
-    for text in [
-        KERNEL,
-        // Lines outside bodies are passed over; a marker may have blanks behind it, and the last line no line feed.
-        "x\n/*@ kernel k_K */ \t\r\n  if (N > 2) { puts(\"}\"); }\n/*@ end */",
-    ] {
-        let tree = one_kernel(rt.alloc())?;
-        let body = b"  if (N > 2) { puts(\"}\"); }\n".as_slice();
-        assert!(rt; is_merged(rt.alloc(), tree, text, b"", &[body]));
-    }
+fn a_body_stands_byte_for_byte(rt: HostRuntime) -> Result<(), NoMemory> {
+    let tree = one_kernel(rt.alloc())?;
+    let body = b"  if (N > 2) { puts(\"}\"); }\n".as_slice();
+    assert!(rt; is_merged(rt.alloc(), &tree, KERNEL, b"", &[body]));
+    // Lines outside bodies are passed over; a marker may have blanks behind it, and the last line no line feed.
+    let text = "x\n/*@ kernel k_K */ \t\r\n  if (N > 2) { puts(\"}\"); }\n/*@ end */";
+    assert!(rt; is_merged(rt.alloc(), &tree, text, b"", &[body]));
     Ok(())
 }
 
 #[test]
-fn bodies_stand_in_printed_order(rt: HostRuntime) -> Result<(), Fail> {
+fn bodies_stand_in_printed_order(rt: HostRuntime) -> Result<(), NoMemory> {
     let text = "/*@ kernel c_C */\nc\n/*@ end */\n/*@ kernel take_A */\nt /*@ end */\n/*@ end */\n\
         /*@ prelude */\np\n/*@ end */\n/*@ kernel k_K */\n/*@ end */\n/*@ kernel make_A */\n\nm\n/*@ end */\n";
     let count = read_kernels(rt.alloc(), text.as_bytes()).map(|file| file.len());
     assert!(rt; count == Ok(5));
     let tree = tree(rt.alloc())?;
     let list: &[&[u8]] = &[b"\nm\n", b"t /*@ end */\n", b"", b"c\n"];
-    assert!(rt; is_merged(rt.alloc(), tree, text, b"p\n", list));
+    assert!(rt; is_merged(rt.alloc(), &tree, text, b"p\n", list));
     Ok(())
 }
 
@@ -189,7 +194,7 @@ fn the_first_line_at_fault_is_named(rt: HostRuntime) {
 }
 
 #[test]
-fn a_body_stands_once(rt: HostRuntime) -> Result<(), Fail> {
+fn a_body_stands_once(rt: HostRuntime) -> Result<(), NoMemory> {
     let twice = "/*@ kernel k_K */\n/*@ end */\n/*@ kernel k_K */\n/*@ end */\n";
     let fault = KernelFault::Twice(named(Kind::Compute, b"K")?);
     assert!(rt; is_told(rt.alloc(), twice, Some(fault)));
@@ -197,20 +202,19 @@ fn a_body_stands_once(rt: HostRuntime) -> Result<(), Fail> {
 }
 
 #[test]
-fn what_is_missing_comes_before_what_is_extra(rt: HostRuntime) -> Result<(), Fail> {
-    for (has_all, text, kind, word) in [
-        (true, KERNEL, Kind::Make, "A"),
-        (true, "/*@ kernel make_A */\n/*@ end */\n", Kind::Take, "A"),
-        (false, "", Kind::Compute, "K"),
-        (false, "/*@ kernel c_K */\n/*@ end */\n", Kind::Compute, "K"),
-    ] {
-        assert!(rt;
-            is_missing(rt.alloc(), has_all, text, kind, word)?,
-            "{text}"
-        );
-    }
+fn what_is_missing_comes_before_what_is_extra(rt: HostRuntime) -> Result<(), NoMemory> {
+    let make = "/*@ kernel make_A */\n/*@ end */\n";
+    assert!(rt; lacks(rt.alloc(), KERNEL, Kind::Make, b"A")?);
+    assert!(rt; lacks(rt.alloc(), make, Kind::Take, b"A")?);
+    assert!(rt; lacks_kernel(rt.alloc(), "")?);
+    assert!(rt; lacks_kernel(rt.alloc(), "/*@ kernel c_K */\n/*@ end */\n")?);
+    Ok(())
+}
+
+#[test]
+fn what_is_extra_is_named(rt: HostRuntime) -> Result<(), NoMemory> {
     let text =
         "/*@ kernel k_L */\n/*@ end */\n/*@ kernel k_K */\n/*@ end */\n/*@ kernel c_K */\n/*@ end */\n";
-    assert!(rt; is_extra(rt.alloc(), text, "L")?);
+    assert!(rt; is_extra(rt.alloc(), text, b"L")?);
     Ok(())
 }

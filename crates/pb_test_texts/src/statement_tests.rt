@@ -1,7 +1,6 @@
 use pb_cprint::{NoMemory, print_c};
 use pb_cread::{CText, Place, TextFault, read_c};
 use std::alloc::Global;
-use std::test::Fail;
 
 // A text with every statement: tests with and without another part, a count, the own index, a loop, a choice with relays
 // and one without, messages, kernels, and each collective.
@@ -243,7 +242,7 @@ fn is_printed_again(alloc: Global, text: &[u8]) -> Result<bool, NoMemory> {
 }
 
 #[test]
-fn reads_and_prints_every_statement(rt: HostRuntime) -> Result<(), Fail> {
+fn reads_and_prints_every_statement(rt: HostRuntime) -> Result<(), NoMemory> {
     let text = changed(rt.alloc(), 0, Change::Nothing)?;
     assert!(rt; is_printed_again(rt.alloc(), &text)?);
     Ok(())
@@ -314,7 +313,7 @@ fn refused_cut(number: u32) -> Option<u32> {
 }
 
 #[test]
-fn refuses_a_text_with_a_line_changed(rt: HostRuntime) -> Result<(), Fail> {
+fn refuses_a_text_with_a_line_changed(rt: HostRuntime) -> Result<(), NoMemory> {
     for (how, change) in [
         ("deleted", Change::Deleted),
         ("twice", Change::Doubled),

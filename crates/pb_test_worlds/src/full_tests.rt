@@ -1,12 +1,11 @@
 ghost use Rattle.std.specs.Prelude.{◌≡◌, ◌≤◌, ◌<◌, ◌+◌, ◌^◌, IfOk};
 
 use crate::worlds::{protocol, tree_of};
-use pb_sim::{Action, Answers, Counts, Mode, Sim, StepDone, StepFault};
+use pb_sim::{Action, Answers, Counts, Mode, NoMemory, Sim, StepDone, StepFault};
 use std::alloc::Global;
-use std::test::Fail;
 
 /// What a step was.
-#[derive(Clone, Copy, Debug, PartialEq, Eq)]
+#[derive(Clone, Copy, PartialEq, Eq)]
 enum Step {
     Silent,
     /// A message of 1,024 words from rank 0 to rank 1.
@@ -36,14 +35,18 @@ fn begun<A: Fn(u64, u32, u64) -> u32 + Drop>(
     alloc: Global,
     file: &str,
     answers: A,
-) -> Result<Sim<A>, Fail>
+) -> Result<Sim<A>, NoMemory>
     requires { A.IsAlwaysCallable answers }
     ensures callable { IfOk result (λ s. A.IsAlwaysCallable s.answers.answer) }
     ensures steps { IfOk result (λ s. s.held.steps ≡ 0) }
 {
-    let tree = tree_of(alloc, file)?;
-    let sim = Sim::new(alloc, tree, 2, Answers::new(answers, 0))?;
-    Ok(sim)
+    match tree_of(alloc, file) {
+        Ok(tree) => match Sim::new(alloc, tree, 2, Answers::new(answers, 0)) {
+            Ok(sim) => Ok(sim),
+            Err(_) => Err(NoMemory),
+        },
+        Err(error) => Err(error),
+    }
 }
 
 /// One eager step of a rank.
@@ -92,23 +95,8 @@ fn rounds<A: Fn(u64, u32, u64) -> u32 + Drop>(alloc: Global, sim: &mut Sim<A>) -
     16_384
 }
 
-#[test]
-fn a_channel_is_full(rt: HostRuntime) -> Result<(), Fail> {
-    let alloc = rt.alloc();
-    let file = protocol(
-        alloc,
-        "2..max",
-        "  rec X { A(uint32[1024]) from W[0] to W[1]; continue X; }",
-    )?;
-    let mut sim = begun(
-        alloc,
-        file.as_str(),
-        |_seed: u64, _rank: u32, _count: u64| 0,
-    )?;
-    assert!(rt; eager_step(alloc, &mut sim, 0) == Step::Silent);
-    assert!(rt; eager_step(alloc, &mut sim, 0) == Step::Silent);
-    assert!(rt; rounds(alloc, &mut sim) == 16_384);
-    assert!(rt; eager_step(alloc, &mut sim, 0) == Step::Silent);
+/// Whether so much was sent as a channel holds, both ranks are ready, and nothing else was done.
+fn is_full<A: Fn(u64, u32, u64) -> u32 + Drop>(sim: &Sim<A>) -> bool {
     let full = Counts {
         sends: 16_384,
         receives: 0,
@@ -118,12 +106,31 @@ fn a_channel_is_full(rt: HostRuntime) -> Result<(), Fail> {
         leaves: 0,
         words: 16_777_216,
     };
-    assert!(rt; sim.counts() == full);
-    assert!(rt; sim.ready_ranks() == [0, 1].as_slice());
-    assert!(rt; eager_step(alloc, &mut sim, 0) == Step::Refused(StepFault::Full));
-    assert!(rt; sim.counts() == full);
-    assert!(rt; sim.ready_ranks() == [0, 1].as_slice());
-    assert!(rt; sim.ready(1));
-    assert!(rt; eager_step(alloc, &mut sim, 1) == Step::Silent);
+    sim.counts() == full && sim.ready_ranks() == [0, 1].as_slice()
+}
+
+/// Whether rank 0 fills the channel, and then each step but one of rank 1 is refused and changes nothing.
+fn fills<A: Fn(u64, u32, u64) -> u32 + Drop>(alloc: Global, sim: &mut Sim<A>) -> bool
+    requires callable { A.IsAlwaysCallable sim.old.answers.answer }
+    requires steps { sim.old.held.steps ≡ 0 }
+{
+    eager_step(alloc, sim, 0) == Step::Silent
+        && eager_step(alloc, sim, 0) == Step::Silent
+        && rounds(alloc, sim) == 16_384
+        && eager_step(alloc, sim, 0) == Step::Silent
+        && is_full(sim)
+        && eager_step(alloc, sim, 0) == Step::Refused(StepFault::Full)
+        && is_full(sim)
+        && sim.ready(1)
+        && eager_step(alloc, sim, 1) == Step::Silent
+}
+
+#[test]
+fn a_channel_is_full(rt: HostRuntime) -> Result<(), NoMemory> {
+    let body = "  rec X { A(uint32[1024]) from W[0] to W[1]; continue X; }";
+    let file = protocol(rt.alloc(), "2..max", body)?;
+    let answers = |_seed: u64, _rank: u32, _count: u64| 0;
+    let mut sim = begun(rt.alloc(), file.as_str(), answers)?;
+    assert!(rt; fills(rt.alloc(), &mut sim));
     Ok(())
 }

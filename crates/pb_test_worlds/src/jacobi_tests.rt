@@ -1,8 +1,7 @@
-use crate::logs::by_rank;
-use crate::worlds::{options, played_by_greatest, protocol};
-use pb_cli_simulate::{Options, Status};
+use crate::worlds::{options, plays_greatest_by_rank, protocol};
+use pb_cli_simulate::Options;
+use pb_io::NoMemory;
 use std::alloc::{AllocError, Global};
-use std::test::Fail;
 
 const JACOBI: &str = "  rec Loop {
     Right(int32[64]) from W[i:0..N-2] to W[i+1];
@@ -19,65 +18,118 @@ const JACOBI: &str = "  rec Loop {
     }
   }";
 
-/// 64 words, each behind a space.
-fn words(alloc: Global) -> Result<String, AllocError> {
-    let mut out = String::new(alloc);
+/// The answer rank by rank, where a star stands for 64 words.
+const ONE_ROUND: &str = "\
+0
+0 send 1 Right *
+0 recv 1 Left *
+0 run Relax
+0 enter Err -1
+0 leave Err -1
+0 choose Test 1
+0 send 1 Stop
+0 send 2 Stop
+0 send 3 Stop
+0 send 4 Stop
+0 send 5 Stop
+0 send 6 Stop
+0 send 7 Stop
+1 recv 0 Right *
+1 send 2 Right *
+1 send 0 Left *
+1 recv 2 Left *
+1 run Relax
+1 enter Err -1
+1 leave Err -1
+1 recv 0 Stop
+2 recv 1 Right *
+2 send 3 Right *
+2 send 1 Left *
+2 recv 3 Left *
+2 run Relax
+2 enter Err -1
+2 leave Err -1
+2 recv 0 Stop
+3 recv 2 Right *
+3 send 4 Right *
+3 send 2 Left *
+3 recv 4 Left *
+3 run Relax
+3 enter Err -1
+3 leave Err -1
+3 recv 0 Stop
+4 recv 3 Right *
+4 send 5 Right *
+4 send 3 Left *
+4 recv 5 Left *
+4 run Relax
+4 enter Err -1
+4 leave Err -1
+4 recv 0 Stop
+5 recv 4 Right *
+5 send 6 Right *
+5 send 4 Left *
+5 recv 6 Left *
+5 run Relax
+5 enter Err -1
+5 leave Err -1
+5 recv 0 Stop
+6 recv 5 Right *
+6 send 7 Right *
+6 send 5 Left *
+6 recv 7 Left *
+6 run Relax
+6 enter Err -1
+6 leave Err -1
+6 recv 0 Stop
+7 recv 6 Right *
+7 send 6 Left *
+7 run Relax
+7 enter Err -1
+7 leave Err -1
+7 recv 0 Stop
+ended
+";
+
+fn push_words(out: &mut String) -> Result<(), AllocError> {
     for _ in 0..64 {
         out.push_str(" -1")?;
     }
-    Ok(out)
+    Ok(())
 }
 
-/// The lines of a rank's messages to its neighbours and from them, of 8 ranks.
-fn exchanged(alloc: Global, rank: u32, words: &str) -> Result<String, AllocError> {
-    match rank {
-        0 => format!(in alloc; "0 send 1 Right{words}\n0 recv 1 Left{words}\n"),
-        1..=6 => {
-            let low = rank - 1;
-            let high = rank + 1;
-            format!(in alloc;
-                "{rank} recv {low} Right{words}\n{rank} send {high} Right{words}\n{rank} send {low} Left{words}\n{rank} recv {high} Left{words}\n"
-            )
+fn push_line(out: &mut String, line: &str) -> Result<(), AllocError> {
+    match line.strip_suffix(" *") {
+        Some(message) => {
+            out.push_str(message)?;
+            push_words(out)?;
         }
-        _ => format!(in alloc; "7 recv 6 Right{words}\n7 send 6 Left{words}\n"),
+        None => out.push_str(line)?,
     }
+    out.push('\n')
 }
 
-/// The lines of a rank behind these.
-fn decided(alloc: Global, rank: u32) -> Result<String, AllocError> {
-    let joined = format!(in alloc; "{rank} run Relax\n{rank} enter Err -1\n{rank} leave Err -1\n")?;
-    match rank {
-        0 => {
-            format!(in alloc;
-                "{joined}0 choose Test 1\n0 send 1 Stop\n0 send 2 Stop\n0 send 3 Stop\n0 send 4 Stop\n0 send 5 Stop\n0 send 6 Stop\n0 send 7 Stop\n"
-            )
-        }
-        _ => format!(in alloc; "{joined}{rank} recv 0 Stop\n"),
-    }
-}
-
-/// The log rank by rank.
+/// The answer with its words.
 fn expected(alloc: Global) -> Result<String, AllocError> {
-    let words = words(alloc)?;
     let mut out = String::new(alloc);
-    for rank in 0..8 {
-        out.push_str(exchanged(alloc, rank, words.as_str())?.as_str())?;
-        out.push_str(decided(alloc, rank)?.as_str())?;
+    for line in ONE_ROUND.lines() {
+        push_line(&mut out, line)?;
     }
-    out.push_str("ended\n")?;
     Ok(out)
 }
 
-#[test]
-fn one_round_of_jacobi(rt: HostRuntime) -> Result<(), Fail> {
-    let alloc = rt.alloc();
+fn plays_one_round(alloc: Global, answer: &str) -> Result<bool, NoMemory> {
     let file = protocol(alloc, "2..max", JACOBI)?;
     let asked = Options {
         turns: 100_000,
         ..options(8)
     };
-    let told = played_by_greatest(alloc, file.as_str(), asked)?;
-    assert!(rt; told.status == Status::Done);
-    assert!(rt; by_rank(alloc, told.log.as_str())?.as_str() == expected(alloc)?.as_str());
+    plays_greatest_by_rank(alloc, file.as_str(), asked, answer)
+}
+
+#[test]
+fn one_round_of_jacobi(rt: HostRuntime) -> Result<(), NoMemory> {
+    let answer = expected(rt.alloc())?;
+    assert!(rt; plays_one_round(rt.alloc(), answer.as_str())?);
     Ok(())
 }

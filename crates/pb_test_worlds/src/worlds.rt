@@ -3,22 +3,20 @@
 ghost use Rattle.std.specs.Prelude.{◌≤◌, IfOk};
 ghost use Rattle.pb_ctree.specs.Trees.{IsTree};
 
+use crate::logs::{is_answer, is_answer_by_rank};
 use crate::stored::{simulate_by_greatest, simulate_by_list};
 use pb_cli_simulate::{CTree, Mode, Modes, Options, Shown, Status, simulate_tree};
-use pb_compile::{Compiled, compile, generate};
-use pb_io::MemSink;
+use pb_compile::{compile, generate};
+use pb_io::{MemSink, NoMemory};
 use pb_text::{MOST_EVENTS, MOST_TEXT_BYTES};
 use std::alloc::{AllocError, Global};
-use std::test::Fail;
 
 /// How many bytes a log may have.
-pub const ROOM: usize = 65_536;
+const ROOM: usize = 65_536;
 
-/// What a simulation answers: its status, and all that it writes.
-#[derive(Drop)]
-pub struct Told {
-    pub status: Status,
-    pub log: String,
+/// A sink for a log.
+pub fn sink(alloc: Global) -> Result<MemSink, NoMemory> {
+    MemSink::new(alloc, ROOM, ROOM, Vec::new(alloc))
 }
 
 /// The protocol file with this range of N and this body, which begins in line 3.
@@ -27,25 +25,26 @@ pub fn protocol(alloc: Global, range: &str, body: &str) -> Result<String, AllocE
 }
 
 /// The C tree of a protocol file that is accepted.
-pub fn tree_of(alloc: Global, file: &str) -> Result<CTree, Fail>
+pub fn tree_of(alloc: Global, file: &str) -> Result<CTree, NoMemory>
     ensures { IfOk result IsTree }
 {
     let bytes = file.as_bytes();
     if bytes.len() > MOST_TEXT_BYTES as usize {
-        return Err(Fail::new("the file is too long"));
+        return Err(NoMemory);
     }
-    let Compiled { core: _core, tree } = compile(alloc, bytes)?;
-    Ok(tree)
+    match compile(alloc, bytes) {
+        Ok(compiled) => Ok(compiled.tree),
+        Err(_) => Err(NoMemory),
+    }
 }
 
-/// Its C text.
-pub fn text_of(alloc: Global, file: &str) -> Result<String, Fail> {
+/// The C text of a protocol file that is accepted.
+pub fn text_of(alloc: Global, file: &str) -> Option<Vec<u8>> {
     let bytes = file.as_bytes();
     if bytes.len() > MOST_TEXT_BYTES as usize {
-        return Err(Fail::new("the file is too long"));
+        return None;
     }
-    let text = generate(alloc, bytes)?;
-    Ok(String::from_str(alloc, std::str::from_utf8(&text)?)?)
+    generate(alloc, bytes).ok()
 }
 
 /// A simulation at N by seed 0, of at most 1,000,000 events, in which each send is eager.
@@ -61,53 +60,96 @@ pub fn options(n: u32) -> Options
     }
 }
 
-/// What simulating a protocol file answers.
-pub fn played<A: Fn(u64, u32, u64) -> u32 + Drop>(
+/// The status of simulating a protocol file.
+fn play<A: Fn(u64, u32, u64) -> u32 + Drop>(
     alloc: Global,
     file: &str,
     options: Options,
     answers: A,
-) -> Result<Told, Fail>
+    out: &mut MemSink,
+) -> Result<Status, NoMemory>
     requires { A.IsAlwaysCallable answers }
 {
     if options.turns > MOST_EVENTS {
-        return Err(Fail::new("too many events"));
+        return Err(NoMemory);
     }
-    let mut out = MemSink::new(alloc, ROOM, ROOM, Vec::new(alloc))?;
-    let tree = tree_of(alloc, file)?;
-    let status = simulate_tree(alloc, tree, options, answers, &mut out);
-    taken(alloc, status, &out)
+    match tree_of(alloc, file) {
+        Ok(tree) => Ok(simulate_tree(alloc, tree, options, answers, out)),
+        Err(error) => Err(error),
+    }
 }
 
-/// What simulating a protocol file answers, with the greatest word for each kernel.
-pub fn played_by_greatest(alloc: Global, file: &str, options: Options) -> Result<Told, Fail> {
+/// The same with the greatest word for each kernel.
+pub fn play_by_greatest(
+    alloc: Global,
+    file: &str,
+    options: Options,
+    out: &mut MemSink,
+) -> Result<Status, NoMemory> {
     if options.turns > MOST_EVENTS {
-        return Err(Fail::new("too many events"));
+        return Err(NoMemory);
     }
-    let mut out = MemSink::new(alloc, ROOM, ROOM, Vec::new(alloc))?;
-    let tree = tree_of(alloc, file)?;
-    let status = simulate_by_greatest(alloc, tree, options, &mut out);
-    taken(alloc, status, &out)
+    match tree_of(alloc, file) {
+        Ok(tree) => Ok(simulate_by_greatest(alloc, tree, options, out)),
+        Err(error) => Err(error),
+    }
 }
 
-/// What simulating a protocol file answers, with the words of a list for each rank's kernels.
-pub fn played_by_list(
+/// The same with the words of a list for each rank's kernels.
+pub fn play_by_list(
     alloc: Global,
     file: &str,
     options: Options,
     words: &[u32],
-) -> Result<Told, Fail> {
+    out: &mut MemSink,
+) -> Result<Status, NoMemory> {
     if options.turns > MOST_EVENTS {
-        return Err(Fail::new("too many events"));
+        return Err(NoMemory);
     }
-    let mut out = MemSink::new(alloc, ROOM, ROOM, Vec::new(alloc))?;
-    let tree = tree_of(alloc, file)?;
-    let status = simulate_by_list(alloc, tree, options, words, &mut out);
-    taken(alloc, status, &out)
+    match tree_of(alloc, file) {
+        Ok(tree) => Ok(simulate_by_list(alloc, tree, options, words, out)),
+        Err(error) => Err(error),
+    }
 }
 
-/// The status and what the sink has taken.
-pub fn taken(alloc: Global, status: Status, out: &MemSink) -> Result<Told, Fail> {
-    let log = String::from_str(alloc, std::str::from_utf8(out.taken())?)?;
-    Ok(Told { status, log })
+/// Whether simulating a protocol file ends with this exit status and log.
+pub fn plays<A: Fn(u64, u32, u64) -> u32 + Drop>(
+    alloc: Global,
+    file: &str,
+    options: Options,
+    answers: A,
+    answer: &str,
+) -> Result<bool, NoMemory>
+    requires { A.IsAlwaysCallable answers }
+{
+    let mut out = sink(alloc)?;
+    let status = play(alloc, file, options, answers, &mut out)?;
+    Ok(is_answer(status, &out, answer))
+}
+
+/// The same where the answer has the log rank by rank.
+pub fn plays_by_rank<A: Fn(u64, u32, u64) -> u32 + Drop>(
+    alloc: Global,
+    file: &str,
+    options: Options,
+    answers: A,
+    answer: &str,
+) -> Result<bool, NoMemory>
+    requires { A.IsAlwaysCallable answers }
+{
+    let mut out = sink(alloc)?;
+    let status = play(alloc, file, options, answers, &mut out)?;
+    Ok(is_answer_by_rank(alloc, status, &out, answer))
+}
+
+/// The same with the greatest word for each kernel.
+pub fn plays_greatest_by_rank(
+    alloc: Global,
+    file: &str,
+    options: Options,
+    answer: &str,
+) -> Result<bool, NoMemory> {
+    let mut out = sink(alloc)?;
+    let status = play_by_greatest(alloc, file, options, &mut out)?;
+    Ok(is_answer_by_rank(alloc, status, &out, answer))
 }
