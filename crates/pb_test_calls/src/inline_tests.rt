@@ -128,10 +128,11 @@ fn add_calls(alloc: Global, calls: &mut CallTree) -> Result<(), NoMemory> {
 /// Whether these calls have this fault with such ones behind them.
 fn is_wrong_before_bare_calls(alloc: Global, block: &str) -> bool {
     let (want, text) = halves(block);
-    if text.len() > MOST_TEXT_BYTES as usize {
+    let bytes = text.as_bytes();
+    if bytes.len() > MOST_TEXT_BYTES as usize {
         return false;
     }
-    match read_calls(alloc, text.as_bytes()) {
+    match read_calls(alloc, bytes) {
         Ok(calls) => is_wrong_with_more(alloc, calls, want),
         Err(_) => false,
     }

@@ -110,10 +110,10 @@ fn calls_ask(statement: &CallStatement, line: u32) -> bool {
     }
 }
 
-// Whether a file has the subprotocol and calls it in the lines 7 and 8.
-fn asks_twice(tree: &CallTree) -> bool {
-    match (tree.subs.as_slice(), tree.body.list.as_slice()) {
-        ([sub], [first, last]) => is_ask(sub) && calls_ask(first, 7) && calls_ask(last, 8),
+// Whether a protocol calls the subprotocol in the lines 7 and 8.
+fn asks_twice(list: &[CallStatement]) -> bool {
+    match list {
+        [first, last] => calls_ask(first, 7) && calls_ask(last, 8),
         _ => false,
     }
 }
@@ -123,7 +123,8 @@ fn reads_a_subprotocol_and_its_calls(rt: HostRuntime) {
     let tree = tree_of(rt.alloc(), ASK);
     assert!(rt; tree.is_some());
     if let Some(tree) = tree {
-        assert!(rt; asks_twice(&tree));
+        assert!(rt; tree.subs.iter().all(|sub| is_ask(sub)));
+        assert!(rt; asks_twice(&tree.body.list));
         assert!(rt; is(&tree.protocol, b"P", at(6, 17)));
         assert!(rt; tree.roles.len() == 2);
     }

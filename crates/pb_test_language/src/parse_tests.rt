@@ -173,10 +173,11 @@ fn takes_no_keyword_for_a_name(rt: HostRuntime) {
 }
 
 fn is_printed_again(alloc: Global, text: &str) -> bool {
-    if text.len() > MOST_TEXT_BYTES as usize {
+    let bytes = text.as_bytes();
+    if bytes.len() > MOST_TEXT_BYTES as usize {
         return false;
     }
-    match parse(alloc, text.as_bytes()) {
+    match parse(alloc, bytes) {
         Ok(file) => is_printed(alloc, &file, text),
         Err(_) => false,
     }
