@@ -1,155 +1,120 @@
-use pb_do_parse::*;
-use pb_text::{MOST_TEXT_BYTES, Place, Quantity};
-use std::alloc::Global;
-use std::test::Fail;
+use crate::answers::{is_read, is_read_within};
+use crate::rows::halves;
 
-fn at(line: u32, col: u32) -> Place {
-    Place { line, col }
-}
+/// Files, each behind a line with its first fault.
+const FILES: &str = "Unexpected(Place { line: 1, col: 1 })
 
-fn fault_of(alloc: Global, text: &[u8]) -> Option<ParseFault> {
-    if text.len() > MOST_TEXT_BYTES as usize {
-        return None;
+--
+Unexpected(Place { line: 2, col: 9 })
+const N = 2..max;
+protocol
+--
+Unexpected(Place { line: 2, col: 22 })
+const N = 2..max;
+protocol A(role B) {}
+--
+Unexpected(Place { line: 2, col: 22 })
+const N = 2..max;
+protocol A(role B) {};
+--
+Unexpected(Place { line: 1, col: 1 })
+protocol A(role B) {}
+--
+Unexpected(Place { line: 3, col: 1 })
+const N = 2..max;
+global protocol P(role M) {}
+protocol A(role B) {}
+--
+Lex(OpenComment(Place { line: 2, col: 21 }))
+const N = 2..max;
+global A(role B) {} /* ";
+
+/// Subprotocols, with the first fault of their file.
+const PARAMETERS: &str = "protocol A(role B) {} => read
+protocol A(role B, role B) {} protocol A(role B) {} => read
+protocol A() {} => Unexpected(Place { line: 2, col: 12 })
+protocol A(B) {} => Unexpected(Place { line: 2, col: 12 })
+protocol A(role B role C) {} => Unexpected(Place { line: 2, col: 19 })
+protocol A(role B,) {} => Unexpected(Place { line: 2, col: 19 })
+protocol A(role B[0..1]) {} => Unexpected(Place { line: 2, col: 18 })
+protocol A(role B); => Unexpected(Place { line: 2, col: 19 })
+protocol A(role B) {} do A(B); => Unexpected(Place { line: 2, col: 23 })";
+
+/// The third lines of files, with their first faults.
+const LINES: &str = "  do A(M, W); => read
+  rec X { do A(M); } => read
+  choice K at W[0] { do A(M); } or { do A(M); } => read
+  do A(M W); => Unexpected(Place { line: 3, col: 10 })
+  do A(); => Unexpected(Place { line: 3, col: 8 })
+  do A(M,); => Unexpected(Place { line: 3, col: 10 })
+  do A; => Unexpected(Place { line: 3, col: 7 })
+  do A(M) => Unexpected(Place { line: 4, col: 1 })
+  do (M); => Unexpected(Place { line: 3, col: 6 })
+  do A(W[0]); => Unexpected(Place { line: 3, col: 9 })
+  do A(role M); => Unexpected(Place { line: 3, col: 8 })
+  foreach (i:0..1) { do A(M); } => Unexpected(Place { line: 3, col: 22 })
+  foreach (i:0..1) { barrier; } => Unexpected(Place { line: 3, col: 22 })
+  A() from W[i:0..1] to W[i:0..1]; => Unexpected(Place { line: 3, col: 28 })
+  choice K at W[0] { } do A(M); => Unexpected(Place { line: 3, col: 24 })";
+
+/// Third lines with large numbers.
+const NUMBERS: &str = "  A() from W[i:0..100000] to M; => read
+  A() from W[i:0..100001] to M; => TooMany(Constant, Place { line: 3, col: 19 })
+  foreach (i:0..100001) { } => TooMany(Constant, Place { line: 3, col: 17 })
+  A(int32[1025]) from M to W; => TooMany(PayloadCount, Place { line: 3, col: 11 })
+  do A(100001); => Unexpected(Place { line: 3, col: 8 })
+  100001 => Unexpected(Place { line: 3, col: 3 })";
+
+/// Whole files with large numbers.
+const NUMBERED: &str =
+    "const N = 100001..max; protocol => TooMany(Constant, Place { line: 1, col: 11 })
+const N = 2..max; global protocol P(role M, role W[0..100001]) {} => TooMany(Constant, Place { line: 1, col: 55 })";
+
+const PROTOCOL: &str = "const N = 2..max;\nglobal protocol P(role M, role W[0..N-1]) {\n";
+
+const SUB: &str = "const N = 2..max;\nprotocol A(role M, role W) {\n";
+
+/// Behind a subprotocol's last line.
+const MAIN: &str = "\n}\nglobal protocol P(role M) { }";
+
+#[test]
+fn names_the_first_fault_of_a_file(rt: HostRuntime) {
+    for block in FILES.split("\n--\n") {
+        let (want, text) = halves(block);
+        assert!(rt; is_read(rt.alloc(), text.as_bytes(), want), "{block}");
     }
-    read_calls(alloc, text).err()
-}
-
-fn unexpected(line: u32, col: u32) -> Option<ParseFault> {
-    Some(ParseFault::Unexpected(at(line, col)))
-}
-
-fn too_many(quantity: Quantity, line: u32, col: u32) -> Option<ParseFault> {
-    Some(ParseFault::TooMany(quantity, at(line, col)))
-}
-
-fn joined(alloc: Global, before: &[u8], line: &[u8], behind: &[u8]) -> Result<Vec<u8>, Fail> {
-    let mut text = Vec::new(alloc);
-    for part in [before, line, behind] {
-        text.extend_from_slice(part).map_err(|_| "memory")?;
-    }
-    Ok(text)
 }
 
 #[test]
-fn names_the_first_fault_of_a_file(rt: HostRuntime) -> Result<(), Fail> {
-    let alloc = rt.alloc();
-    let rows: [(&[u8], Option<ParseFault>); 7] = [
-        (b"", unexpected(1, 1)),
-        (b"const N = 2..max;\nprotocol", unexpected(2, 9)),
-        (
-            b"const N = 2..max;\nprotocol A(role B) {}",
-            unexpected(2, 22),
-        ),
-        (
-            b"const N = 2..max;\nprotocol A(role B) {};",
-            unexpected(2, 22),
-        ),
-        (b"protocol A(role B) {}", unexpected(1, 1)),
-        (
-            b"const N = 2..max;\nglobal protocol P(role M) {}\nprotocol A(role B) {}",
-            unexpected(3, 1),
-        ),
-        (
-            b"const N = 2..max;\nglobal A(role B) {} /* ",
-            Some(ParseFault::Lex(LexError::OpenComment(at(2, 21)))),
-        ),
-    ];
-    for (text, want) in rows {
-        assert!(rt; fault_of(alloc, text) == want);
+fn names_the_first_fault_of_parameters(rt: HostRuntime) {
+    for row in PARAMETERS.lines() {
+        assert!(rt;
+            is_read_within(
+                rt.alloc(),
+                "const N = 2..max;\n",
+                row,
+                "\nglobal protocol P(role M) {}"
+            ),
+            "{row}"
+        );
     }
-    Ok(())
 }
 
 #[test]
-fn names_the_first_fault_of_parameters(rt: HostRuntime) -> Result<(), Fail> {
-    let alloc = rt.alloc();
-    let rows: [(&[u8], Option<ParseFault>); 9] = [
-        (b"protocol A(role B) {}", None),
-        (b"protocol A(role B, role B) {} protocol A(role B) {}", None),
-        (b"protocol A() {}", unexpected(2, 12)),
-        (b"protocol A(B) {}", unexpected(2, 12)),
-        (b"protocol A(role B role C) {}", unexpected(2, 19)),
-        (b"protocol A(role B,) {}", unexpected(2, 19)),
-        (b"protocol A(role B[0..1]) {}", unexpected(2, 18)),
-        (b"protocol A(role B);", unexpected(2, 19)),
-        (b"protocol A(role B) {} do A(B);", unexpected(2, 23)),
-    ];
-    for (line, want) in rows {
-        let text = joined(
-            alloc,
-            b"const N = 2..max;\n",
-            line,
-            b"\nglobal protocol P(role M) {}",
-        )?;
-        assert!(rt; fault_of(alloc, &text) == want);
+fn names_the_first_fault_of_a_line(rt: HostRuntime) {
+    for row in LINES.lines() {
+        assert!(rt; is_read_within(rt.alloc(), PROTOCOL, row, "\n}\n"), "{row}");
+        assert!(rt; is_read_within(rt.alloc(), SUB, row, MAIN), "{row}");
     }
-    Ok(())
 }
 
 #[test]
-fn names_the_first_fault_of_a_line(rt: HostRuntime) -> Result<(), Fail> {
-    let alloc = rt.alloc();
-    let rows: [(&[u8], Option<ParseFault>); 15] = [
-        (b"  do A(M, W);", None),
-        (b"  rec X { do A(M); }", None),
-        (b"  choice K at W[0] { do A(M); } or { do A(M); }", None),
-        (b"  do A(M W);", unexpected(3, 10)),
-        (b"  do A();", unexpected(3, 8)),
-        (b"  do A(M,);", unexpected(3, 10)),
-        (b"  do A;", unexpected(3, 7)),
-        (b"  do A(M)", unexpected(4, 1)),
-        (b"  do (M);", unexpected(3, 6)),
-        (b"  do A(W[0]);", unexpected(3, 9)),
-        (b"  do A(role M);", unexpected(3, 8)),
-        (b"  foreach (i:0..1) { do A(M); }", unexpected(3, 22)),
-        (b"  foreach (i:0..1) { barrier; }", unexpected(3, 22)),
-        (b"  A() from W[i:0..1] to W[i:0..1];", unexpected(3, 28)),
-        (b"  choice K at W[0] { } do A(M);", unexpected(3, 24)),
-    ];
-    let protocol = b"const N = 2..max;\nglobal protocol P(role M, role W[0..N-1]) {\n";
-    let sub = b"const N = 2..max;\nprotocol A(role M, role W) {\n";
-    for (line, want) in rows {
-        let text = joined(alloc, protocol, line, b"\n}\n")?;
-        assert!(rt; fault_of(alloc, &text) == want);
-        let text = joined(alloc, sub, line, b"\n}\nglobal protocol P(role M) { }")?;
-        assert!(rt; fault_of(alloc, &text) == want);
+fn bounds_the_numbers(rt: HostRuntime) {
+    let before = "const N = 2..200000;\nprotocol A(role M, role W) {\n";
+    for row in NUMBERS.lines() {
+        assert!(rt; is_read_within(rt.alloc(), before, row, MAIN), "{row}");
     }
-    Ok(())
-}
-
-#[test]
-fn bounds_the_numbers(rt: HostRuntime) -> Result<(), Fail> {
-    let alloc = rt.alloc();
-    let rows: [(&[u8], Option<ParseFault>); 6] = [
-        (b"  A() from W[i:0..100000] to M;", None),
-        (
-            b"  A() from W[i:0..100001] to M;",
-            too_many(Quantity::Constant, 3, 19),
-        ),
-        (
-            b"  foreach (i:0..100001) { }",
-            too_many(Quantity::Constant, 3, 17),
-        ),
-        (
-            b"  A(int32[1025]) from M to W;",
-            too_many(Quantity::PayloadCount, 3, 11),
-        ),
-        (b"  do A(100001);", unexpected(3, 8)),
-        (b"  100001", unexpected(3, 3)),
-    ];
-    let before = b"const N = 2..200000;\nprotocol A(role M, role W) {\n";
-    for (line, want) in rows {
-        let text = joined(alloc, before, line, b"\n}\nglobal protocol P(role M) { }")?;
-        assert!(rt; fault_of(alloc, &text) == want);
+    for row in NUMBERED.lines() {
+        assert!(rt; is_read_within(rt.alloc(), "", row, ""), "{row}");
     }
-    assert!(rt;
-        fault_of(alloc, b"const N = 100001..max; protocol") == too_many(Quantity::Constant, 1, 11)
-    );
-    assert!(rt;
-        fault_of(
-            alloc,
-            b"const N = 2..max; global protocol P(role M, role W[0..100001]) {}"
-        ) == too_many(Quantity::Constant, 1, 55)
-    );
-    Ok(())
 }

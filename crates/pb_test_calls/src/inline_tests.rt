@@ -1,113 +1,173 @@
-use crate::trees::{again, at, barrier, call, file, sub};
-use pb_do::{DoFault, inline};
-use std::test::Fail;
+use crate::answers::{is_inlined, stands_for};
+use crate::rows::halves;
+use pb_do::{CallStatement, CallTree};
+use pb_do_parse::read_calls;
+use pb_text::{MOST_TEXT_BYTES, NoMemory, Place, Spot};
+use std::alloc::Global;
 
-#[test]
-fn a_name_that_stands_twice_comes_first(rt: HostRuntime) -> Result<(), Fail> {
-    let alloc = rt.alloc();
-    let one = sub(alloc, b"Ask", b"A", 2, barrier(3), None)?;
-    let other = sub(alloc, b"Ask", b"A", 5, barrier(6), None)?;
-    let tree = file(alloc, one, other, call(alloc, b"Say", &[b"M"], 10)?, None)?;
-    assert!(rt; inline(alloc, &tree).err() == Some(DoFault::Twice(at(5))));
+/// Files, each behind a line with the first fault of its calls.
+const TWICE: &str = "Twice(Place { line: 5, col: 10 })
+const N = 2..max;
+protocol Ask(role A) {
+  barrier;
+}
+protocol Ask(role A) {
+  barrier;
+}
+
+global protocol P(role M) {
+  do Say(M);
+}
+";
+
+const UNKNOWN: &str = "Unknown(Place { line: 10, col: 6 })
+const N = 2..max;
+protocol Ask(role A) {
+  barrier;
+}
+protocol Say(role A) {
+
+}
+
+global protocol P(role M) {
+  do Tell(M);
+  do Tell(M);
+}
+";
+
+const ARITY: &str = "Arity(Place { line: 6, col: 6 })
+const N = 2..max;
+protocol Ask(role A) {
+  continue X;
+}
+protocol Say(role A) {
+  do Ask(A, A);
+}
+
+global protocol P(role M) {
+}
+";
+
+const STRANGER: &str = "Stranger(Place { line: 6, col: 12 })
+const N = 2..max;
+protocol Ask(role A) {
+  barrier;
+}
+protocol Say(role A) {
+  continue X; continue X;
+}
+
+global protocol P(role M) {
+  do Ask(W);
+}
+";
+
+const CYCLE: &str = "Cycle(Place { line: 4, col: 6 })
+const N = 2..max;
+protocol Ask(role A) {
+  barrier;
+  do Say(A); }
+protocol Say(role A) {
+  do Ask(A);
+}
+
+global protocol P(role M) {
+  do Ask(M);
+}
+";
+
+const CALLS: &str = "const N = 2..max;
+protocol Ask(role A) {
+  barrier;
+}
+protocol Say(role A) {
+  do Ask(A);
+}
+global protocol P(role M) {
+  do Ask(M);
+  do Ask(M);
+}
+";
+
+/// The file that this stands for.
+const COPIES: &str = "const N = 2..max;
+global protocol P(role M) {
+  barrier;
+  barrier;
+}
+";
+
+fn is_wrong(alloc: Global, block: &str) -> bool {
+    let (want, text) = halves(block);
+    is_inlined(alloc, text.as_bytes(), want)
+}
+
+/// Adds a call without arguments of the first subprotocol, which no file can have.
+fn add_call(alloc: Global, callee: Spot, list: &mut Vec<CallStatement>) -> Result<(), NoMemory> {
+    list.push(CallStatement::Do {
+        place: Place { line: 12, col: 1 },
+        sub: callee,
+        args: Vec::new(alloc),
+    })?;
     Ok(())
 }
 
-#[test]
-fn an_unknown_call_comes_before_a_wrong_count(rt: HostRuntime) -> Result<(), Fail> {
-    let alloc = rt.alloc();
-    let one = sub(alloc, b"Ask", b"A", 2, barrier(3), None)?;
-    let other = sub(alloc, b"Say", b"A", 5, call(alloc, b"Ask", &[], 6)?, None)?;
-    let last = call(alloc, b"Tell", &[b"M"], 11)?;
-    let tree = file(
-        alloc,
-        one,
-        other,
-        call(alloc, b"Tell", &[b"M"], 10)?,
-        Some(last),
-    )?;
-    assert!(rt; inline(alloc, &tree).err() == Some(DoFault::Unknown(at(10))));
-    Ok(())
+/// Adds such a call to the last subprotocol and to the protocol.
+fn add_calls(alloc: Global, calls: &mut CallTree) -> Result<(), NoMemory> {
+    let Some(sub) = calls.subs.first() else {
+        return Ok(());
+    };
+    let callee = sub.name;
+    add_call(alloc, callee, &mut calls.body.list)?;
+    match calls.subs.last_mut() {
+        Some(sub) => add_call(alloc, callee, &mut sub.body.list),
+        None => Ok(()),
+    }
+}
+
+/// Whether these calls have this fault with such ones behind them.
+fn is_wrong_before_bare_calls(alloc: Global, block: &str) -> bool {
+    let (want, text) = halves(block);
+    let bytes = text.as_bytes();
+    if bytes.len() > MOST_TEXT_BYTES as usize {
+        return false;
+    }
+    match read_calls(alloc, bytes) {
+        Ok(calls) => is_wrong_with_more(alloc, calls, want),
+        Err(_) => false,
+    }
+}
+
+fn is_wrong_with_more(alloc: Global, mut calls: CallTree, want: &str) -> bool {
+    add_calls(alloc, &mut calls).is_ok() && stands_for(alloc, &calls, want)
 }
 
 #[test]
-fn a_wrong_count_comes_before_a_stranger(rt: HostRuntime) -> Result<(), Fail> {
-    let alloc = rt.alloc();
-    let one = sub(alloc, b"Ask", b"A", 2, again(b"X", 3)?, None)?;
-    let other = sub(
-        alloc,
-        b"Say",
-        b"A",
-        5,
-        call(alloc, b"Ask", &[b"A", b"A"], 6)?,
-        None,
-    )?;
-    let tree = file(alloc, one, other, call(alloc, b"Ask", &[], 10)?, None)?;
-    assert!(rt; inline(alloc, &tree).err() == Some(DoFault::Arity(at(6))));
-    Ok(())
+fn a_name_that_stands_twice_comes_first(rt: HostRuntime) {
+    assert!(rt; is_wrong(rt.alloc(), TWICE));
 }
 
 #[test]
-fn a_subprotocol_that_nobody_calls_is_checked(rt: HostRuntime) -> Result<(), Fail> {
-    let alloc = rt.alloc();
-    let one = sub(alloc, b"Ask", b"A", 2, barrier(3), None)?;
-    let other = sub(
-        alloc,
-        b"Say",
-        b"A",
-        5,
-        again(b"X", 6)?,
-        Some(again(b"X", 7)?),
-    )?;
-    let tree = file(alloc, one, other, call(alloc, b"Ask", &[b"W"], 10)?, None)?;
-    assert!(rt; inline(alloc, &tree).err() == Some(DoFault::Stranger(at(6))));
-    Ok(())
+fn an_unknown_call_comes_before_a_wrong_count(rt: HostRuntime) {
+    assert!(rt; is_wrong_before_bare_calls(rt.alloc(), UNKNOWN));
 }
 
 #[test]
-fn the_first_call_that_leads_back(rt: HostRuntime) -> Result<(), Fail> {
-    let alloc = rt.alloc();
-    let one = sub(
-        alloc,
-        b"Ask",
-        b"A",
-        2,
-        barrier(3),
-        Some(call(alloc, b"Say", &[b"A"], 4)?),
-    )?;
-    let other = sub(
-        alloc,
-        b"Say",
-        b"A",
-        5,
-        call(alloc, b"Ask", &[b"A"], 6)?,
-        None,
-    )?;
-    let tree = file(alloc, one, other, call(alloc, b"Ask", &[b"M"], 10)?, None)?;
-    assert!(rt; inline(alloc, &tree).err() == Some(DoFault::Cycle(at(4))));
-    Ok(())
+fn a_wrong_count_comes_before_a_stranger(rt: HostRuntime) {
+    assert!(rt; is_wrong_before_bare_calls(rt.alloc(), ARITY));
 }
 
 #[test]
-fn a_subprotocol_called_twice_stands_twice(rt: HostRuntime) -> Result<(), Fail> {
-    let alloc = rt.alloc();
-    let one = sub(alloc, b"Ask", b"A", 2, barrier(3), None)?;
-    let other = sub(
-        alloc,
-        b"Say",
-        b"A",
-        5,
-        call(alloc, b"Ask", &[b"A"], 6)?,
-        None,
-    )?;
-    let last = call(alloc, b"Ask", &[b"M"], 11)?;
-    let tree = file(
-        alloc,
-        one,
-        other,
-        call(alloc, b"Ask", &[b"M"], 10)?,
-        Some(last),
-    )?;
-    let inlined = inline(alloc, &tree).ok().ok_or("a file")?;
-    assert!(rt; inlined.body.list.len() == 2);
-    Ok(())
+fn a_subprotocol_that_nobody_calls_is_checked(rt: HostRuntime) {
+    assert!(rt; is_wrong(rt.alloc(), STRANGER));
+}
+
+#[test]
+fn the_first_call_that_leads_back(rt: HostRuntime) {
+    assert!(rt; is_wrong(rt.alloc(), CYCLE));
+}
+
+#[test]
+fn a_subprotocol_called_twice_stands_twice(rt: HostRuntime) {
+    assert!(rt; is_inlined(rt.alloc(), CALLS.as_bytes(), COPIES));
 }

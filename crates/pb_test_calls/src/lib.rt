@@ -1,6 +1,9 @@
-//! Tests of files with subprotocols: which bytes are such files, with their trees, faults and limits, and what comes of their calls.
+//! Tests of files with subprotocols and of files with strips: which bytes are such files, with their trees, faults and limits, and
+//! which files without them they stand for.
 #![tactic(auto)]
 
+#[cfg(test)]
+mod answers;
 #[cfg(test)]
 mod fault_tests;
 #[cfg(test)]
@@ -8,6 +11,12 @@ mod inline_tests;
 #[cfg(test)]
 mod limit_tests;
 #[cfg(test)]
-mod tree_tests;
+mod rows;
 #[cfg(test)]
-mod trees;
+mod strip_fault_tests;
+#[cfg(test)]
+mod strip_flat_tests;
+#[cfg(test)]
+mod strip_limit_tests;
+#[cfg(test)]
+mod tree_tests;

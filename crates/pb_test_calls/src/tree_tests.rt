@@ -1,7 +1,7 @@
-use pb_do_parse::*;
-use pb_text::{Key, MOST_TEXT_BYTES, Place, Spot};
+use crate::answers::is_read;
+use pb_do_parse::{CallStatement, CallTree, Sub, read_calls};
+use pb_text::{Key, MOST_TEXT_BYTES, NoMemory, Place, Spot};
 use std::alloc::Global;
-use std::test::Fail;
 
 // A conversation of two ranks, held twice.
 const ASK: &[u8] = b"const N = 2..max;
@@ -68,20 +68,32 @@ fn is(spot: &Spot, name: &[u8], place: Place) -> bool {
     spot.name.bytes() == name && spot.place == place
 }
 
-#[test]
-fn reads_a_subprotocol(rt: HostRuntime) -> Result<(), Fail> {
-    let tree = tree_of(rt.alloc(), ASK).ok_or("tree")?;
-    assert!(rt; tree.subs.len() == 1);
-    let sub = tree.subs.first().ok_or("sub")?;
-    assert!(rt; is(&sub.name, b"Ask", at(2, 10)));
-    assert!(rt; sub.params.len() == 2);
-    let first = sub.params.first().ok_or("first")?;
-    let last = sub.params.last().ok_or("last")?;
-    assert!(rt; is(first, b"A", at(2, 19)));
-    assert!(rt; is(last, b"B", at(2, 27)));
-    assert!(rt; sub.body.place == at(2, 30));
-    assert!(rt; sub.body.list.len() == 2);
-    Ok(())
+// Whether a file is read, and its subprotocols and its protocol have so many statements.
+fn has_counts(alloc: Global, text: &[u8], subs: &[usize], body: usize) -> bool {
+    match tree_of(alloc, text) {
+        Some(tree) => are_counts(&tree, subs, body),
+        None => false,
+    }
+}
+
+fn are_counts(tree: &CallTree, subs: &[usize], body: usize) -> bool {
+    tree.body.list.len() == body
+        && tree.subs.len() == subs.len()
+        && tree
+            .subs
+            .iter()
+            .zip(subs)
+            .all(|(sub, count)| sub.body.list.len() == *count)
+}
+
+// Whether it is `Ask` with A and B in the second line.
+fn is_ask(sub: &Sub) -> bool {
+    is(&sub.name, b"Ask", at(2, 10))
+        && sub.body.place == at(2, 30)
+        && match sub.params.as_slice() {
+            [first, last] => is(first, b"A", at(2, 19)) && is(last, b"B", at(2, 27)),
+            _ => false,
+        }
 }
 
 // Whether a statement calls `Ask` with M and W in this line.
@@ -98,60 +110,57 @@ fn calls_ask(statement: &CallStatement, line: u32) -> bool {
     }
 }
 
-#[test]
-fn reads_a_call(rt: HostRuntime) -> Result<(), Fail> {
-    let tree = tree_of(rt.alloc(), ASK).ok_or("tree")?;
-    assert!(rt; is(&tree.protocol, b"P", at(6, 17)));
-    assert!(rt; tree.roles.len() == 2);
-    assert!(rt; tree.body.list.len() == 2);
-    assert!(rt; calls_ask(tree.body.list.first().ok_or("first")?, 7));
-    assert!(rt; calls_ask(tree.body.list.last().ok_or("last")?, 8));
-    Ok(())
+// Whether a protocol calls the subprotocol in the lines 7 and 8.
+fn asks_twice(list: &[CallStatement]) -> bool {
+    match list {
+        [first, last] => calls_ask(first, 7) && calls_ask(last, 8),
+        _ => false,
+    }
 }
 
 #[test]
-fn reads_each_statement(rt: HostRuntime) -> Result<(), Fail> {
-    let tree = tree_of(rt.alloc(), WHOLE).ok_or("tree")?;
-    assert!(rt; tree.subs.len() == 2);
-    let one = tree.subs.first().ok_or("one")?;
-    assert!(rt; one.body.list.is_empty());
-    let every = tree.subs.last().ok_or("every")?;
-    assert!(rt; every.body.list.len() == 7);
-    assert!(rt; tree.body.list.len() == 1);
-    Ok(())
+fn reads_a_subprotocol_and_its_calls(rt: HostRuntime) {
+    let tree = tree_of(rt.alloc(), ASK);
+    assert!(rt; tree.is_some());
+    if let Some(tree) = tree {
+        assert!(rt; tree.subs.iter().all(|sub| is_ask(sub)));
+        assert!(rt; asks_twice(&tree.body.list));
+        assert!(rt; is(&tree.protocol, b"P", at(6, 17)));
+        assert!(rt; tree.roles.len() == 2);
+    }
+    assert!(rt; has_counts(rt.alloc(), ASK, &[2], 2));
 }
 
 #[test]
-fn reads_a_file_without_subprotocols(rt: HostRuntime) -> Result<(), Fail> {
-    let tree = tree_of(rt.alloc(), PLAIN).ok_or("tree")?;
-    assert!(rt; tree.subs.is_empty());
-    assert!(rt; tree.body.list.len() == 1);
-    Ok(())
+fn reads_each_statement(rt: HostRuntime) {
+    assert!(rt; has_counts(rt.alloc(), WHOLE, &[0, 7], 1));
+}
+
+#[test]
+fn reads_a_file_without_subprotocols(rt: HostRuntime) {
+    assert!(rt; has_counts(rt.alloc(), PLAIN, &[], 1));
+}
+
+// Whether no front of a file is read but the one that lacks the last line feed.
+fn needs_its_last_brace(alloc: Global, text: &[u8]) -> bool {
+    (0..text.len()).all(|end| tree_of(alloc, &text[..end]).is_some() == (end + 1 == text.len()))
 }
 
 #[test]
 fn needs_the_last_brace(rt: HostRuntime) {
-    let alloc = rt.alloc();
-    for (len, _) in WHOLE.iter().enumerate() {
-        let whole = tree_of(alloc, &WHOLE[..len]).is_some();
-        assert!(rt; whole == (len + 1 >= WHOLE.len()));
-    }
+    assert!(rt; needs_its_last_brace(rt.alloc(), WHOLE));
+}
+
+// Whether a keyword isn't read as a subprotocol's name.
+fn is_no_name(alloc: Global, keyword: &[u8]) -> Result<bool, NoMemory> {
+    let mut text = Vec::from_slice(alloc, b"const N = 2..max; protocol ")?;
+    text.extend_from_slice(keyword)?;
+    Ok(is_read(alloc, &text, "Unexpected(Place { line: 1, col: 28 })"))
 }
 
 #[test]
-fn takes_no_keyword_for_a_subprotocol(rt: HostRuntime) -> Result<(), Fail> {
-    let alloc = rt.alloc();
+fn takes_no_keyword_for_a_subprotocol(rt: HostRuntime) {
     for keyword in Key::all() {
-        let mut text = Vec::new(alloc);
-        text.extend_from_slice(b"const N = 2..max; protocol ")
-            .map_err(|_| "memory")?;
-        text.extend_from_slice(keyword.spelling())
-            .map_err(|_| "memory")?;
-        if text.len() > MOST_TEXT_BYTES as usize {
-            return Ok(());
-        }
-        let fault = read_calls(alloc, &text).err();
-        assert!(rt; fault == Some(ParseFault::Unexpected(at(1, 28))));
+        assert!(rt; is_no_name(rt.alloc(), keyword.spelling()) == Ok(true));
     }
-    Ok(())
 }

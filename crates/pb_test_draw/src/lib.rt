@@ -13,6 +13,8 @@ mod logs;
 #[cfg(test)]
 mod picture_tests;
 #[cfg(test)]
+mod rows;
+#[cfg(test)]
 mod slow;
 #[cfg(test)]
 mod times_tests;

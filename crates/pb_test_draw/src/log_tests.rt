@@ -1,67 +1,95 @@
-use pb_draw_log::{Deed, Entry, LogFault, Step, read_log};
+use crate::rows::{is_told, parts, with_lines};
+use pb_draw_log::{Entry, Log, read_log};
 use std::alloc::Global;
-use std::test::Fail;
 
-/// The fault of a short log.
-fn fault_of(alloc: Global, bytes: &[u8]) -> Option<LogFault> {
-    if bytes.len() > 1000 {
-        return None;
+/// A log with a line of each form.
+const FORMS: &[u8] = b"0 choose K 1
+0 run K
+0 send 1 A 5 -7
+1 recv 0 A 5 -7
+0 enter barrier
+4294967295 leave L 12 9
+ended
+";
+
+/// Its first four actions.
+const ACTIONS: &str =
+    "Entry { step: Step { rank: 0, deed: Choose(1), name: 0 }, words: 0, start: 12 }
+Entry { step: Step { rank: 0, deed: Run, name: 0 }, words: 0, start: 20 }
+Entry { step: Step { rank: 0, deed: Send(1), name: 1 }, words: 2, start: 31 }
+Entry { step: Step { rank: 1, deed: Recv(0), name: 1 }, words: 2, start: 47 }";
+
+fn are_told(alloc: Global, entries: &[Entry], want: &str) -> bool {
+    entries
+        .iter()
+        .zip(want.lines())
+        .all(|(entry, line)| is_told(alloc, entry, line))
+}
+
+fn has_forms(alloc: Global, log: &Log) -> bool {
+    log.entries.len() == 6
+        && are_told(alloc, &log.entries, ACTIONS)
+        && FORMS.get(log.end..) == Some(b"ended\n".as_slice())
+}
+
+fn reads_forms(alloc: Global) -> bool {
+    match read_log(alloc, FORMS) {
+        Ok(log) => has_forms(alloc, &log),
+        Err(_) => false,
     }
-    read_log(alloc, bytes).err()
 }
 
 #[test]
-fn reads_each_form(rt: HostRuntime) -> Result<(), Fail> {
-    let text =
-        b"0 choose K 1\n0 run K\n0 send 1 A 5 -7\n1 recv 0 A 5 -7\n0 enter barrier\n4294967295 leave L 12 9\nended\n".as_slice();
+fn reads_each_form(rt: HostRuntime) {
+    assert!(rt; reads_forms(rt.alloc()));
+}
+
+/// Logs, with `/` for the end of a line, and what is told of them.
+const LOGS: &str = " => read
+0 run K => BadLine(1)
+00 run K/ => BadLine(1)
+0 run K/0 run 9/ => BadLine(2)
+0 run K// => BadLine(2)
+0 run K 1/ => BadLine(1)
+0 send 1 A / => BadLine(1)
+0 send 1 A -0/ => BadLine(1)
+0 send 1 A 4294967296/ => BadLine(1)
+0 send 1 A -2147483648/ => read
+0 send 1 A -2147483649/ => BadLine(1)
+ended/0 run K/ => BadLine(1)";
+
+const ENDINGS: &str = "pabble: stuck, rank 3 is lost/ => read
+pabble: turns 5// => BadLine(1)
+pabble: turns 5 => BadLine(1)";
+
+fn is_read(alloc: Global, text: &[u8], want: &str) -> bool {
     if text.len() > 1000 {
-        return Ok(());
+        return false;
     }
-    match read_log(rt.alloc(), text) {
-        Ok(log) => {
-            let entry = |rank, deed, name, words, start| {
-                Some(Entry {
-                    step: Step { rank, deed, name },
-                    words,
-                    start,
-                })
-            };
-            let entries = log.entries.as_slice();
-            assert!(rt; entries.len() == 6);
-            assert!(rt; entries.get(0).copied() == entry(0, Deed::Choose(1), 0, 0, 12));
-            assert!(rt; entries.get(1).copied() == entry(0, Deed::Run, 0, 0, 20));
-            assert!(rt; entries.get(2).copied() == entry(0, Deed::Send(1), 1, 2, 31));
-            assert!(rt; entries.get(3).copied() == entry(1, Deed::Recv(0), 1, 2, 47));
-            assert!(rt; text.get(log.end..) == Some(b"ended\n".as_slice()));
-        }
-        Err(fault) => assert!(rt; fault == LogFault::NoMemory),
+    match read_log(alloc, text).err() {
+        None => want == "read",
+        Some(fault) => is_told(alloc, &fault, want),
     }
-    Ok(())
+}
+
+fn is_row_read(alloc: Global, row: &str) -> bool {
+    let (line, want) = parts(row);
+    match with_lines(alloc, line) {
+        Ok(text) => is_read(alloc, text.as_bytes(), want),
+        Err(_) => false,
+    }
 }
 
 #[test]
-fn tells_the_first_bad_line(rt: HostRuntime) -> Result<(), Fail> {
-    let bad = |line| Some(LogFault::BadLine(line));
-    assert!(rt; fault_of(rt.alloc(), b"") == None);
-    assert!(rt; fault_of(rt.alloc(), b"0 run K") == bad(1));
-    assert!(rt; fault_of(rt.alloc(), b"00 run K\n") == bad(1));
-    assert!(rt; fault_of(rt.alloc(), b"0 run K\n0 run 9\n") == bad(2));
-    assert!(rt; fault_of(rt.alloc(), b"0 run K\n\n") == bad(2));
-    assert!(rt; fault_of(rt.alloc(), b"0 run K 1\n") == bad(1));
-    assert!(rt; fault_of(rt.alloc(), b"0 send 1 A \n") == bad(1));
-    assert!(rt; fault_of(rt.alloc(), b"0 send 1 A -0\n") == bad(1));
-    assert!(rt; fault_of(rt.alloc(), b"0 send 1 A 4294967296\n") == bad(1));
-    assert!(rt; fault_of(rt.alloc(), b"0 send 1 A -2147483648\n") == None);
-    assert!(rt; fault_of(rt.alloc(), b"0 send 1 A -2147483649\n") == bad(1));
-    assert!(rt; fault_of(rt.alloc(), b"ended\n0 run K\n") == bad(1));
-    Ok(())
+fn tells_the_first_bad_line(rt: HostRuntime) {
+    for row in LOGS.lines() {
+        assert!(rt; is_row_read(rt.alloc(), row), "{row}");
+    }
 }
 
 #[test]
-fn a_log_may_tell_why_it_stopped(rt: HostRuntime) -> Result<(), Fail> {
-    let bad = |line| Some(LogFault::BadLine(line));
-    assert!(rt; fault_of(rt.alloc(), b"pabble: stuck, rank 3 is lost\n") == None);
-    assert!(rt; fault_of(rt.alloc(), b"pabble: turns 5\n\n") == bad(1));
-    assert!(rt; fault_of(rt.alloc(), b"pabble: turns 5") == bad(1));
-    Ok(())
+fn a_log_may_tell_why_it_stopped(rt: HostRuntime) {
+    for row in ENDINGS.lines() {
+        assert!(rt; is_row_read(rt.alloc(), row), "{row}");
+    }
 }

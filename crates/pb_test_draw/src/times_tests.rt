@@ -1,54 +1,61 @@
 use crate::logs::{add_message, done};
+use crate::rows::is_told;
 use crate::slow::{at, slow_chains, slow_mate};
 use pb_draw_log::read_log;
-use pb_draw_times::{
-    Deed, Entry, NoMemory, Times, TimesFault, link_at, longest_chain, message_chain, timed,
-};
+use pb_draw_times::{Deed, Entry, NoMemory, Times, link_at, longest_chain, message_chain, timed};
 use std::alloc::Global;
-use std::test::Fail;
+
+/// The times, the mates, the longest chain from its last action on, and how many sends of the first label one chain has.
+fn told(alloc: Global, entries: &[Entry], found: &Times) -> Result<String, NoMemory> {
+    let chain = longest_chain(alloc, found)?;
+    let sends = message_chain(alloc, entries, found, Some(0))?;
+    Ok(format!(in alloc; "{:?} {:?} {chain:?} {sends}.", found.times, found.mates)?)
+}
+
+fn is_told_of(alloc: Global, entries: &[Entry], found: &Times, want: &str) -> bool {
+    match told(alloc, entries, found) {
+        Ok(told) => told.as_str().starts_with(want),
+        Err(_) => false,
+    }
+}
+
+/// Whether what is told of actions begins so, or there are no times because of this fault.
+fn are_timed(alloc: Global, entries: &[Entry], want: &str) -> bool {
+    match timed(alloc, entries) {
+        Ok(found) => is_told_of(alloc, entries, &found, want),
+        Err(fault) => is_told(alloc, &fault, want),
+    }
+}
+
+/// The same of a log.
+fn is_timed(alloc: Global, text: &[u8], want: &str) -> bool {
+    if text.len() > 1000 {
+        return false;
+    }
+    match read_log(alloc, text) {
+        Ok(log) => are_timed(alloc, &log.entries, want),
+        Err(_) => false,
+    }
+}
 
 #[test]
-fn a_chain_of_two_messages(rt: HostRuntime) -> Result<(), Fail> {
+fn a_chain_of_two_messages(rt: HostRuntime) {
     let text = b"0 send 1 A 5\n2 run K\n1 recv 0 A 5\n1 send 2 A 5\n2 recv 1 A 5\n";
-    if let Ok(log) = read_log(rt.alloc(), text) {
-        match timed(rt.alloc(), &log.entries) {
-            Ok(found) => {
-                assert!(rt; found.times.as_slice() == [0, 0, 1, 2, 3].as_slice());
-                let chain = longest_chain(rt.alloc(), &found)?;
-                assert!(rt; chain.as_slice() == [4, 3, 2, 0].as_slice());
-                assert!(rt; message_chain(rt.alloc(), &log.entries, &found, Some(0))? == 2);
-            }
-            Err(fault) => assert!(rt; fault == TimesFault::NoMemory),
-        }
-    }
-    Ok(())
+    let want = "[0, 0, 1, 2, 3] [Some(2), None, Some(0), Some(4), Some(3)] [4, 3, 2, 0] 2.";
+    assert!(rt; is_timed(rt.alloc(), text, want));
 }
 
 #[test]
-fn receives_may_stand_before_their_sends(rt: HostRuntime) -> Result<(), Fail> {
+fn receives_may_stand_before_their_sends(rt: HostRuntime) {
     let text = b"1 recv 0 A\n1 recv 0 A\n0 send 1 A\n0 send 1 A\n0 send 1 A\n";
-    if let Ok(log) = read_log(rt.alloc(), text) {
-        match timed(rt.alloc(), &log.entries) {
-            Ok(found) => {
-                assert!(rt;
-                    found.mates.as_slice() == [Some(2), Some(3), Some(0), Some(1), None].as_slice()
-                );
-                assert!(rt; found.times.as_slice() == [1, 2, 0, 1, 2].as_slice());
-            }
-            Err(fault) => assert!(rt; fault == TimesFault::NoMemory),
-        }
-    }
-    Ok(())
+    let want = "[1, 2, 0, 1, 2] [Some(2), Some(3), Some(0), Some(1), None]";
+    assert!(rt; is_timed(rt.alloc(), text, want));
 }
 
 #[test]
-fn a_circle_has_no_times(rt: HostRuntime) -> Result<(), Fail> {
+fn a_circle_has_no_times(rt: HostRuntime) {
     let text = b"0 recv 1 A\n0 send 1 B\n1 recv 0 B\n1 send 0 A\n";
-    if let Ok(log) = read_log(rt.alloc(), text) {
-        let fault = timed(rt.alloc(), &log.entries).err();
-        assert!(rt; fault == Some(TimesFault::Circle) || fault == Some(TimesFault::NoMemory));
-    }
-    Ok(())
+    assert!(rt; is_timed(rt.alloc(), text, "Circle"));
 }
 
 /// A log of four ranks that do what the seed says: some messages are never taken.
@@ -113,29 +120,40 @@ fn times_agree(lengths: &[u32], times: &[u32]) -> bool {
     true
 }
 
-/// Whether times, the longest chain and the sends on one chain are those of the slow program.
+/// How long the chains up to each action are that the slow program finds, where all of them count or only those sends.
+fn lengths(alloc: Global, entries: &[Entry], only_sends: bool) -> Result<Vec<u32>, NoMemory> {
+    let weights = weights(alloc, entries, only_sends)?;
+    slow_chains(alloc, entries, &weights)
+}
+
+/// Whether times and the longest chain are those of the slow program.
 fn chains_agree(alloc: Global, entries: &[Entry], found: &Times) -> Result<bool, NoMemory> {
-    let ones = weights(alloc, entries, false)?;
-    let lengths = slow_chains(alloc, entries, &ones)?;
-    let chain = longest_chain(alloc, found)?;
-    let sends = weights(alloc, entries, true)?;
-    let most = greatest(&slow_chains(alloc, entries, &sends)?);
-    let is_longest = chain.len() == greatest(&lengths) as usize;
-    let is_most = message_chain(alloc, entries, found, Some(1))? == most;
-    Ok(times_agree(&lengths, &found.times) && is_longest && is_most)
+    let longest = longest_chain(alloc, found)?.len();
+    let lengths = lengths(alloc, entries, false)?;
+    Ok(times_agree(&lengths, &found.times) && longest == greatest(&lengths) as usize)
+}
+
+/// Whether the sends on one chain are as many as the slow program finds.
+fn sends_agree(alloc: Global, entries: &[Entry], found: &Times) -> Result<bool, NoMemory> {
+    let most = greatest(&lengths(alloc, entries, true)?);
+    Ok(message_chain(alloc, entries, found, Some(1))? == most)
+}
+
+fn agree(alloc: Global, seed: u32) -> Result<bool, NoMemory> {
+    let entries = made(alloc, seed)?;
+    match timed(alloc, &entries) {
+        Ok(found) => Ok(
+            mates_agree(&entries, &found)
+                && chains_agree(alloc, &entries, &found)?
+                && sends_agree(alloc, &entries, &found)?,
+        ),
+        Err(_) => Ok(false),
+    }
 }
 
 #[test]
-fn the_slow_program_finds_the_same(rt: HostRuntime) -> Result<(), Fail> {
+fn the_slow_program_finds_the_same(rt: HostRuntime) {
     for seed in 0..3 {
-        let entries = made(rt.alloc(), seed)?;
-        match timed(rt.alloc(), &entries) {
-            Ok(found) => {
-                assert!(rt; mates_agree(&entries, &found));
-                assert!(rt; chains_agree(rt.alloc(), &entries, &found)?);
-            }
-            Err(fault) => assert!(rt; fault == TimesFault::NoMemory),
-        }
+        assert!(rt; agree(rt.alloc(), seed) == Ok(true), "{seed}");
     }
-    Ok(())
 }

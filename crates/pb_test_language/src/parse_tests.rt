@@ -1,17 +1,16 @@
-use pb_parse::*;
-use pb_syntax::print_file;
-use pb_text::{Key, MOST_TEXT_BYTES, Place, Quantity};
+use crate::rows::{expanded, halves, is_printed, is_told, parts};
+use pb_parse::parse;
+use pb_text::{Key, MOST_TEXT_BYTES, NoMemory};
 use std::alloc::Global;
-use std::test::Fail;
 
-const PAIR: &[u8] = b"const N = 2..max;
+const PAIR: &str = "const N = 2..max;
 global protocol P(role W[0..N-1]) {
   A() from W[0] to W[N-1];
 }
 ";
 
 // One of each statement, in the printed layout.
-const WHOLE: &[u8] = b"const N = 2..9;
+const WHOLE: &str = "const N = 2..9;
 global protocol Every(role M, role W[0..N-1]) {
   A(int32[64]) from W[i:0..N-2] to W[i+1];
   foreach (i:1..N-1) {
@@ -32,204 +31,160 @@ global protocol Every(role M, role W[0..N-1]) {
 }
 ";
 
-fn at(line: u32, col: u32) -> Place {
-    Place { line, col }
-}
+/// Files, each behind a line with its first fault.
+const FILES: &str = "Unexpected(Place { line: 1, col: 1 })
 
-fn fault_of(alloc: Global, text: &[u8]) -> Option<ParseFault> {
+--
+Unexpected(Place { line: 2, col: 8 })
+const N = 2..max;
+global proto
+--
+Unexpected(Place { line: 2, col: 19 })
+const N = 2..max;
+global protocol Ri
+--
+TooMany(Constant, Place { line: 1, col: 11 })
+const N = 100001..max;
+global
+--
+Lex(OpenComment(Place { line: 2, col: 1 }))
+const N = 2..;
+/* 
+--
+Unexpected(Place { line: 1, col: 1 })
+do";
+
+/// The third lines of files, with their first faults.
+const LINES: &str = "  A() from W[0] to W[N-1]; => read
+  barrier; /* {{{ */ // } => read
+  A(int32[0]) from W[0] to W[1]; => Unexpected(Place { line: 3, col: 11 })
+  A(int32[1025]) from W[0] to W[1]; => TooMany(PayloadCount, Place { line: 3, col: 11 })
+  A() from W[100001] to W[0]; => TooMany(Constant, Place { line: 3, col: 14 })
+  A() from W[i:0..1] to W[i:0..1]; => Unexpected(Place { line: 3, col: 28 })
+  choice K at W[0] { } barrier; => Unexpected(Place { line: 3, col: 24 })
+  A() from to to W[0]; => Unexpected(Place { line: 3, col: 12 })
+  foreach (i:0..1) { barrier; } => Unexpected(Place { line: 3, col: 22 })";
+
+/// Files with as many parts as may be, or more, each behind a line with its first fault.
+const LIMITS: &str = "read
+const N = 2..max; global protocol P(role W) {
+~4000#barrier;~}
+--
+TooMany(Statements, Place { line: 2, col: 32001 })
+const N = 2..max; global protocol P(role W) {
+~4001#barrier;~}
+--
+Unexpected(Place { line: 2, col: 442 })
+const N = 2..max; global protocol P(role W) {
+~63#rec X {
+--
+TooDeep(Place { line: 2, col: 448 })
+const N = 2..max; global protocol P(role W) {
+~64#rec X {
+--
+read
+const N = 2..max; global protocol P(role W) {
+choice K at W {} ~63#or {} ~}
+--
+TooMany(Branches, Place { line: 2, col: 396 })
+const N = 2..max; global protocol P(role W) {
+choice K at W {} ~64#or {} ~}
+--
+read
+const N = 2..max; global protocol P(~63#role W, ~role W) {}
+--
+TooMany(Roles, Place { line: 1, col: 549 })
+const N = 2..max; global protocol P(~64#role W, ~role W) {}";
+
+/// Whether a file has this fault, or none where `read` is wanted.
+fn is_read(alloc: Global, text: &[u8], want: &str) -> bool {
     if text.len() > MOST_TEXT_BYTES as usize {
-        return None;
+        return false;
     }
-    parse(alloc, text).err()
-}
-
-// The pair with another third line.
-fn with_line(alloc: Global, line: &[u8]) -> Result<Vec<u8>, Fail> {
-    let mut text = Vec::new(alloc);
-    let head = b"const N = 2..max;\nglobal protocol P(role W[0..N-1]) {\n";
-    text.extend_from_slice(head).map_err(|_| "memory")?;
-    text.extend_from_slice(line).map_err(|_| "memory")?;
-    text.extend_from_slice(b"\n}\n").map_err(|_| "memory")?;
-    Ok(text)
+    match parse(alloc, text).err() {
+        None => want == "read",
+        Some(fault) => is_told(alloc, &fault, want),
+    }
 }
 
 #[test]
-fn names_the_first_fault_of_a_file(rt: HostRuntime) -> Result<(), Fail> {
-    let alloc = rt.alloc();
-    let rows: [(&[u8], ParseFault); 6] = [
-        (b"", ParseFault::Unexpected(at(1, 1))),
-        (
-            b"const N = 2..max;\nglobal proto",
-            ParseFault::Unexpected(at(2, 8)),
-        ),
-        (
-            b"const N = 2..max;\nglobal protocol Ri",
-            ParseFault::Unexpected(at(2, 19)),
-        ),
-        (
-            b"const N = 100001..max;\nglobal",
-            ParseFault::TooMany(Quantity::Constant, at(1, 11)),
-        ),
-        (
-            b"const N = 2..;\n/* ",
-            ParseFault::Lex(LexError::OpenComment(at(2, 1))),
-        ),
-        (b"do", ParseFault::Unexpected(at(1, 1))),
-    ];
-    for (text, want) in rows {
-        assert!(rt; fault_of(alloc, text) == Some(want));
+fn names_the_first_fault_of_a_file(rt: HostRuntime) {
+    for block in FILES.split("\n--\n") {
+        let (want, text) = halves(block);
+        assert!(rt; is_read(rt.alloc(), text.as_bytes(), want), "{block}");
     }
-    Ok(())
+}
+
+// Whether the pair with another third line has this fault.
+fn is_line_read(alloc: Global, line: &str, want: &str) -> bool {
+    let head = "const N = 2..max;\nglobal protocol P(role W[0..N-1]) {\n";
+    match format!(in alloc; "{head}{line}\n}}\n") {
+        Ok(text) => is_read(alloc, text.as_bytes(), want),
+        Err(_) => false,
+    }
 }
 
 #[test]
-fn names_the_first_fault_of_a_line(rt: HostRuntime) -> Result<(), Fail> {
-    let alloc = rt.alloc();
-    let rows: [(&[u8], Option<ParseFault>); 9] = [
-        (b"  A() from W[0] to W[N-1];", None),
-        (b"  barrier; /* {{{ */ // }", None),
-        (
-            b"  A(int32[0]) from W[0] to W[1];",
-            Some(ParseFault::Unexpected(at(3, 11))),
-        ),
-        (
-            b"  A(int32[1025]) from W[0] to W[1];",
-            Some(ParseFault::TooMany(Quantity::PayloadCount, at(3, 11))),
-        ),
-        (
-            b"  A() from W[100001] to W[0];",
-            Some(ParseFault::TooMany(Quantity::Constant, at(3, 14))),
-        ),
-        (
-            b"  A() from W[i:0..1] to W[i:0..1];",
-            Some(ParseFault::Unexpected(at(3, 28))),
-        ),
-        (
-            b"  choice K at W[0] { } barrier;",
-            Some(ParseFault::Unexpected(at(3, 24))),
-        ),
-        (
-            b"  A() from to to W[0];",
-            Some(ParseFault::Unexpected(at(3, 12))),
-        ),
-        (
-            b"  foreach (i:0..1) { barrier; }",
-            Some(ParseFault::Unexpected(at(3, 22))),
-        ),
-    ];
-    for (line, want) in rows {
-        let text = with_line(alloc, line)?;
-        assert!(rt; fault_of(alloc, &text) == want);
+fn names_the_first_fault_of_a_line(rt: HostRuntime) {
+    for row in LINES.lines() {
+        let (line, want) = parts(row);
+        assert!(rt; is_line_read(rt.alloc(), line, want), "{row}");
     }
-    Ok(())
+}
+
+// Whether no front of a file is read but the one that lacks the last line feed.
+fn needs_its_last_brace(alloc: Global, text: &[u8]) -> bool {
+    (0..text.len()).all(|end| is_read(alloc, &text[..end], "read") == (end + 1 == text.len()))
 }
 
 #[test]
 fn needs_the_last_brace(rt: HostRuntime) {
-    let alloc = rt.alloc();
-    for (len, _) in WHOLE.iter().enumerate() {
-        let whole = fault_of(alloc, &WHOLE[..len]).is_none();
-        assert!(rt; whole == (len + 1 >= WHOLE.len()));
-    }
+    assert!(rt; needs_its_last_brace(rt.alloc(), WHOLE.as_bytes()));
 }
 
-fn too_many(quantity: Quantity, place: Place) -> Option<ParseFault> {
-    Some(ParseFault::TooMany(quantity, place))
-}
-
-// A text with a part of it so many times.
-fn repeated(
-    alloc: Global,
-    before: &[u8],
-    part: &[u8],
-    count: u32,
-    behind: &[u8],
-) -> Result<Vec<u8>, Fail> {
-    let mut text = Vec::new(alloc);
-    text.extend_from_slice(before).map_err(|_| "memory")?;
-    for _ in 0..count {
-        text.extend_from_slice(part).map_err(|_| "memory")?;
+fn is_expanded_read(alloc: Global, pieces: &str, want: &str) -> bool {
+    match expanded(alloc, pieces) {
+        Ok(text) => is_read(alloc, text.as_bytes(), want),
+        Err(_) => false,
     }
-    text.extend_from_slice(behind).map_err(|_| "memory")?;
-    Ok(text)
-}
-
-// The first tokens of a file, up to the roles, and up to the statements.
-const ROLES: &[u8] = b"const N = 2..max; global protocol P(";
-
-const BODY: &[u8] = b"const N = 2..max; global protocol P(role W) {\n";
-
-#[test]
-fn counts_to_the_limits(rt: HostRuntime) -> Result<(), Fail> {
-    let alloc = rt.alloc();
-    let choice = b"const N = 2..max; global protocol P(role W) {\nchoice K at W {} ";
-    let rows: [(&[u8], &[u8], u32, &[u8], Option<ParseFault>); 8] = [
-        (BODY, b"barrier;", 4000, b"}", None),
-        (
-            BODY,
-            b"barrier;",
-            4001,
-            b"}",
-            too_many(Quantity::Statements, at(2, 32_001)),
-        ),
-        (
-            BODY,
-            b"rec X {",
-            63,
-            b"",
-            Some(ParseFault::Unexpected(at(2, 442))),
-        ),
-        (
-            BODY,
-            b"rec X {",
-            64,
-            b"",
-            Some(ParseFault::TooDeep(at(2, 448))),
-        ),
-        (choice, b"or {} ", 63, b"}", None),
-        (
-            choice,
-            b"or {} ",
-            64,
-            b"}",
-            too_many(Quantity::Branches, at(2, 396)),
-        ),
-        (ROLES, b"role W, ", 63, b"role W) {}", None),
-        (
-            ROLES,
-            b"role W, ",
-            64,
-            b"role W) {}",
-            too_many(Quantity::Roles, at(1, 549)),
-        ),
-    ];
-    for (before, part, count, behind, want) in rows {
-        let text = repeated(alloc, before, part, count, behind)?;
-        assert!(rt; fault_of(alloc, &text) == want);
-    }
-    Ok(())
 }
 
 #[test]
-fn takes_no_keyword_for_a_name(rt: HostRuntime) -> Result<(), Fail> {
-    let alloc = rt.alloc();
+fn counts_to_the_limits(rt: HostRuntime) {
+    for block in LIMITS.split("\n--\n") {
+        let (want, pieces) = halves(block);
+        assert!(rt; is_expanded_read(rt.alloc(), pieces, want), "{block}");
+    }
+}
+
+// Whether a keyword isn't read as the constant's name.
+fn is_no_name(alloc: Global, keyword: &[u8]) -> Result<bool, NoMemory> {
+    let mut text = Vec::from_slice(alloc, b"const ")?;
+    text.extend_from_slice(keyword)?;
+    text.extend_from_slice(b" = 2..max;")?;
+    Ok(is_read(alloc, &text, "Unexpected(Place { line: 1, col: 7 })"))
+}
+
+#[test]
+fn takes_no_keyword_for_a_name(rt: HostRuntime) {
     for keyword in Key::all() {
-        let text = repeated(alloc, b"const ", keyword.spelling(), 1, b" = 2..max;")?;
-        assert!(rt; fault_of(alloc, &text) == Some(ParseFault::Unexpected(at(1, 7))));
+        assert!(rt; is_no_name(rt.alloc(), keyword.spelling()) == Ok(true));
     }
-    Ok(())
+}
+
+fn is_printed_again(alloc: Global, text: &str) -> bool {
+    let bytes = text.as_bytes();
+    if bytes.len() > MOST_TEXT_BYTES as usize {
+        return false;
+    }
+    match parse(alloc, bytes) {
+        Ok(file) => is_printed(alloc, &file, text),
+        Err(_) => false,
+    }
 }
 
 #[test]
-fn reads_back_what_was_printed(rt: HostRuntime) -> Result<(), Fail> {
-    let alloc = rt.alloc();
-    for text in [PAIR, WHOLE] {
-        if text.len() > MOST_TEXT_BYTES as usize {
-            return Ok(());
-        }
-        let file = parse(alloc, text).map_err(|_| "parse")?;
-        let out = print_file(alloc, &file).map_err(|_| "print")?;
-        assert!(rt; out.as_slice() == text);
-    }
-    Ok(())
+fn reads_back_what_was_printed(rt: HostRuntime) {
+    assert!(rt; is_printed_again(rt.alloc(), PAIR));
+    assert!(rt; is_printed_again(rt.alloc(), WHOLE));
 }

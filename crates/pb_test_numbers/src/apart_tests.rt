@@ -1,6 +1,7 @@
 ghost use Rattle.std.specs.Prelude.{IsSome, ◌+ℤ◌, pos, negsuc};
 ghost use Rattle.pb_affine.specs.Values.{IsSmall, IsSmallGuard};
 
+use crate::rows::{pair, word};
 use pb_affine::{Base, Guard, Lin, NRange};
 use pb_diff_apart::{first_apart, first_apart_other};
 
@@ -47,160 +48,64 @@ fn apart(range: NRange, g: Ends, h: Ends, p: (Base, i8), q: (Base, i8)) -> Optio
     first_apart(range, &g, &h, p, q).map(|bad| (bad.n, bad.index))
 }
 
-/// What is asked, and the answer.
-#[derive(Clone, Copy)]
-struct Row {
-    low: u32,
-    high: Option<u32>,
-    g: Ends,
-    h: Ends,
-    p: (Base, i8),
-    q: (Base, i8),
-    want: Option<(i64, i64)>,
+/// The number, the base N or the base i with an offset that stands at a place of a row.
+fn end_at(row: &str, place: usize) -> (Base, i8) {
+    let word = word(row, place);
+    let (base, off) = match word.strip_prefix('N') {
+        Some(off) => (Base::Param, off),
+        None => fixed_or_turn(word),
+    };
+    (base, off.parse().unwrap_or(0))
+}
+
+fn fixed_or_turn(word: &str) -> (Base, &str) {
+    match word.strip_prefix('i') {
+        Some(off) => (Base::Var, off),
+        None => (Base::Fixed, word),
+    }
+}
+
+/// The low end, the high end and the least N, from a place of a row on.
+fn ends_at(row: &str, place: usize) -> Ends {
+    Ends {
+        low: end_at(row, place),
+        high: end_at(row, place.saturating_add(1)),
+        from: word(row, place.saturating_add(2)).parse().ok(),
+    }
+}
+
+/// The range of N at the front of a row. It goes on where the second word is no number.
+fn range_of(row: &str) -> NRange {
+    NRange {
+        low: word(row, 0).parse().unwrap_or(0),
+        high: word(row, 1).parse().ok(),
+    }
+}
+
+/// The range of N, the first and the last index and the least N of two guards, two lins, and the first N and index at which these
+/// differ under both guards.
+const APART: &str = "2 max 0 N-1 - 0 N-1 - i+1 5 2 0
+2 max 0 N-1 - 0 N-1 - 5 5 - -
+2 max 0 N-1 - 4 4 - i+1 5 - -
+2 max 0 N-1 - 4 N-1 - i+1 5 6 5
+5 max 0 0 - 0 N-1 - N 5 6 0
+5 5 0 0 - 0 N-1 - N 5 - -
+2 max 0 N-1 20 0 N-1 - 0 5 20 0
+2 max 0 N-1 - 5 4 - 0 5 - -
+2 max 0 N-1 - 0 N-1 - i+1 N 2 0
+2 max N-1 N-1 - 0 N-1 - i+1 N - -";
+
+fn is_row_apart(row: &str) -> bool {
+    let range = range_of(row);
+    let g = ends_at(row, 2);
+    let h = ends_at(row, 5);
+    apart(range, g, h, end_at(row, 8), end_at(row, 9)) == pair(row, 10)
 }
 
 #[test]
-fn rows(rt: HostRuntime) {
-    let five = (Base::Fixed, 5);
-    let next = (Base::Var, 1);
-    let n = (Base::Param, 0);
-    let first = (Base::Fixed, 0);
-    let last = (Base::Param, -1);
-    let role = Ends {
-        low: first,
-        high: last,
-        from: None,
-    };
-    let zero = Ends {
-        low: first,
-        high: first,
-        from: None,
-    };
-    let at_four = Ends {
-        low: (Base::Fixed, 4),
-        high: (Base::Fixed, 4),
-        from: None,
-    };
-    let from_four = Ends {
-        low: (Base::Fixed, 4),
-        high: last,
-        from: None,
-    };
-    let from_twenty = Ends {
-        low: first,
-        high: last,
-        from: Some(20),
-    };
-    let empty = Ends {
-        low: five,
-        high: (Base::Fixed, 4),
-        from: None,
-    };
-    let table = [
-        Row {
-            low: 2,
-            high: None,
-            g: role,
-            h: role,
-            p: next,
-            q: five,
-            want: Some((2, 0)),
-        },
-        Row {
-            low: 2,
-            high: None,
-            g: role,
-            h: role,
-            p: five,
-            q: five,
-            want: None,
-        },
-        Row {
-            low: 2,
-            high: None,
-            g: role,
-            h: at_four,
-            p: next,
-            q: five,
-            want: None,
-        },
-        Row {
-            low: 2,
-            high: None,
-            g: role,
-            h: from_four,
-            p: next,
-            q: five,
-            want: Some((6, 5)),
-        },
-        Row {
-            low: 5,
-            high: None,
-            g: zero,
-            h: role,
-            p: n,
-            q: five,
-            want: Some((6, 0)),
-        },
-        Row {
-            low: 5,
-            high: Some(5),
-            g: zero,
-            h: role,
-            p: n,
-            q: five,
-            want: None,
-        },
-        Row {
-            low: 2,
-            high: None,
-            g: from_twenty,
-            h: role,
-            p: first,
-            q: five,
-            want: Some((20, 0)),
-        },
-        Row {
-            low: 2,
-            high: None,
-            g: role,
-            h: empty,
-            p: first,
-            q: five,
-            want: None,
-        },
-        Row {
-            low: 2,
-            high: None,
-            g: role,
-            h: role,
-            p: next,
-            q: n,
-            want: Some((2, 0)),
-        },
-        Row {
-            low: 2,
-            high: None,
-            g: Ends {
-                low: last,
-                high: last,
-                from: None,
-            },
-            h: role,
-            p: next,
-            q: n,
-            want: None,
-        },
-    ];
-    for (i, row) in table.iter().enumerate() {
-        let range = NRange {
-            low: row.low,
-            high: row.high,
-        };
-        assert!(rt;
-            apart(range, row.g, row.h, row.p, row.q) == row.want,
-            "row {i}"
-        );
+fn lins_differ_first(rt: HostRuntime) {
+    for row in APART.lines() {
+        assert!(rt; is_row_apart(row), "{row}");
     }
 }
 
@@ -219,27 +124,24 @@ fn apart_other(
     first_apart_other(range, &g, but, p, q).map(|bad| (bad.n, bad.index))
 }
 
+/// The range of N, a guard, the index that is left out, two lins, and the first N and index at which these differ under the guard
+/// elsewhere. Behind that stands why.
+const ELSEWHERE: &str =
+    "3 max 0 N-1 - N-1 i 0 3 1 the first rank, where index and 0 are one, and the next
+3 max 0 N-1 - 1 i 0 3 2 all ranks but the next, up to N - 1
+3 max 0 0 - 0 i N-1 - - the one rank that would do is left out
+3 max 0 0 - N-1 i N-1 3 0 it isn't";
+
+fn is_row_elsewhere(row: &str) -> bool {
+    let range = range_of(row);
+    let g = ends_at(row, 2);
+    let but = end_at(row, 5);
+    apart_other(range, g, but, end_at(row, 6), end_at(row, 7)) == pair(row, 8)
+}
+
 #[test]
 fn all_but_one(rt: HostRuntime) {
-    let first = (Base::Fixed, 0);
-    let last = (Base::Param, -1);
-    let own = (Base::Var, 0);
-    let range = NRange { low: 3, high: None };
-    let role = Ends {
-        low: first,
-        high: last,
-        from: None,
-    };
-    let at_first = Ends {
-        low: first,
-        high: first,
-        from: None,
-    };
-    // the first rank, where index and 0 are one, and the next
-    assert!(rt; apart_other(range, role, last, own, first) == Some((3, 1)));
-    // all ranks but the next, up to N - 1
-    assert!(rt; apart_other(range, role, (Base::Fixed, 1), own, first) == Some((3, 2)));
-    // the one rank that would do is left out
-    assert!(rt; apart_other(range, at_first, first, own, last) == None);
-    assert!(rt; apart_other(range, at_first, last, own, last) == Some((3, 0)));
+    for row in ELSEWHERE.lines() {
+        assert!(rt; is_row_elsewhere(row), "{row}");
+    }
 }

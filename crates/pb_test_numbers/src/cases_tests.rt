@@ -6,6 +6,7 @@ ghost use Rattle.pb_cases.specs.Breakpoints.{IsCut};
 ghost use Rattle.pb_cases.specs.Bounds.{after, IsAligned, IsEdgeIf};
 ghost use Rattle.pb_cases.specs.Tested.{IsInner};
 
+use crate::rows::{pair, word};
 use pb_affine::{Base, Guard, Lin, NRange};
 use pb_cases::{Bad, CaseFault, Cases, NoMemory};
 use std::alloc::Global;
@@ -213,20 +214,28 @@ fn range_of(low: u8, more: Option<u8>) -> NRange
     }
 }
 
+/// Whether these are the breakpoints for N from `low` to `more` above it.
+fn are_breakpoints(
+    alloc: Global,
+    low: u8,
+    more: Option<u8>,
+    want: &[i64],
+) -> Result<bool, CaseFault> {
+    let cuts = some_cuts(alloc)?;
+    let cases = cases_of(alloc, range_of(low, more), &cuts)?;
+    Ok(cases.breakpoints() == want)
+}
+
 #[test]
-fn breakpoints(rt: HostRuntime) -> Result<(), CaseFault> {
-    let cuts = some_cuts(rt.alloc())?;
-    let cases = cases_of(rt.alloc(), range_of(2, None), &cuts)?;
-    assert!(rt; cases.breakpoints() == [2, 3, 4, 5, 6, 7, 8, 9, 10].as_slice());
-    let cases = cases_of(rt.alloc(), range_of(4, Some(2)), &cuts)?;
-    assert!(rt; cases.breakpoints() == [4, 5, 6].as_slice());
-    let cases = cases_of(rt.alloc(), range_of(20, Some(0)), &cuts)?;
-    assert!(rt; cases.breakpoints() == [20].as_slice());
-    Ok(())
+fn breakpoints(rt: HostRuntime) {
+    let all = [2, 3, 4, 5, 6, 7, 8, 9, 10];
+    assert!(rt; are_breakpoints(rt.alloc(), 2, None, &all) == Ok(true));
+    assert!(rt; are_breakpoints(rt.alloc(), 4, Some(2), &[4, 5, 6]) == Ok(true));
+    assert!(rt; are_breakpoints(rt.alloc(), 20, Some(0), &[20]) == Ok(true));
 }
 
 /// What the two questions answer.
-#[derive(Clone, Copy, PartialEq)]
+#[derive(Clone, Copy)]
 struct Answers {
     bad: Option<Bad>,
     meet: Option<Bad>,
@@ -271,127 +280,43 @@ fn asked(
     Ok(both_of(alloc, &cases, &cuts, a, b)?)
 }
 
-/// For N from `low` to `more` above it, what the questions on one guard in each list answer.
-#[derive(Clone, Copy)]
-struct Question {
-    low: u8,
-    more: Option<u8>,
-    a: Row,
-    b: Row,
-    bad: Option<Bad>,
-    meet: Option<Bad>,
+/// The least N and how many more; for one guard in each list the places of the cuts at which it begins and ends; the first rank of
+/// one that is not of the other, and the first of both, each by its N and index. Behind that may stand why.
+const QUESTIONS: &str = "2 - 2 3 0 7 2 5 6 5 index 5 isn't there before N = 6
+2 - 4 5 0 7 2 -1 3 0 N - 3 isn't there before N = 3
+2 - 6 7 0 7 - - 2 1
+2 - 2 3 4 5 2 5 8 5 they meet at N = 8 alone, which is inside a stretch of the role's own ends
+9 - 2 3 4 5 9 5 - -
+2 - 2 7 3 3 6 5 - - from 5 to N - 1: empty for N below 6
+2 3 2 7 3 3 - - - -
+4 0 4 5 2 3 4 1 - - one N
+8 0 4 5 2 3 - - 8 5
+20 - 0 7 0 3 20 6 20 0 the least index is the one past an end of a guard of the second list";
+
+/// The guard between the cuts that a row names at this place and the next.
+fn guard_at(row: &str, place: usize) -> Row {
+    let low = word(row, place).parse().unwrap_or(99);
+    let next = word(row, place.saturating_add(1)).parse().unwrap_or(99);
+    always(low, next)
 }
 
-fn at(n: i64, index: i64) -> Option<Bad> {
+fn bad_at(row: &str, place: usize) -> Option<Bad> {
+    let (n, index) = pair(row, place)?;
     Some(Bad { n, role: 0, index })
 }
 
+fn is_row_answered(alloc: Global, row: &str) -> Result<bool, CaseFault> {
+    let low = word(row, 0).parse().unwrap_or(0);
+    let more = word(row, 1).parse().ok();
+    let answers = asked(alloc, low, more, &[guard_at(row, 2)], &[guard_at(row, 4)])?;
+    Ok(answers.bad == bad_at(row, 6) && answers.meet == bad_at(row, 8))
+}
+
 #[test]
-fn questions(rt: HostRuntime) -> Result<(), CaseFault> {
-    let role = always(0, 7);
-    let five = always(2, 3);
-    let third_last = always(4, 5);
-    let last = always(6, 7);
-    let none = always(3, 3);
-    let table = [
-        // index 5 isn't there before N = 6, and N - 3 not before N = 3
-        Question {
-            low: 2,
-            more: None,
-            a: five,
-            b: role,
-            bad: at(2, 5),
-            meet: at(6, 5),
-        },
-        Question {
-            low: 2,
-            more: None,
-            a: third_last,
-            b: role,
-            bad: at(2, -1),
-            meet: at(3, 0),
-        },
-        Question {
-            low: 2,
-            more: None,
-            a: last,
-            b: role,
-            bad: None,
-            meet: at(2, 1),
-        },
-        // they meet at N = 8 alone, which is inside a stretch of the role's own ends
-        Question {
-            low: 2,
-            more: None,
-            a: five,
-            b: third_last,
-            bad: at(2, 5),
-            meet: at(8, 5),
-        },
-        Question {
-            low: 9,
-            more: None,
-            a: five,
-            b: third_last,
-            bad: at(9, 5),
-            meet: None,
-        },
-        // from 5 to N - 1: empty for N below 6
-        Question {
-            low: 2,
-            more: None,
-            a: always(2, 7),
-            b: none,
-            bad: at(6, 5),
-            meet: None,
-        },
-        Question {
-            low: 2,
-            more: Some(3),
-            a: always(2, 7),
-            b: none,
-            bad: None,
-            meet: None,
-        },
-        // one N
-        Question {
-            low: 4,
-            more: Some(0),
-            a: third_last,
-            b: five,
-            bad: at(4, 1),
-            meet: None,
-        },
-        Question {
-            low: 8,
-            more: Some(0),
-            a: third_last,
-            b: five,
-            bad: None,
-            meet: at(8, 5),
-        },
-        // the least index is the one past an end of a guard of the second list
-        Question {
-            low: 20,
-            more: None,
-            a: role,
-            b: always(0, 3),
-            bad: at(20, 6),
-            meet: at(20, 0),
-        },
-    ];
-    for (i, q) in table.iter().enumerate() {
-        let answers = asked(rt.alloc(), q.low, q.more, &[q.a], &[q.b])?;
-        assert!(rt;
-            answers
-                == Answers {
-                    bad: q.bad,
-                    meet: q.meet
-                },
-            "question {i}"
-        );
+fn questions(rt: HostRuntime) {
+    for row in QUESTIONS.lines() {
+        assert!(rt; is_row_answered(rt.alloc(), row) == Ok(true), "{row}");
     }
-    Ok(())
 }
 
 /// One of many guards of two roles, by digits of the seed.
@@ -436,12 +361,26 @@ fn agree_at(alloc: Global, cases: &Cases, cuts: &[Lin], seed: u16) -> Result<boo
     agree(alloc, cases, &a, &b)
 }
 
-#[test]
-fn as_a_walk_answers(rt: HostRuntime) -> Result<(), CaseFault> {
-    let cuts = some_cuts(rt.alloc())?;
-    let cases = cases_of(rt.alloc(), range_of(2, Some(12)), &cuts)?;
+/// The first seed whose guards a walk answers otherwise.
+fn first_stray(alloc: Global, cases: &Cases, cuts: &[Lin]) -> Result<Option<u16>, NoMemory>
+    requires cuts { cases.now.cuts ≡ cuts.now }
+    requires inner { All IsInner cuts.now }
+{
     for seed in 0..500 {
-        assert!(rt; agree_at(rt.alloc(), &cases, &cuts, seed)?, "at {seed}");
+        if !agree_at(alloc, cases, cuts, seed)? {
+            return Ok(Some(seed));
+        }
     }
-    Ok(())
+    Ok(None)
+}
+
+fn stray_of_some_cuts(alloc: Global) -> Result<Option<u16>, CaseFault> {
+    let cuts = some_cuts(alloc)?;
+    let cases = cases_of(alloc, range_of(2, Some(12)), &cuts)?;
+    Ok(first_stray(alloc, &cases, &cuts)?)
+}
+
+#[test]
+fn as_a_walk_answers(rt: HostRuntime) {
+    assert!(rt; stray_of_some_cuts(rt.alloc()) == Ok(None));
 }

@@ -56,34 +56,74 @@ fn least(vars: u8, low: i64, triples: &[(u8, u8, i64)]) -> Option<[i64; 6]>
     least_with(bounded(vars, low), vars, triples)
 }
 
+/// Whether these numbers are the least solution.
+fn is_least(vars: u8, low: i64, triples: &[(u8, u8, i64)], want: &[i64]) -> bool
+    requires some { 1 ≤ vars }
+    requires few { vars ≤ 6 }
+    requires near { IsWithin (2 ^ 40) low }
+    requires triples { length triples.now ≤ 11 }
+{
+    match least(vars, low, triples) {
+        Some(found) => found.as_slice() == want,
+        None => false,
+    }
+}
+
 #[test]
 fn solutions(rt: HostRuntime) {
     // one variable alone, which is 0
-    assert!(rt; least(1, 0, &[]) == Some([0; 6]));
+    assert!(rt; is_least(1, 0, &[], &[0, 0, 0, 0, 0, 0]));
     // one solution alone
     assert!(rt;
-        least(3, 0, &[(1, 0, 4), (0, 1, -4), (2, 1, -1), (1, 2, 1)]) == Some([0, 4, 3, 0, 0, 0])
+        is_least(
+            3,
+            0,
+            &[(1, 0, 4), (0, 1, -4), (2, 1, -1), (1, 2, 1)],
+            &[0, 4, 3, 0, 0, 0]
+        )
     );
-    // none, by one
-    assert!(rt; least(3, 0, &[(1, 0, 4), (0, 1, -4), (2, 1, -1), (1, 2, 0)]) == None);
     // the least of many, through all six variables
     assert!(rt;
-        least(6, -2, &[(1, 2, -1), (2, 3, -1), (3, 4, -1), (4, 5, -1)]) == Some([0, 2, 3, 4, 5, 6])
+        is_least(
+            6,
+            -2,
+            &[(1, 2, -1), (2, 3, -1), (3, 4, -1), (4, 5, -1)],
+            &[0, 2, 3, 4, 5, 6]
+        )
     );
-    // the same chain, with its last variable one below what it asks
+    // negative numbers at the ends of the bounds
+    assert!(rt;
+        is_least(
+            2,
+            1_099_511_627_776,
+            &[],
+            &[0, -1_099_511_627_776, 0, 0, 0, 0]
+        )
+    );
+    assert!(rt;
+        is_least(
+            3,
+            0,
+            &[(1, 2, -1_000_000_000_000)],
+            &[0, 0, 1_000_000_000_000, 0, 0, 0]
+        )
+    );
+    // of two constraints on a pair the stronger counts, whichever comes first
+    assert!(rt; is_least(2, 0, &[(0, 1, -3), (0, 1, -7)], &[0, 7, 0, 0, 0, 0]));
+    assert!(rt; is_least(2, 0, &[(0, 1, -7), (0, 1, -3)], &[0, 7, 0, 0, 0, 0]));
+}
+
+#[test]
+fn there_is_no_solution(rt: HostRuntime) {
+    // by one
+    assert!(rt; least(3, 0, &[(1, 0, 4), (0, 1, -4), (2, 1, -1), (1, 2, 0)]).is_none());
+    // the chain, with its last variable one below what it asks
     assert!(rt;
         least(
             6,
             -2,
             &[(1, 2, -1), (2, 3, -1), (3, 4, -1), (4, 5, -1), (5, 0, 5)]
-        ) == None
+        )
+        .is_none()
     );
-    // negative numbers at the ends of the bounds
-    assert!(rt; least(2, 1_099_511_627_776, &[]) == Some([0, -1_099_511_627_776, 0, 0, 0, 0]));
-    assert!(rt;
-        least(3, 0, &[(1, 2, -1_000_000_000_000)]) == Some([0, 0, 1_000_000_000_000, 0, 0, 0])
-    );
-    // of two constraints on a pair the stronger counts, whichever comes first
-    assert!(rt; least(2, 0, &[(0, 1, -3), (0, 1, -7)]) == Some([0, 7, 0, 0, 0, 0]));
-    assert!(rt; least(2, 0, &[(0, 1, -7), (0, 1, -3)]) == Some([0, 7, 0, 0, 0, 0]));
 }

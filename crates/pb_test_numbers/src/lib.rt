@@ -11,3 +11,5 @@ mod areas_tests;
 mod cases_tests;
 #[cfg(test)]
 mod diff_tests;
+#[cfg(test)]
+mod rows;

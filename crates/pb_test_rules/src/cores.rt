@@ -2,8 +2,8 @@ use pb_core_language::{
     Base, Core, CoreBlock, CoreEnd, CoreKernel, CoreKind, CoreLabel, CoreRole, CoreStmt,
     KernelKind, Lin, NRange, Name, Payload, Place,
 };
+use pb_text::NoMemory;
 use std::alloc::Global;
-use std::test::Fail;
 
 /// A number.
 pub fn fixed(off: i32) -> Lin {
@@ -29,14 +29,33 @@ pub fn turn(off: i32) -> Lin {
     }
 }
 
-/// A role from its low to its high end. Roles with different columns stand at different places.
-pub fn role(col: u32, low: Lin, high: Lin) -> Result<CoreRole, Fail> {
-    Ok(CoreRole {
-        name: Name::of(b"W").ok_or("a name")?,
-        place: Place { line: 1, col },
-        low,
-        high,
-    })
+/// A role from its low to its high end, which stands at a column of the first line.
+#[derive(Clone, Copy)]
+pub struct Role {
+    pub col: u32,
+    pub low: Lin,
+    pub high: Lin,
+}
+
+fn named(name: Name, role: Role) -> CoreRole {
+    CoreRole {
+        name,
+        place: Place {
+            line: 1,
+            col: role.col,
+        },
+        low: role.low,
+        high: role.high,
+    }
+}
+
+/// Rows for the roles, in their order.
+fn rows(alloc: Global, name: Name, roles: &[Role]) -> Result<Vec<CoreRole>, NoMemory> {
+    let mut rows = Vec::new(alloc);
+    for role in roles {
+        rows.push(named(name, *role))?;
+    }
+    Ok(rows)
 }
 
 fn end(role: u32, at: Lin, line: u32, col: u32) -> CoreEnd {
@@ -78,6 +97,16 @@ pub fn block(number: u32, list: Vec<CoreStmt>) -> CoreBlock {
     }
 }
 
+/// One statement.
+pub fn single(alloc: Global, one: CoreStmt) -> Result<Vec<CoreStmt>, NoMemory> {
+    Ok(vec![in alloc; one]?)
+}
+
+/// Two statements.
+pub fn pair(alloc: Global, one: CoreStmt, other: CoreStmt) -> Result<Vec<CoreStmt>, NoMemory> {
+    Ok(vec![in alloc; one, other]?)
+}
+
 /// The foreach with this number over one message.
 pub fn foreach(
     alloc: Global,
@@ -85,14 +114,17 @@ pub fn foreach(
     low: Lin,
     high: Lin,
     item: CoreStmt,
-) -> Result<CoreStmt, Fail> {
-    let items = block(1, vec![in alloc; item]?);
+) -> Result<CoreStmt, NoMemory> {
+    let items = block(1, single(alloc, item)?);
     Ok(stmt(number, CoreKind::Foreach { low, high, items }))
 }
 
-/// The protocol with these roles and statements, for N from 2 to 6.
-pub fn protocol(alloc: Global, roles: Vec<CoreRole>, list: Vec<CoreStmt>) -> Result<Core, Fail> {
-    let name = Name::of(b"P").ok_or("a name")?;
+fn named_protocol(
+    alloc: Global,
+    name: Name,
+    roles: &[Role],
+    list: Vec<CoreStmt>,
+) -> Result<Core, NoMemory> {
     let label = CoreLabel {
         name,
         payload: Payload::Unit,
@@ -107,11 +139,19 @@ pub fn protocol(alloc: Global, roles: Vec<CoreRole>, list: Vec<CoreStmt>) -> Res
             low: 2,
             high: Some(6),
         },
-        roles,
+        roles: rows(alloc, name, roles)?,
         labels: vec![in alloc; label]?,
         kernels: vec![in alloc; kernel]?,
         body: block(0, list),
         statements: 0,
         blocks: 0,
     })
+}
+
+/// The protocol with these roles and statements, for N from 2 to 6.
+pub fn protocol(alloc: Global, roles: &[Role], list: Vec<CoreStmt>) -> Result<Core, NoMemory> {
+    match Name::of(b"W") {
+        Some(name) => named_protocol(alloc, name, roles, list),
+        None => Err(NoMemory),
+    }
 }

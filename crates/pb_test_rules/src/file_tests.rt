@@ -1,180 +1,180 @@
-ghost use Rattle.std.specs.Prelude.{◌≡◌, IfOk};
+ghost use Rattle.std.specs.Prelude.{◌≤◌, length};
 ghost use Rattle.pb_syntax.specs.Plain.{plain_file};
 ghost use Rattle.pb_core_file_rules.specs.Lowering.{IsCountable};
-ghost use Rattle.pb_test_rules.specs.Sizes.{size_of};
 
-use crate::trees::{again, file, message, pair, rounds, single, spot};
 use pb_core::{LowerFault, lower};
 use pb_core_file_rules::{
     Around, add_labels_in, ending_in, first_astray_in, first_unbounded, first_wrong_of,
     label_table, names_met,
 };
-use pb_syntax::{FileTree, Payload, Statement};
-use pb_text::Place;
+use pb_parse::parse;
+use pb_syntax::FileTree;
+use pb_text::{MOST_TEXT_BYTES, NoMemory, Place};
 use std::alloc::Global;
-use std::test::Fail;
 
-const LOW: Place = Place { line: 1, col: 11 };
-
-const FIRST: Place = Place { line: 3, col: 3 };
-
-const INNER: Place = Place { line: 4, col: 5 };
-
-/// A rule from 1 to 5 and where it is broken first.
-#[derive(Clone, Copy, Debug, PartialEq, Eq)]
-struct Refusal {
-    rule: u8,
-    place: Place,
-}
-
-fn refused_at(alloc: Global, file: &FileTree) -> Option<Refusal>
-    requires { IsCountable (plain_file file.now) }
-{
-    match lower(alloc, file) {
-        Err(LowerFault::Broken { rule, place }) => Some(Refusal { rule, place }),
-        Err(LowerFault::NoMemory) | Ok(_) => None,
-    }
-}
-
-// The place at which rule 1 is broken first, of a file with at most 100 names.
-fn misnamed(alloc: Global, file: &FileTree) -> Result<Option<Place>, Fail> {
+/// The place at which rule 1 is broken first, of a file with at most 100 names.
+fn misnamed(alloc: Global, file: &FileTree) -> Result<Option<Place>, NoMemory> {
     let list = names_met(alloc, file)?;
     if list.len() > 100 {
         return Ok(None);
     }
-    Ok(first_wrong_of(alloc, &list)?)
+    first_wrong_of(alloc, &list)
 }
 
-// The fault of rule 2, of a file with at most 100 labels.
-fn mislabelled(alloc: Global, file: &FileTree) -> Result<Option<LowerFault>, Fail> {
+/// The place at which rule 2 is broken first, of a file with at most 100 labels.
+fn mislabelled(alloc: Global, file: &FileTree) -> Result<Option<Place>, NoMemory> {
     let mut list = Vec::new(alloc);
     add_labels_in(&file.body, &mut list)?;
     if list.len() > 100 {
         return Ok(None);
     }
-    Ok(label_table(alloc, &list).err())
+    match label_table(alloc, &list).err() {
+        Some(LowerFault::Broken { rule: 2, place }) => Ok(Some(place)),
+        Some(LowerFault::Broken { .. } | LowerFault::NoMemory) | None => Ok(None),
+    }
 }
 
-// T from W[0] to V[1], on a line.
-fn sent(payload: Payload, line: u32, receiver: &[u8]) -> Result<Statement, Fail>
-    ensures { IfOk result (λ s. size_of s ≡ 9) }
+/// The place at which the pass for a rule from 1 to 5 finds it broken.
+fn found_by_pass(alloc: Global, file: &FileTree, rule: u32) -> Result<Option<Place>, NoMemory>
+    requires { IsCountable (plain_file file.now) }
 {
-    let label = spot(b"T", line, 5)?;
-    let from = spot(b"W", line, 12)?;
-    let to = spot(receiver, line, 20)?;
-    Ok(message(label, payload, from, to))
+    match rule {
+        1 => misnamed(alloc, file),
+        2 => mislabelled(alloc, file),
+        3 => Ok(first_astray_in(&file.body, &Around::Nothing)),
+        4 => Ok(ending_in(&file.body).endless),
+        _ => Ok(first_unbounded(file)),
+    }
 }
 
-// rec X { T() from W[0] to W[1]; continue X; }
-fn round(alloc: Global) -> Result<FileTree, Fail>
-    ensures { IfOk result (λ f. IsCountable (plain_file f)) }
+/// Whether the file has no core, because this rule is broken first at this place.
+fn is_refused(alloc: Global, file: &FileTree, rule: u32, place: Place) -> bool
+    requires { IsCountable (plain_file file.now) }
 {
-    let one = sent(Payload::Unit, 4, b"W")?;
-    let back = again(Place { line: 5, col: 5 }, spot(b"X", 5, 14)?);
-    let body = pair(alloc, one, back)?;
-    let all = rounds(FIRST, spot(b"X", 3, 7)?, body);
-    let list = single(alloc, all)?;
-    file(alloc, 2, list)
+    match lower(alloc, file).err() {
+        Some(
+            LowerFault::Broken {
+                rule: first,
+                place: at,
+            },
+        ) => u32::from(first) == rule && at == place,
+        Some(LowerFault::NoMemory) | None => false,
+    }
 }
 
-#[test]
-fn a_round_keeps_the_rules(rt: HostRuntime) -> Result<(), Fail> {
-    let alloc = rt.alloc();
-    let file = round(alloc)?;
-    let core = lower(alloc, &file)?;
-    assert!(rt; core.statements == 3);
-    assert!(rt; core.roles.len() == 1);
-    assert!(rt; misnamed(alloc, &file)? == None);
-    Ok(())
+/// Whether a file is refused so, and the rule's own pass finds the place.
+fn breaks(alloc: Global, file: &FileTree, rule: u32, place: Place) -> Result<bool, NoMemory>
+    requires { IsCountable (plain_file file.now) }
+{
+    let found = found_by_pass(alloc, file, rule)?;
+    Ok(found == Some(place) && is_refused(alloc, file, rule, place))
 }
 
-#[test]
-fn a_receiver_is_no_role(rt: HostRuntime) -> Result<(), Fail> {
-    let alloc = rt.alloc();
-    let one = sent(Payload::Unit, 3, b"V")?;
-    let list = single(alloc, one)?;
-    let file = file(alloc, 2, list)?;
-    let place = Place { line: 3, col: 20 };
-    assert!(rt; refused_at(alloc, &file) == Some(Refusal { rule: 1, place }));
-    assert!(rt; misnamed(alloc, &file)? == Some(place));
-    Ok(())
+fn is_broken(alloc: Global, text: &[u8], rule: u32, place: Place) -> Result<bool, NoMemory>
+    requires { length text.now ≤ MOST_TEXT_BYTES }
+{
+    match parse(alloc, text) {
+        Ok(file) => breaks(alloc, &file, rule, place),
+        Err(_) => Ok(false),
+    }
 }
 
-#[test]
-fn a_label_has_two_payloads(rt: HostRuntime) -> Result<(), Fail> {
-    let alloc = rt.alloc();
-    let one = sent(Payload::Int32(1), 3, b"W")?;
-    let other = sent(Payload::Unit, 4, b"W")?;
-    let list = pair(alloc, one, other)?;
-    let file = file(alloc, 2, list)?;
-    assert!(rt;
-        refused_at(alloc, &file)
-            == Some(Refusal {
-                rule: 2,
-                place: INNER
-            })
-    );
-    let fault = LowerFault::Broken {
-        rule: 2,
-        place: INNER,
+/// Files, each behind the rule that it breaks, the line and the column where it does, and what is wrong.
+const BROKEN: &str = "1 3 20 a receiver is no role
+const N = 2..9;
+global protocol P(role W[0..N-1]) {
+  T() from W[0] to V[1];
+}
+--
+2 4 5 a label has two payloads
+const N = 2..9;
+global protocol P(role W[0..N-1]) {
+    T(int32) from W[0] to W[1];
+    T() from W[0] to W[1];
+}
+--
+3 4 5 a continue is not the last
+const N = 2..9;
+global protocol P(role W[0..N-1]) {
+  rec X {
+    continue X;
+    T() from W[0] to W[1];
+  }
+}
+--
+4 3 3 a loop that cannot end is followed
+const N = 2..9;
+global protocol P(role W[0..N-1]) {
+  rec X {
+    continue X;
+  }
+  T() from W[0] to W[1];
+}
+--
+5 1 11 the constant begins at zero
+const N = 0..9;
+global protocol P(role W[0..N-1]) {
+  T() from W[0] to W[1];
+}";
+
+/// The number at a place of a line.
+fn number(line: &str, place: usize) -> u32 {
+    match line.split(' ').nth(place) {
+        Some(word) => word.parse().unwrap_or(0),
+        None => 0,
+    }
+}
+
+fn is_row_broken(alloc: Global, block: &str) -> Result<bool, NoMemory> {
+    let (row, file) = block.split_once('\n').unwrap_or((block, ""));
+    let bytes = file.as_bytes();
+    if bytes.len() > MOST_TEXT_BYTES as usize {
+        return Ok(false);
+    }
+    let place = Place {
+        line: number(row, 1),
+        col: number(row, 2),
     };
-    assert!(rt; mislabelled(alloc, &file)? == Some(fault));
-    Ok(())
+    is_broken(alloc, bytes, number(row, 0), place)
 }
 
 #[test]
-fn a_continue_is_not_the_last(rt: HostRuntime) -> Result<(), Fail> {
-    let alloc = rt.alloc();
-    let back = again(INNER, spot(b"X", 4, 14)?);
-    let one = sent(Payload::Unit, 5, b"W")?;
-    let body = pair(alloc, back, one)?;
-    let all = rounds(FIRST, spot(b"X", 3, 7)?, body);
-    let list = single(alloc, all)?;
-    let file = file(alloc, 2, list)?;
-    assert!(rt;
-        refused_at(alloc, &file)
-            == Some(Refusal {
-                rule: 3,
-                place: INNER
-            })
-    );
-    assert!(rt; first_astray_in(&file.body, &Around::Nothing) == Some(INNER));
-    Ok(())
+fn each_rule_is_broken_at_a_place(rt: HostRuntime) {
+    for block in BROKEN.split("\n--\n") {
+        assert!(rt; is_row_broken(rt.alloc(), block) == Ok(true), "{block}");
+    }
+}
+
+const ROUND: &[u8] = b"const N = 2..9;
+global protocol P(role W[0..N-1]) {
+  rec X {
+    T() from W[0] to W[1];
+    continue X;
+  }
+}
+";
+
+/// Whether a file means a core of three statements and one role, and no name is wrong.
+fn is_round(alloc: Global, file: &FileTree) -> Result<bool, NoMemory>
+    requires { IsCountable (plain_file file.now) }
+{
+    let misnamed = misnamed(alloc, file)?;
+    match lower(alloc, file) {
+        Ok(core) => Ok(misnamed == None && core.statements == 3 && core.roles.len() == 1),
+        Err(_) => Ok(false),
+    }
+}
+
+fn is_read_as_round(alloc: Global, text: &[u8]) -> Result<bool, NoMemory>
+    requires { length text.now ≤ MOST_TEXT_BYTES }
+{
+    match parse(alloc, text) {
+        Ok(file) => is_round(alloc, &file),
+        Err(_) => Ok(false),
+    }
 }
 
 #[test]
-fn a_loop_that_cannot_end_is_followed(rt: HostRuntime) -> Result<(), Fail> {
-    let alloc = rt.alloc();
-    let back = again(INNER, spot(b"X", 4, 14)?);
-    let body = single(alloc, back)?;
-    let all = rounds(FIRST, spot(b"X", 3, 7)?, body);
-    let one = sent(Payload::Unit, 6, b"W")?;
-    let list = pair(alloc, all, one)?;
-    let file = file(alloc, 2, list)?;
-    assert!(rt;
-        refused_at(alloc, &file)
-            == Some(Refusal {
-                rule: 4,
-                place: FIRST
-            })
-    );
-    assert!(rt; ending_in(&file.body).endless == Some(FIRST));
-    Ok(())
-}
-
-#[test]
-fn the_constant_begins_at_zero(rt: HostRuntime) -> Result<(), Fail> {
-    let alloc = rt.alloc();
-    let one = sent(Payload::Unit, 3, b"W")?;
-    let list = single(alloc, one)?;
-    let file = file(alloc, 0, list)?;
-    assert!(rt;
-        refused_at(alloc, &file)
-            == Some(Refusal {
-                rule: 5,
-                place: LOW
-            })
-    );
-    assert!(rt; first_unbounded(&file) == Some(LOW));
-    Ok(())
+fn a_round_keeps_the_rules(rt: HostRuntime) {
+    assert!(rt; is_read_as_round(rt.alloc(), ROUND) == Ok(true));
 }

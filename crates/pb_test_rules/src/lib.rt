@@ -10,5 +10,3 @@ mod file_tests;
 mod index_tests;
 #[cfg(test)]
 mod slow;
-#[cfg(test)]
-mod trees;

@@ -10,45 +10,53 @@ use pb_rules::{At, RuleFault, check_index};
 use pb_text::NoMemory;
 use std::alloc::Global;
 
-/// What comes first among breaches: the rule, then the number of the place, then N, then the role and the index.
-#[derive(Clone, Copy, PartialEq, Eq, PartialOrd, Ord)]
-struct Order {
-    rule: u8,
-    number: u64,
-    n: i64,
-    role: u64,
-    index: i64,
-}
-
 /// A breach at one N.
 #[derive(Clone, Copy)]
 struct Found {
-    order: Order,
+    rule: u8,
+    number: u64,
     place: Place,
+    n: i64,
     at: Option<Seat>,
 }
 
 fn found_at(one: &Breach, n: i64) -> Found {
-    let (role, index) = match one.at {
-        None => (0, 0),
-        Some(seat) => (seat.role, seat.index),
-    };
     Found {
-        order: Order {
-            rule: one.rule,
-            number: one.mark.number,
-            n,
-            role,
-            index,
-        },
+        rule: one.rule,
+        number: one.mark.number,
         place: one.mark.place,
+        n,
         at: one.at,
     }
 }
 
+/// Whether the first seat comes before the other, or there is none.
+fn is_first_seat(one: Option<Seat>, other: Option<Seat>) -> bool {
+    match (one, other) {
+        (None, _) => true,
+        (Some(one), Some(other)) if one.role != other.role => one.role < other.role,
+        (Some(one), Some(other)) => one.index <= other.index,
+        (Some(_), None) => false,
+    }
+}
+
+/// Whether the first comes before the other, or is like it: by the rule, then the number of the place, then N, then the seat.
+fn is_first(one: &Found, other: &Found) -> bool {
+    if one.rule != other.rule {
+        return one.rule < other.rule;
+    }
+    if one.number != other.number {
+        return one.number < other.number;
+    }
+    if one.n != other.n {
+        return one.n < other.n;
+    }
+    is_first_seat(one.at, other.at)
+}
+
 fn earlier(best: Option<Found>, one: Found) -> Option<Found> {
     match best {
-        Some(best) if best.order <= one.order => Some(best),
+        Some(best) if is_first(&best, &one) => Some(best),
         _ => Some(one),
     }
 }
@@ -95,10 +103,7 @@ fn is_same(found: Option<Found>, rule: u8, place: Place, n: i64, at: Option<At>)
     match found {
         None => false,
         Some(found) => {
-            found.order.rule == rule
-                && found.place == place
-                && found.order.n == n
-                && is_same_seat(at, found.at)
+            found.rule == rule && found.place == place && found.n == n && is_same_seat(at, found.at)
         }
     }
 }
