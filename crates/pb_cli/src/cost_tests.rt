@@ -1,7 +1,7 @@
 //! `cost`.
 
 use crate::tests::session::play;
-use std::test::Fail;
+use pb_text::NoMemory;
 
 /// A `foreach` that is empty up to N = 5; two branches, one with words and a message more; and a range of one number, whose pieces
 /// have the slope 0.
@@ -48,7 +48,7 @@ most words 3 to 3: 0 * N + 10
 ";
 
 #[test]
-fn tells_costs(rt: HostRuntime) -> Result<(), Fail> {
+fn tells_costs(rt: HostRuntime) -> Result<(), NoMemory> {
     play(&rt, rt.alloc(), COSTS)
 }
 
@@ -73,6 +73,6 @@ pabble: rule 4 at 3:3
 ";
 
 #[test]
-fn refuses_loops_and_broken_rules(rt: HostRuntime) -> Result<(), Fail> {
+fn refuses_loops_and_broken_rules(rt: HostRuntime) -> Result<(), NoMemory> {
     play(&rt, rt.alloc(), NO_COSTS)
 }

@@ -1,7 +1,7 @@
 //! `demo`.
 
 use crate::tests::session::{Faults, NONE, play, play_with};
-use std::test::Fail;
+use pb_text::NoMemory;
 
 const FOUR: &str = "$ demo 4; demo 04; demo -- 4
 status 0
@@ -15,12 +15,12 @@ words 44
 ";
 
 #[test]
-fn counts_four_statements(rt: HostRuntime) -> Result<(), Fail> {
+fn counts_four_statements(rt: HostRuntime) -> Result<(), NoMemory> {
     play(&rt, rt.alloc(), FOUR)
 }
 
 #[test]
-fn writes_its_first_bytes_where_the_sink_fails(rt: HostRuntime) -> Result<(), Fail> {
+fn writes_its_first_bytes_where_the_sink_fails(rt: HostRuntime) -> Result<(), NoMemory> {
     let full = Faults { room: 12, ..NONE };
     play_with(&rt, rt.alloc(), full, "$ demo 4\nstatus 4\ndemo 4\nsends")
 }

@@ -1,7 +1,7 @@
 //! `expand`.
 
 use crate::tests::session::play;
-use std::test::Fail;
+use pb_text::NoMemory;
 
 /// A file with calls, and what it stands for, which stands for itself.
 const EXPANDED: &str = "$ cat > p
@@ -27,7 +27,7 @@ global protocol P(role M, role W[0..N-1]) {
 ";
 
 #[test]
-fn expands_calls(rt: HostRuntime) -> Result<(), Fail> {
+fn expands_calls(rt: HostRuntime) -> Result<(), NoMemory> {
     play(&rt, rt.alloc(), EXPANDED)
 }
 
@@ -58,6 +58,6 @@ pabble: call cycle at 4:6
 ";
 
 #[test]
-fn refuses_calls(rt: HostRuntime) -> Result<(), Fail> {
+fn refuses_calls(rt: HostRuntime) -> Result<(), NoMemory> {
     play(&rt, rt.alloc(), WRONG)
 }

@@ -1,7 +1,7 @@
 //! `judge`.
 
 use crate::tests::session::play;
-use std::test::Fail;
+use pb_text::NoMemory;
 
 /// Logs of one message from the first rank to the last, and of one from each rank to the next.
 const RULINGS: &str = "$ cat > p
@@ -87,7 +87,7 @@ whole
 ";
 
 #[test]
-fn rules_on_logs(rt: HostRuntime) -> Result<(), Fail> {
+fn rules_on_logs(rt: HostRuntime) -> Result<(), NoMemory> {
     play(&rt, rt.alloc(), RULINGS)
 }
 
@@ -113,7 +113,7 @@ covered
 ";
 
 #[test]
-fn the_log_of_a_run_is_whole_or_covered(rt: HostRuntime) -> Result<(), Fail> {
+fn the_log_of_a_run_is_whole_or_covered(rt: HostRuntime) -> Result<(), NoMemory> {
     play(&rt, rt.alloc(), RUNS)
 }
 
@@ -139,6 +139,6 @@ pabble: read fault
 ";
 
 #[test]
-fn the_protocol_comes_first(rt: HostRuntime) -> Result<(), Fail> {
+fn the_protocol_comes_first(rt: HostRuntime) -> Result<(), NoMemory> {
     play(&rt, rt.alloc(), ORDER)
 }

@@ -1,7 +1,7 @@
 //! `gen` with a kernel file.
 
 use crate::tests::session::play;
-use std::test::Fail;
+use pb_text::NoMemory;
 
 /// The text is itself a kernel file, with the same bodies.
 const BODY: &str = "$ cat > p
@@ -65,7 +65,7 @@ int main(int argc, char **argv)
 ";
 
 #[test]
-fn a_body_stands_in_the_text(rt: HostRuntime) -> Result<(), Fail> {
+fn a_body_stands_in_the_text(rt: HostRuntime) -> Result<(), NoMemory> {
     play(&rt, rt.alloc(), BODY)
 }
 
@@ -94,7 +94,7 @@ int x;
 ";
 
 #[test]
-fn a_prelude_is_kept(rt: HostRuntime) -> Result<(), Fail> {
+fn a_prelude_is_kept(rt: HostRuntime) -> Result<(), NoMemory> {
     play(&rt, rt.alloc(), PRELUDE)
 }
 
@@ -155,7 +155,7 @@ pabble: kernel c_C extra
 ";
 
 #[test]
-fn kernel_files_that_do_not_fit(rt: HostRuntime) -> Result<(), Fail> {
+fn kernel_files_that_do_not_fit(rt: HostRuntime) -> Result<(), NoMemory> {
     play(&rt, rt.alloc(), MISFITS)
 }
 
@@ -182,6 +182,6 @@ pabble: read fault
 ";
 
 #[test]
-fn the_protocol_comes_first(rt: HostRuntime) -> Result<(), Fail> {
+fn the_protocol_comes_first(rt: HostRuntime) -> Result<(), NoMemory> {
     play(&rt, rt.alloc(), ORDER)
 }

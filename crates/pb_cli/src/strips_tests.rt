@@ -1,7 +1,7 @@
 //! `strips`.
 
 use crate::tests::session::play;
-use std::test::Fail;
+use pb_text::NoMemory;
 
 /// A file with a strip, and what it stands for, which stands for itself.
 const FLAT: &str = "$ cat > p
@@ -22,7 +22,7 @@ global protocol P(role G_0[0..N-1], role G_1[0..N-1], role G_2[0..N-1]) {
 ";
 
 #[test]
-fn flattens_strips(rt: HostRuntime) -> Result<(), Fail> {
+fn flattens_strips(rt: HostRuntime) -> Result<(), NoMemory> {
     play(&rt, rt.alloc(), FLAT)
 }
 
@@ -48,6 +48,6 @@ pabble: strip clash at 3:3
 ";
 
 #[test]
-fn refuses_strips(rt: HostRuntime) -> Result<(), Fail> {
+fn refuses_strips(rt: HostRuntime) -> Result<(), NoMemory> {
     play(&rt, rt.alloc(), WRONG)
 }

@@ -5,7 +5,7 @@ mod rules;
 pub mod session;
 
 use crate::tests::session::{Faults, NONE, play, play_with};
-use std::test::Fail;
+use pb_text::NoMemory;
 
 /// Two labels, an upper end, every form of an end, and comments, of which the last ends with the file.
 const ENDS: &str = "$ cat > p
@@ -41,7 +41,7 @@ static int32_t r__r(int32_t N, int32_t x)
 ";
 
 #[test]
-fn gen_writes_each_form_of_an_end(rt: HostRuntime) -> Result<(), Fail> {
+fn gen_writes_each_form_of_an_end(rt: HostRuntime) -> Result<(), NoMemory> {
     play(&rt, rt.alloc(), ENDS)
 }
 
@@ -63,7 +63,7 @@ status 0
 ";
 
 #[test]
-fn gen_of_one_value_of_n(rt: HostRuntime) -> Result<(), Fail> {
+fn gen_of_one_value_of_n(rt: HostRuntime) -> Result<(), NoMemory> {
     play(&rt, rt.alloc(), ONE)
 }
 
@@ -116,7 +116,7 @@ done
 ";
 
 #[test]
-fn each_command_on_accepted_forms(rt: HostRuntime) -> Result<(), Fail> {
+fn each_command_on_accepted_forms(rt: HostRuntime) -> Result<(), NoMemory> {
     play(&rt, rt.alloc(), ACCEPTED)
 }
 
@@ -209,7 +209,7 @@ done
 ";
 
 #[test]
-fn project_writes_the_layout(rt: HostRuntime) -> Result<(), Fail> {
+fn project_writes_the_layout(rt: HostRuntime) -> Result<(), NoMemory> {
     play(&rt, rt.alloc(), LAYOUTS)
 }
 
@@ -237,7 +237,7 @@ pabble: usage
 ";
 
 #[test]
-fn words_in_no_form(rt: HostRuntime) -> Result<(), Fail> {
+fn words_in_no_form(rt: HostRuntime) -> Result<(), NoMemory> {
     let in_pieces = Faults { most: 1, ..NONE };
     play_with(&rt, rt.alloc(), in_pieces, NO_FORMS)
 }
@@ -256,7 +256,7 @@ pabble: read fault
 ";
 
 #[test]
-fn words_behind_two_dashes_are_files(rt: HostRuntime) -> Result<(), Fail> {
+fn words_behind_two_dashes_are_files(rt: HostRuntime) -> Result<(), NoMemory> {
     play(&rt, rt.alloc(), DASHES)
 }
 
@@ -280,7 +280,7 @@ pabble: text at 1:1
 ";
 
 #[test]
-fn simulating_the_text_of_a_file(rt: HostRuntime) -> Result<(), Fail> {
+fn simulating_the_text_of_a_file(rt: HostRuntime) -> Result<(), NoMemory> {
     play(&rt, rt.alloc(), SIMULATED)
 }
 
@@ -303,7 +303,7 @@ ended
 ";
 
 #[test]
-fn run_goes_round_in_each_mode(rt: HostRuntime) -> Result<(), Fail> {
+fn run_goes_round_in_each_mode(rt: HostRuntime) -> Result<(), NoMemory> {
     play(&rt, rt.alloc(), ROUND)
 }
 
@@ -339,7 +339,7 @@ pabble: syntax at 1:1
 ";
 
 #[test]
-fn run_of_what_cannot_be_run(rt: HostRuntime) -> Result<(), Fail> {
+fn run_of_what_cannot_be_run(rt: HostRuntime) -> Result<(), NoMemory> {
     play(&rt, rt.alloc(), NOT_RUN)
 }
 
@@ -357,6 +357,6 @@ pabble: turns 100
 ";
 
 #[test]
-fn run_of_a_loop_ends_after_the_events_asked_for(rt: HostRuntime) -> Result<(), Fail> {
+fn run_of_a_loop_ends_after_the_events_asked_for(rt: HostRuntime) -> Result<(), NoMemory> {
     play(&rt, rt.alloc(), ENDLESS)
 }

@@ -3,9 +3,9 @@ use pb_core_language::{
     NRange, Name, Payload,
 };
 use pb_core_sound::is_sound;
-use pb_plain_rules::{Breach, Core, Mark, Place, Seat, breaches};
+use pb_plain_rules::{Breach, Core, Mark, NoMemory, Place, Seat, breaches};
 use std::alloc::Global;
-use std::test::Fail;
+use std::process::Abort;
 
 const NAMED: Place = Place { line: 2, col: 24 };
 
@@ -74,7 +74,7 @@ fn messages(
     inside: u32,
     bounds: (Lin, Lin),
     sent: CoreStmt,
-) -> Result<CoreStmt, Fail> {
+) -> Result<CoreStmt, NoMemory> {
     let what = CoreKind::Foreach {
         low: bounds.0,
         high: bounds.1,
@@ -84,8 +84,8 @@ fn messages(
 }
 
 /// A protocol over `W[low..high]` with two labels, a kernel and these statements.
-fn protocol(alloc: Global, low: Lin, high: Lin, list: Vec<CoreStmt>) -> Result<Core, Fail> {
-    let name = Name::of(b"W").ok_or("a name")?;
+fn protocol(alloc: Global, low: Lin, high: Lin, list: Vec<CoreStmt>) -> Result<Core, NoMemory> {
+    let name = Name::of(b"W").ok_or(NoMemory)?;
     let role = CoreRole {
         name,
         place: NAMED,
@@ -124,8 +124,35 @@ fn seat(index: i64) -> Option<Seat> {
     Some(Seat { role: 0, index })
 }
 
+/// Asserts that these breaches are found at N = n.
+fn check(
+    rt: &impl Abort,
+    alloc: Global,
+    core: Result<Core, NoMemory>,
+    n: u8,
+    wanted: &[Breach],
+) -> Result<(), NoMemory> {
+    match core {
+        Ok(core) => check_core(rt, alloc, &core, n, wanted),
+        Err(error) => Err(error),
+    }
+}
+
+fn check_core(
+    rt: &impl Abort,
+    alloc: Global,
+    core: &Core,
+    n: u8,
+    wanted: &[Breach],
+) -> Result<(), NoMemory> {
+    assert!(rt; is_sound(core));
+    let found = breaches(alloc, core, i64::from(n))?;
+    assert!(rt; found.as_slice() == wanted, "{found:?}");
+    Ok(())
+}
+
 // W[i] to W[i+1] for i from 0 to N-2, and W[N-1] to W[0].
-fn ring(alloc: Global, high: Lin) -> Result<Core, Fail> {
+fn ring(alloc: Global, high: Lin) -> Result<Core, NoMemory> {
     let sent = message(1, 0, turn(0), turn(1));
     let round = messages(alloc, 0, 1, (fixed(0), high), sent)?;
     let back = message(2, 0, last(-1), fixed(0));
@@ -133,37 +160,28 @@ fn ring(alloc: Global, high: Lin) -> Result<Core, Fail> {
 }
 
 #[test]
-fn ring_keeps_all(rt: HostRuntime) -> Result<(), Fail> {
+fn ring_keeps_all(rt: HostRuntime) -> Result<(), NoMemory> {
     let alloc = rt.alloc();
-    let core = ring(alloc, last(-2))?;
-    assert!(rt; is_sound(&core));
-    assert!(rt; breaches(alloc, &core, 2)?.is_empty());
-    assert!(rt; breaches(alloc, &core, 5)?.is_empty());
-    Ok(())
+    check(&rt, alloc, ring(alloc, last(-2)), 2, &[])?;
+    check(&rt, alloc, ring(alloc, last(-2)), 5, &[])
 }
 
 #[test]
-fn ring_of_one(rt: HostRuntime) -> Result<(), Fail> {
+fn ring_of_one(rt: HostRuntime) -> Result<(), NoMemory> {
     let alloc = rt.alloc();
-    let core = ring(alloc, last(-2))?;
-    assert!(rt; is_sound(&core));
-    let found = breaches(alloc, &core, 1)?;
-    assert!(rt; found.as_slice() == [breach(8, 2, LABEL, seat(0))].as_slice());
-    Ok(())
+    let found = [breach(8, 2, LABEL, seat(0))];
+    check(&rt, alloc, ring(alloc, last(-2)), 1, &found)
 }
 
 #[test]
-fn ring_that_goes_too_far(rt: HostRuntime) -> Result<(), Fail> {
+fn ring_that_goes_too_far(rt: HostRuntime) -> Result<(), NoMemory> {
     let alloc = rt.alloc();
-    let core = ring(alloc, last(-1))?;
-    assert!(rt; is_sound(&core));
-    let found = breaches(alloc, &core, 2)?;
-    assert!(rt; found.as_slice() == [breach(7, 3, RECEIVER, seat(2))].as_slice());
-    Ok(())
+    let found = [breach(7, 3, RECEIVER, seat(2))];
+    check(&rt, alloc, ring(alloc, last(-1)), 2, &found)
 }
 
 // W[0] tells W[1..N-1] of the first branch by label 0, and these of the second by another label.
-fn choice(alloc: Global, high: Lin, label: u32) -> Result<Core, Fail> {
+fn choice(alloc: Global, high: Lin, label: u32) -> Result<Core, NoMemory> {
     let one = message(2, 0, fixed(0), turn(0));
     let first = messages(alloc, 1, 2, (fixed(1), last(-1)), one)?;
     let other = message(4, label, fixed(0), turn(0));
@@ -181,31 +199,24 @@ fn choice(alloc: Global, high: Lin, label: u32) -> Result<Core, Fail> {
 }
 
 #[test]
-fn last_rank_is_not_told(rt: HostRuntime) -> Result<(), Fail> {
+fn last_rank_is_not_told(rt: HostRuntime) -> Result<(), NoMemory> {
     let alloc = rt.alloc();
-    let core = choice(alloc, fixed(3), 1)?;
-    assert!(rt; is_sound(&core));
-    assert!(rt; breaches(alloc, &core, 4)?.is_empty());
-    let found = breaches(alloc, &core, 5)?;
-    assert!(rt; found.as_slice() == [breach(10, 3, LATER, seat(4))].as_slice());
-    Ok(())
+    check(&rt, alloc, choice(alloc, fixed(3), 1), 4, &[])?;
+    let found = [breach(10, 3, LATER, seat(4))];
+    check(&rt, alloc, choice(alloc, fixed(3), 1), 5, &found)
 }
 
 #[test]
-fn both_branches_have_one_label(rt: HostRuntime) -> Result<(), Fail> {
+fn both_branches_have_one_label(rt: HostRuntime) -> Result<(), NoMemory> {
     let alloc = rt.alloc();
-    let core = choice(alloc, last(-1), 0)?;
-    assert!(rt; is_sound(&core));
-    let found = breaches(alloc, &core, 2)?;
-    assert!(rt; found.as_slice() == [breach(12, 3, LATER, seat(1))].as_slice());
-    let found = breaches(alloc, &core, 3)?;
+    let found = [breach(12, 3, LATER, seat(1))];
+    check(&rt, alloc, choice(alloc, last(-1), 0), 2, &found)?;
     let both = [breach(12, 3, LATER, seat(1)), breach(12, 3, LATER, seat(2))];
-    assert!(rt; found.as_slice() == both.as_slice());
-    Ok(())
+    check(&rt, alloc, choice(alloc, last(-1), 0), 3, &both)
 }
 
 // A loop of messages from W[i] to W[i+1] for i from 1 to N-3.
-fn rounds(alloc: Global) -> Result<Core, Fail> {
+fn rounds(alloc: Global) -> Result<Core, NoMemory> {
     let sent = message(2, 0, turn(0), turn(1));
     let round = messages(alloc, 1, 2, (fixed(1), last(-3)), sent)?;
     let again = stmt(3, CoreKind::Again { id: 0 });
@@ -217,28 +228,24 @@ fn rounds(alloc: Global) -> Result<Core, Fail> {
 }
 
 #[test]
-fn nobody_goes_round(rt: HostRuntime) -> Result<(), Fail> {
-    let alloc = rt.alloc();
-    let core = rounds(alloc)?;
-    assert!(rt; is_sound(&core));
-    let found = breaches(alloc, &core, 3)?;
-    assert!(rt; found.as_slice() == [breach(9, 0, LABEL, None)].as_slice());
-    assert!(rt; breaches(alloc, &core, 4)?.is_empty());
-    Ok(())
+fn nobody_goes_round(rt: HostRuntime) -> Result<(), NoMemory> {
+    let found = [breach(9, 0, LABEL, None)];
+    check(&rt, rt.alloc(), rounds(rt.alloc()), 3, &found)?;
+    check(&rt, rt.alloc(), rounds(rt.alloc()), 4, &[])
+}
+
+/// A message of roles from 3 on, of which there is none at N = 2.
+fn none_there(alloc: Global) -> Result<Core, NoMemory> {
+    let sent = message(0, 0, fixed(0), last(-1));
+    protocol(alloc, fixed(3), last(0), vec![in alloc; sent]?)
 }
 
 #[test]
-fn role_has_no_index(rt: HostRuntime) -> Result<(), Fail> {
-    let alloc = rt.alloc();
-    let sent = message(0, 0, fixed(0), last(-1));
-    let core = protocol(alloc, fixed(3), last(0), vec![in alloc; sent]?)?;
-    assert!(rt; is_sound(&core));
-    let found = breaches(alloc, &core, 2)?;
+fn role_has_no_index(rt: HostRuntime) -> Result<(), NoMemory> {
     let all = [
         breach(6, 0, NAMED, None),
         breach(7, 0, SENDER, seat(0)),
         breach(7, 1, RECEIVER, seat(1)),
     ];
-    assert!(rt; found.as_slice() == all.as_slice());
-    Ok(())
+    check(&rt, rt.alloc(), none_there(rt.alloc()), 2, &all)
 }

@@ -3,13 +3,14 @@
 ghost use Rattle.std.specs.Prelude.{◌≡◌};
 
 use crate::call::pabble;
-use crate::tests::session::{Faults, NONE, file, play, play_with, word_of, words_of};
+use crate::tests::session::{
+    Faults, NONE, answer_with, file, is_like, play_with, word_of, words_of,
+};
 use pb_cli_status::Status;
 use pb_io::{SureFolder, SureSink};
 use pb_text::NoMemory;
-use std::alloc::{AllocError, Global};
+use std::alloc::Global;
 use std::process::Abort;
-use std::test::Fail;
 
 /// One message from the first rank to the last.
 const FIRST: &str = "const N = 2..max;
@@ -19,7 +20,7 @@ global protocol P(role W[0..N-1]) {
 ";
 
 /// Plays these calls where `p` is the first protocol.
-fn play_first(rt: &impl Abort, alloc: Global, faults: Faults, calls: &str) -> Result<(), Fail> {
+fn play_first(rt: &impl Abort, alloc: Global, faults: Faults, calls: &str) -> Result<(), NoMemory> {
     let session = format!(in alloc; "$ cat > p\n{FIRST}{calls}")?;
     play_with(rt, alloc, faults, &session)
 }
@@ -73,14 +74,14 @@ int main(int argc, char **argv)
 ";
 
 #[test]
-fn gen_writes_the_text(rt: HostRuntime) -> Result<(), Fail> {
+fn gen_writes_the_text(rt: HostRuntime) -> Result<(), NoMemory> {
     play_first(&rt, rt.alloc(), NONE, GENERATED)
 }
 
 const UNREAD: &str = "$ gen p; check p\nstatus 3\npabble: read fault\n";
 
 #[test]
-fn each_failing_read_is_a_read_fault(rt: HostRuntime) -> Result<(), Fail> {
+fn each_failing_read_is_a_read_fault(rt: HostRuntime) -> Result<(), NoMemory> {
     for read in 0..3 {
         play_first(&rt, rt.alloc(), Faults { read, ..NONE }, UNREAD)?;
     }
@@ -101,7 +102,7 @@ status 4
 #include ";
 
 #[test]
-fn a_failing_write_leaves_a_front(rt: HostRuntime) -> Result<(), Fail> {
+fn a_failing_write_leaves_a_front(rt: HostRuntime) -> Result<(), NoMemory> {
     let alloc = rt.alloc();
     play_first(&rt, alloc, Faults { piece: 0, ..NONE }, UNWRITTEN)?;
     play_first(&rt, alloc, Faults { room: 10, ..NONE }, TEN_BYTES)?;
@@ -115,7 +116,7 @@ fn a_failing_write_leaves_a_front(rt: HostRuntime) -> Result<(), Fail> {
 }
 
 #[test]
-fn check_writes_into_the_room_that_there_is(rt: HostRuntime) -> Result<(), Fail> {
+fn check_writes_into_the_room_that_there_is(rt: HostRuntime) -> Result<(), NoMemory> {
     let all = "$ check p\nstatus 0\naccepted\n";
     play_first(&rt, rt.alloc(), Faults { room: 64, ..NONE }, all)?;
     let most = "$ check p\nstatus 4\naccepted";
@@ -145,7 +146,7 @@ fn is_sure(
 }
 
 #[test]
-fn sure_ones_have_no_fault(rt: HostRuntime) -> Result<(), Fail> {
+fn sure_ones_have_no_fault(rt: HostRuntime) -> Result<(), NoMemory> {
     let p = file(rt.alloc(), "p", FIRST.as_bytes())?;
     let mut folder = SureFolder::new(vec![in rt.alloc(); p]?);
     for (line, code, count) in [
@@ -161,71 +162,68 @@ fn sure_ones_have_no_fault(rt: HostRuntime) -> Result<(), Fail> {
     Ok(())
 }
 
-/// A session in which a file has so many bytes: blanks stand behind its text.
-fn padded(
+/// The text with blanks behind it, so that it has so many bytes.
+fn padded(alloc: Global, text: &str, count: usize) -> Result<Vec<u8>, NoMemory> {
+    let mut bytes = Vec::from_slice(alloc, text.as_bytes())?;
+    bytes.resize(count, b' ')?;
+    Ok(bytes)
+}
+
+/// What a call answers where `p` and `k` have these bytes.
+fn answer_on(alloc: Global, line: &str, p: &[u8], k: &[u8]) -> Result<String, NoMemory> {
+    let p = file(alloc, "p", p)?;
+    let k = file(alloc, "k", k)?;
+    let files = vec![in alloc; p, k]?;
+    answer_with(alloc, NONE, &files, line)
+}
+
+const DONE: &str = "status 0\n/* pabble 1 */\n...\n  return 0;\n}\n";
+
+const LIMIT: &str = "status 5\npabble: limit file bytes\n";
+
+/// Asserts what is answered where the protocol has so many bytes.
+fn hold_long_file(
+    rt: &impl Abort,
     alloc: Global,
-    front: &str,
-    text: &str,
     count: usize,
-    rest: &str,
-) -> Result<String, AllocError> {
-    let blanks = " ".repeat(alloc, count.saturating_sub(text.len()))?;
-    format!(in alloc; "{front}{text}{blanks}{rest}")
+    wanted: &str,
+) -> Result<(), NoMemory> {
+    let p = padded(alloc, FIRST, count)?;
+    let answer = answer_on(alloc, "gen p", &p, b"")?;
+    assert!(rt; is_like(&answer, wanted), "{answer}");
+    Ok(())
 }
-
-const GEN_DONE: &str = "$ gen p
-status 0
-/* pabble 1 */
-...
-  return 0;
-}
-";
-
-const GEN_LIMIT: &str = "$ gen p
-status 5
-pabble: limit file bytes
-";
 
 #[test]
-fn a_file_may_have_1048576_bytes(rt: HostRuntime) -> Result<(), Fail> {
-    let alloc = rt.alloc();
-    let most = padded(alloc, "$ cat > p\n", FIRST, 1_048_576, GEN_DONE)?;
-    play(&rt, alloc, &most)?;
-    let more = padded(alloc, "$ cat > p\n", FIRST, 1_048_577, GEN_LIMIT)?;
-    play(&rt, alloc, &more)
+fn a_file_may_have_1048576_bytes(rt: HostRuntime) -> Result<(), NoMemory> {
+    hold_long_file(&rt, rt.alloc(), 1_048_576, DONE)?;
+    hold_long_file(&rt, rt.alloc(), 1_048_577, LIMIT)
 }
 
-const WITH_A_KERNEL: &str = "$ cat > p
-const N = 2..max;
+/// A compute kernel, and nothing else.
+const COMPUTES: &str = "const N = 2..max;
 global protocol P(role W[0..N-1]) {
   compute K at W[0];
 }
-$ cat > k
 ";
 
-const KERNEL: &str = "/*@ kernel k_K */
-  if (N > 2) { puts(\"}\"); }
-/*@ end */
-";
+const KERNEL: &str = "/*@ kernel k_K */\n  if (N > 2) { puts(\"}\"); }\n/*@ end */\n";
 
-const MERGE_DONE: &str = "$ gen p k
-status 0
-/* pabble 1 */
-...
-  return 0;
+/// Asserts what is answered where the kernel file has so many bytes.
+fn hold_long_kernels(
+    rt: &impl Abort,
+    alloc: Global,
+    count: usize,
+    wanted: &str,
+) -> Result<(), NoMemory> {
+    let k = padded(alloc, KERNEL, count)?;
+    let answer = answer_on(alloc, "gen p k", COMPUTES.as_bytes(), &k)?;
+    assert!(rt; is_like(&answer, wanted), "{answer}");
+    Ok(())
 }
-";
-
-const MERGE_LIMIT: &str = "$ gen p k
-status 5
-pabble: limit file bytes
-";
 
 #[test]
-fn a_kernel_file_may_have_1048576_bytes(rt: HostRuntime) -> Result<(), Fail> {
-    let alloc = rt.alloc();
-    let most = padded(alloc, WITH_A_KERNEL, KERNEL, 1_048_576, MERGE_DONE)?;
-    play(&rt, alloc, &most)?;
-    let more = padded(alloc, WITH_A_KERNEL, KERNEL, 1_048_577, MERGE_LIMIT)?;
-    play(&rt, alloc, &more)
+fn a_kernel_file_may_have_1048576_bytes(rt: HostRuntime) -> Result<(), NoMemory> {
+    hold_long_kernels(&rt, rt.alloc(), 1_048_576, DONE)?;
+    hold_long_kernels(&rt, rt.alloc(), 1_048_577, LIMIT)
 }

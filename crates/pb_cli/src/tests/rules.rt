@@ -1,10 +1,10 @@
 //! Files that aren't accepted: each command on a protocol file tells the first fault.
 
 use crate::tests::session::play;
+use pb_text::NoMemory;
 use std::alloc::{AllocError, Global};
 use std::fmt::Write;
 use std::process::Abort;
-use std::test::Fail;
 
 /// A session with a file of this range, these roles and this body, on which each command says this.
 fn refusing(alloc: Global, row: &str) -> Result<String, AllocError> {
@@ -19,7 +19,7 @@ fn refusing(alloc: Global, row: &str) -> Result<String, AllocError> {
 }
 
 /// Plays the session of each row.
-fn play_rows(rt: &impl Abort, alloc: Global, rows: &str) -> Result<(), Fail> {
+fn play_rows(rt: &impl Abort, alloc: Global, rows: &str) -> Result<(), NoMemory> {
     for row in rows.lines() {
         let session = refusing(alloc, row)?;
         play(rt, alloc, &session)?;
@@ -41,7 +41,7 @@ const NAMES: &str = "\
 ";
 
 #[test]
-fn names_that_break_a_rule(rt: HostRuntime) -> Result<(), Fail> {
+fn names_that_break_a_rule(rt: HostRuntime) -> Result<(), NoMemory> {
     play_rows(&rt, rt.alloc(), NAMES)
 }
 
@@ -56,7 +56,7 @@ const SHAPES: &str = "\
 ";
 
 #[test]
-fn shapes_and_ranges_that_break_a_rule(rt: HostRuntime) -> Result<(), Fail> {
+fn shapes_and_ranges_that_break_a_rule(rt: HostRuntime) -> Result<(), NoMemory> {
     play_rows(&rt, rt.alloc(), SHAPES)
 }
 
@@ -72,7 +72,7 @@ const ENDS: &str = "\
 ";
 
 #[test]
-fn ends_that_break_a_rule(rt: HostRuntime) -> Result<(), Fail> {
+fn ends_that_break_a_rule(rt: HostRuntime) -> Result<(), NoMemory> {
     play_rows(&rt, rt.alloc(), ENDS)
 }
 
@@ -123,7 +123,7 @@ pabble: rule 12 at 5:8, N = 2, W[1]
 ";
 
 #[test]
-fn loops_and_choices_that_break_a_rule(rt: HostRuntime) -> Result<(), Fail> {
+fn loops_and_choices_that_break_a_rule(rt: HostRuntime) -> Result<(), NoMemory> {
     play(&rt, rt.alloc(), LOOPS)
 }
 
@@ -154,7 +154,7 @@ pabble: limit constant at 3:14
 ";
 
 #[test]
-fn faults_and_limits_at_their_places(rt: HostRuntime) -> Result<(), Fail> {
+fn faults_and_limits_at_their_places(rt: HostRuntime) -> Result<(), NoMemory> {
     play_rows(&rt, rt.alloc(), SYNTAX)?;
     play(&rt, rt.alloc(), EARLIER)
 }
@@ -169,7 +169,7 @@ fn crossings(alloc: Global) -> Result<String, AllocError> {
 }
 
 #[test]
-fn too_many_breakpoints(rt: HostRuntime) -> Result<(), Fail> {
+fn too_many_breakpoints(rt: HostRuntime) -> Result<(), NoMemory> {
     let body = crossings(rt.alloc())?;
     let session = format!(in rt.alloc();
         "$ cat > p\nconst N = 1..max;\nglobal protocol P(role W[0..N+100000]) {{\n{body}\n}}\n$ check p; gen p; project p\nstatus 5\npabble: limit breakpoints\n"

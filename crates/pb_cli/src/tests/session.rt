@@ -6,7 +6,6 @@ use pb_io::{MemFile, MemFolder, MemSink};
 use pb_text::NoMemory;
 use std::alloc::Global;
 use std::process::Abort;
-use std::test::Fail;
 
 /// What reads and writes do in a session.
 #[derive(Clone, Copy)]
@@ -33,7 +32,7 @@ pub const NONE: Faults = Faults {
 /// `$ cat > NAME` makes a file of all that stands below, up to the next `$ `. `$ WORDS > NAME` makes one of what the program
 /// writes for these words. `$ WORDS` stands above what it must answer: the exit status, and below that what it writes, where `...`
 /// stands for any text. Of calls with `; ` between them each must answer so.
-pub fn play(rt: &impl Abort, alloc: Global, session: &str) -> Result<(), Fail> {
+pub fn play(rt: &impl Abort, alloc: Global, session: &str) -> Result<(), NoMemory> {
     play_with(rt, alloc, NONE, session)
 }
 
@@ -43,33 +42,63 @@ pub fn play_with(
     alloc: Global,
     faults: Faults,
     session: &str,
-) -> Result<(), Fail> {
+) -> Result<(), NoMemory> {
     let mut files = Vec::new(alloc);
     for step in session.split("$ ").skip(1) {
-        let (line, text) = step.split_once('\n').unwrap_or((step, ""));
-        match line.split_once(" > ") {
-            Some((words, name)) => files.push(made(alloc, &files, words, name, text)?)?,
-            None => hold(rt, alloc, &files, faults, line, text)?,
-        }
+        take_step(rt, alloc, faults, &mut files, step)?;
     }
     Ok(())
+}
+
+fn take_step(
+    rt: &impl Abort,
+    alloc: Global,
+    faults: Faults,
+    files: &mut Vec<MemFile>,
+    step: &str,
+) -> Result<(), NoMemory> {
+    let (line, text) = step.split_once('\n').unwrap_or((step, ""));
+    match line.split_once(" > ") {
+        Some((words, name)) => {
+            let file = made(alloc, files, words, name, text)?;
+            files.push(file)?;
+            Ok(())
+        }
+        None => hold(rt, alloc, faults, files, line, text),
+    }
 }
 
 /// Asserts that each call answers so.
 fn hold(
     rt: &impl Abort,
     alloc: Global,
-    files: &[MemFile],
     faults: Faults,
+    files: &[MemFile],
     calls: &str,
     wanted: &str,
-) -> Result<(), Fail> {
+) -> Result<(), NoMemory> {
     for call in calls.split("; ") {
-        let mut out = sink(alloc, faults)?;
-        let answer = answer(alloc, files, faults.read, call, &mut out)?;
+        let answer = answer_with(alloc, faults, files, call)?;
         assert!(rt; is_like(&answer, wanted), "$ {call}\n{answer}");
     }
     Ok(())
+}
+
+/// The exit status of a call, and below it what is written.
+pub fn answer_with(
+    alloc: Global,
+    faults: Faults,
+    files: &[MemFile],
+    line: &str,
+) -> Result<String, NoMemory> {
+    let mut out = sink(alloc, faults)?;
+    let code = called(alloc, files, faults.read, line, &mut out)?;
+    told(alloc, code, out.taken())
+}
+
+fn told(alloc: Global, code: u8, written: &[u8]) -> Result<String, NoMemory> {
+    let text = std::str::from_utf8(written).unwrap_or("no text");
+    Ok(format!(in alloc; "status {code}\n{text}")?)
 }
 
 /// The file that a step makes.
@@ -84,23 +113,25 @@ fn made(
         return file(alloc, name, text.as_bytes());
     }
     let mut out = sink(alloc, NONE)?;
-    answer(alloc, files, NONE.read, words, &mut out)?;
+    called(alloc, files, NONE.read, words, &mut out)?;
     file(alloc, name, out.taken())
 }
 
-/// The exit status of a call, and below it what the sink has taken.
-fn answer(
+/// The exit status of a call with these words, where this call of the folder fails.
+fn called(
     alloc: Global,
     files: &[MemFile],
     failing: u64,
     line: &str,
     out: &mut MemSink,
-) -> Result<String, NoMemory> {
+) -> Result<u8, NoMemory> {
     let words = words_of(alloc, line)?;
     let mut folder = folder(alloc, files, failing)?;
-    let code = pabble(alloc, &words, &mut folder, out, word_of).code();
-    let text = std::str::from_utf8(out.taken()).unwrap_or("no text");
-    Ok(format!(in alloc; "status {code}\n{text}")?)
+    Ok(code_of(alloc, &words, &mut folder, out))
+}
+
+fn code_of(alloc: Global, words: &[String], folder: &mut MemFolder, out: &mut MemSink) -> u8 {
+    pabble(alloc, words, folder, out, word_of).code()
 }
 
 /// What kernels answer, word by word.
@@ -122,14 +153,18 @@ pub fn file(alloc: Global, name: &str, bytes: &[u8]) -> Result<MemFile, NoMemory
     Ok(MemFile { name, bytes })
 }
 
-/// A folder with copies of the files. Of two with one name the last counts.
-fn folder(alloc: Global, files: &[MemFile], failing: u64) -> Result<MemFolder, NoMemory> {
+/// Copies of the files, the last one first, since the first of two with one name counts.
+fn copies(alloc: Global, files: &[MemFile]) -> Result<Vec<MemFile>, NoMemory> {
     let mut copies = Vec::new(alloc);
     for it in files.iter().rev() {
         copies.push(file(alloc, &it.name, &it.bytes)?)?;
     }
+    Ok(copies)
+}
+
+fn folder(alloc: Global, files: &[MemFile], failing: u64) -> Result<MemFolder, NoMemory> {
     let fails = [failing].to_vec(alloc)?;
-    Ok(MemFolder::new(copies, fails))
+    Ok(MemFolder::new(copies(alloc, files)?, fails))
 }
 
 fn sink(alloc: Global, faults: Faults) -> Result<MemSink, NoMemory> {
@@ -137,25 +172,21 @@ fn sink(alloc: Global, faults: Faults) -> Result<MemSink, NoMemory> {
     MemSink::new(alloc, faults.room, faults.most.max(1), fails)
 }
 
-/// True where the text is the wanted one, with any text in the place of each `...`.
-fn is_like(text: &str, wanted: &str) -> bool {
-    match wanted.split_once("...") {
-        Some((front, others)) => match text.strip_prefix(front) {
-            Some(rest) => has_in_turn(rest, others),
-            None => false,
-        },
-        None => text == wanted,
+/// True where the text is the wanted one, with any text in the place of each `...`. Parts between two of them stand anywhere.
+pub fn is_like(text: &str, wanted: &str) -> bool {
+    match (wanted.split_once("..."), wanted.rsplit_once("...")) {
+        (Some((front, _)), Some((_, back))) => {
+            text.starts_with(front) && text.ends_with(back) && has_parts(text, wanted)
+        }
+        _ => text == wanted,
     }
 }
 
-/// True where the parts between the `...` stand in the text one behind the other, and the last at its end.
-fn has_in_turn(text: &str, parts: &str) -> bool {
-    let mut rest = text;
-    for part in parts.split("...") {
-        match rest.split_once(part) {
-            Some((_, behind)) => rest = behind,
-            None => return false,
+fn has_parts(text: &str, wanted: &str) -> bool {
+    for part in wanted.split("...") {
+        if !text.contains(part) {
+            return false;
         }
     }
-    rest.is_empty()
+    true
 }
