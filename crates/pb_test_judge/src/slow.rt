@@ -65,13 +65,15 @@ fn words_in(alloc: Global, text: &str, from: usize) -> Result<Vec<u32>, AllocErr
 /// Adds the branch that a line shows.
 fn add_branch(answers: &mut Answers, text: &str) -> Result<(), AllocError> {
     let branch = text.split(' ').nth(3).map(word_of);
-    answers.branches.push(branch.unwrap_or(0))
+    answers.branches.push(branch.unwrap_or(0))?;
+    Ok(())
 }
 
 /// Adds the words of a line of a message, which may be none.
 fn add_message(answers: &mut Answers, alloc: Global, text: &str) -> Result<(), AllocError> {
     let words = words_in(alloc, text, 4)?;
-    answers.words.push(Words::of(words))
+    answers.words.push(Words::of(words))?;
+    Ok(())
 }
 
 /// Adds the words of a line of a collective, if there are any.
@@ -80,7 +82,8 @@ fn add_joint(answers: &mut Answers, alloc: Global, text: &str) -> Result<(), All
     if words.is_empty() {
         return Ok(());
     }
-    answers.words.push(Words::of(words))
+    answers.words.push(Words::of(words))?;
+    Ok(())
 }
 
 /// Adds the answers that a line shows.

@@ -136,11 +136,16 @@ fn head_with(
     Ok(text)
 }
 
+fn push_role(alloc: Global, text: &mut String, number: u32) -> Result<(), NoMemory> {
+    let line = format!(in alloc; "/* role R{number} 0 to 0 */\n")?;
+    Ok(text.push_str(line.as_str())?)
+}
+
 /// The lines before the roles', and then those of this many roles.
 fn with_roles(alloc: Global, count: u32) -> Result<String, NoMemory> {
     let mut text = head_with(alloc, 3, 3, ("", ""))?;
     for number in 0..count {
-        text.push_str(format!(in alloc; "/* role R{number} 0 to 0 */\n")?.as_str())?;
+        push_role(alloc, &mut text, number)?;
     }
     Ok(text)
 }
@@ -185,28 +190,29 @@ fn read_on(alloc: Global, reader: &mut FrameReader, text: &str) -> Result<Readin
     })
 }
 
+/// Whether just so many of a text's first lines are taken.
+fn takes_lines(alloc: Global, text: Result<String, NoMemory>, count: usize) -> bool {
+    match text {
+        Ok(text) => match read(alloc, text.as_str()) {
+            Ok(reading) => reading.taken == count,
+            Err(_) => false,
+        },
+        Err(_) => false,
+    }
+}
+
+/// The head with another line behind it.
+fn head_before(alloc: Global, line: &str) -> Result<String, NoMemory> {
+    Ok(format!(in alloc; "{HEAD}{line}")?)
+}
+
 #[test]
 fn reads_a_head(rt: HostRuntime) -> Result<(), NoMemory> {
     let reading = read(rt.alloc(), HEAD)?;
     assert!(rt; reading.taken == 61 && reading.done);
-    let text = format!(in rt.alloc(); "{HEAD}  MPI_Finalize();\n")?;
-    assert!(rt; read(rt.alloc(), text.as_str())?.taken == 61);
+    let text = head_before(rt.alloc(), "  MPI_Finalize();\n");
+    assert!(rt; takes_lines(rt.alloc(), text, 61));
     Ok(())
-}
-
-/// Whether a changed line of the head leaves it a head.
-fn is_head_with(
-    alloc: Global,
-    at: usize,
-    line: &'static str,
-    change: Change,
-) -> Result<bool, NoMemory> {
-    let count = match change {
-        Change::Cut => at.saturating_add(1),
-        _ => 61,
-    };
-    let text = head_with(alloc, count, at, changed(line, change))?;
-    Ok(read(alloc, text.as_str())?.done)
 }
 
 // A label without words may be gone, and a line of a body may be changed, but not lose its end.
@@ -218,55 +224,68 @@ fn is_kept(at: usize, change: Change) -> bool {
     }
 }
 
+/// Whether the head with one line changed is read as it should be.
+fn is_right(alloc: Global, at: usize, line: &'static str, change: Change) -> bool {
+    let count = match change {
+        Change::Cut => at.saturating_add(1),
+        _ => 61,
+    };
+    match head_with(alloc, count, at, changed(line, change)) {
+        Ok(text) => match read(alloc, text.as_str()) {
+            Ok(reading) => reading.done == is_kept(at, change),
+            Err(_) => false,
+        },
+        Err(_) => false,
+    }
+}
+
 /// The first line of the head that isn't read as it should be with this change, or 61.
-fn first_wrong(alloc: Global, change: Change) -> Result<usize, NoMemory> {
+fn first_wrong(alloc: Global, change: Change) -> usize {
     for (at, line) in HEAD.split_inclusive('\n').enumerate() {
-        if is_head_with(alloc, at, line, change)? != is_kept(at, change) {
-            return Ok(at);
+        if !is_right(alloc, at, line, change) {
+            return at;
         }
     }
-    Ok(61)
+    61
+}
+
+fn change_of(how: &str) -> Change {
+    match how {
+        "deleted" => Change::Deleted,
+        "twice" => Change::Doubled,
+        "indented" => Change::Indented,
+        "shortened" => Change::Shortened,
+        _ => Change::Cut,
+    }
 }
 
 #[test]
-fn refuses_a_head_with_a_line_changed(rt: HostRuntime) -> Result<(), NoMemory> {
-    for (how, change) in [
-        ("deleted", Change::Deleted),
-        ("twice", Change::Doubled),
-        ("indented", Change::Indented),
-        ("shortened", Change::Shortened),
-        ("cut", Change::Cut),
-    ] {
-        let at = first_wrong(rt.alloc(), change)?;
+fn refuses_a_head_with_a_line_changed(rt: HostRuntime) {
+    for how in "deleted twice indented shortened cut".split(' ') {
+        let at = first_wrong(rt.alloc(), change_of(how));
         assert!(rt; at == 61, "line {at} {how}");
     }
-    Ok(())
 }
 
-/// Whether the head is read up to this line, which stands in the place of its own.
-fn refuses(alloc: Global, at: usize, line: &str) -> Result<bool, NoMemory> {
-    let text = head_with(alloc, 61, at, (line, ""))?;
-    Ok(read(alloc, text.as_str())?.taken == at)
-}
-
-fn refuses_row(alloc: Global, row: &str) -> Result<bool, NoMemory> {
+/// Whether the head is read up to the line of this number, in whose place another one stands.
+fn refuses(alloc: Global, row: &str) -> bool {
     match row.split_once(' ') {
-        Some((at, line)) => refuses(alloc, at.parse().unwrap_or(usize::MAX), line),
-        None => Ok(false),
+        Some((at, line)) => {
+            let at = at.parse().unwrap_or(usize::MAX);
+            takes_lines(alloc, head_with(alloc, 61, at, (line, "")), at)
+        }
+        None => false,
     }
 }
 
 #[test]
-fn refuses_other_lines(rt: HostRuntime) -> Result<(), NoMemory> {
+fn refuses_other_lines(rt: HostRuntime) {
     for row in OTHERS.split_inclusive('\n') {
-        assert!(rt; refuses_row(rt.alloc(), row)?, "{row}");
+        assert!(rt; refuses(rt.alloc(), row), "{row}");
     }
-    Ok(())
 }
 
 #[test]
-fn reads_64_roles(rt: HostRuntime) -> Result<(), NoMemory> {
-    let text = with_roles(rt.alloc(), 65)?;
-    assert!(rt; read(rt.alloc(), text.as_str())?.taken == 67);
-    Ok(())
+fn reads_64_roles(rt: HostRuntime) {
+    assert!(rt; takes_lines(rt.alloc(), with_roles(rt.alloc(), 65), 67));
 }

@@ -80,8 +80,7 @@ int main(int argc, char **argv)
   }
 ";
 
-const END: &str = "\
-  MPI_Finalize();
+const END: &str = "  MPI_Finalize();
   return 0;
 }
 ";
