@@ -1,6 +1,6 @@
 use crate::answers::{is_inlined, stands_for};
 use crate::rows::halves;
-use pb_do::{CallStatement, CallTree};
+use pb_do::{CallBlock, CallStatement, CallTree, Sub};
 use pb_do_parse::read_calls;
 use pb_text::{MOST_TEXT_BYTES, NoMemory, Place, Spot};
 use std::alloc::Global;
@@ -102,27 +102,83 @@ fn is_wrong(alloc: Global, block: &str) -> bool {
     is_inlined(alloc, text.as_bytes(), want)
 }
 
-/// Adds a call without arguments of the first subprotocol, which no file can have.
-fn add_call(alloc: Global, callee: Spot, list: &mut Vec<CallStatement>) -> Result<(), NoMemory> {
+/// Adds a call without arguments, which no file can have.
+fn add_call(alloc: Global, callee: &Spot, list: &mut Vec<CallStatement>) -> Result<(), NoMemory> {
     list.push(CallStatement::Do {
         place: Place { line: 12, col: 1 },
-        sub: callee,
+        sub: *callee,
         args: Vec::new(alloc),
     })?;
     Ok(())
 }
 
-/// Adds such a call to the last subprotocol and to the protocol.
-fn add_calls(alloc: Global, calls: &mut CallTree) -> Result<(), NoMemory> {
-    let Some(sub) = calls.subs.first() else {
-        return Ok(());
-    };
-    let callee = sub.name;
-    add_call(alloc, callee, &mut calls.body.list)?;
-    match calls.subs.last_mut() {
-        Some(sub) => add_call(alloc, callee, &mut sub.body.list),
-        None => Ok(()),
+/// A subprotocol with such a call alone.
+fn caller(alloc: Global, name: &Spot, callee: &Spot) -> Result<Sub, NoMemory> {
+    let mut list = Vec::new(alloc);
+    add_call(alloc, callee, &mut list)?;
+    Ok(Sub {
+        name: *name,
+        params: Vec::new(alloc),
+        body: CallBlock {
+            place: name.place,
+            list,
+        },
+    })
+}
+
+fn first_name(subs: &[Sub]) -> Option<Spot> {
+    match subs.first() {
+        Some(sub) => Some(sub.name),
+        None => None,
     }
+}
+
+fn with_caller(
+    alloc: Global,
+    mut subs: Vec<Sub>,
+    name: &Spot,
+    callee: &Spot,
+) -> Result<Vec<Sub>, NoMemory> {
+    let sub = caller(alloc, name, callee)?;
+    subs.push(sub)?;
+    Ok(subs)
+}
+
+fn with_call(alloc: Global, block: CallBlock, callee: &Spot) -> Result<CallBlock, NoMemory> {
+    let CallBlock { place, mut list } = block;
+    add_call(alloc, callee, &mut list)?;
+    Ok(CallBlock { place, list })
+}
+
+/// The calls, with such a subprotocol behind theirs, and such a call at the end of the protocol.
+fn with_bare_calls(alloc: Global, calls: CallTree) -> Result<CallTree, NoMemory> {
+    let CallTree {
+        subs,
+        constant,
+        low,
+        low_place,
+        high,
+        high_place,
+        protocol,
+        roles,
+        body,
+    } = calls;
+    let Some(callee) = first_name(&subs) else {
+        return Err(NoMemory);
+    };
+    let subs = with_caller(alloc, subs, &protocol, &callee)?;
+    let body = with_call(alloc, body, &callee)?;
+    Ok(CallTree {
+        subs,
+        constant,
+        low,
+        low_place,
+        high,
+        high_place,
+        protocol,
+        roles,
+        body,
+    })
 }
 
 /// Whether these calls have this fault with such ones behind them.
@@ -138,8 +194,11 @@ fn is_wrong_before_bare_calls(alloc: Global, block: &str) -> bool {
     }
 }
 
-fn is_wrong_with_more(alloc: Global, mut calls: CallTree, want: &str) -> bool {
-    add_calls(alloc, &mut calls).is_ok() && stands_for(alloc, &calls, want)
+fn is_wrong_with_more(alloc: Global, calls: CallTree, want: &str) -> bool {
+    match with_bare_calls(alloc, calls) {
+        Ok(calls) => stands_for(alloc, &calls, want),
+        Err(_) => false,
+    }
 }
 
 #[test]

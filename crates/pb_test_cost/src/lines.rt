@@ -2,36 +2,55 @@
 
 use pb_cli_cost::{Status, cost};
 use pb_io::{MemFile, MemFolder, MemSink};
-use std::alloc::{AllocError, Global};
-use std::test::Fail;
+use pb_text::NoMemory;
+use std::alloc::Global;
 
 /// How many bytes may be written.
-const ROOM: usize = 4_194_304;
+pub const ROOM: usize = 4_194_304;
 
-/// The protocol file with this range of N and this body, which begins in line 3.
-pub fn protocol(alloc: Global, range: &str, body: &str) -> Result<String, AllocError> {
-    format!(in alloc; "const N = {range};\nglobal protocol P(role W[0..N-1]) {{\n{body}\n}}\n")
+/// What is told of a file: the status of `cost`, and what is written.
+#[derive(Drop)]
+pub struct Told {
+    pub status: Status,
+    pub lines: String,
 }
 
-/// The status of `cost` on a file with this text, and what is written.
-pub fn told(alloc: Global, text: &str) -> Result<(Status, String), Fail> {
+/// The protocol file with this range of N and this body, which begins in line 3.
+pub fn protocol(alloc: Global, range: &str, body: &str) -> Result<String, NoMemory> {
+    let file = format!(in alloc;
+        "const N = {range};\nglobal protocol P(role W[0..N-1]) {{\n{body}\n}}\n"
+    )?;
+    Ok(file)
+}
+
+/// A folder with the file `p` of this text.
+fn folder(alloc: Global, text: &str) -> Result<MemFolder, NoMemory> {
+    let name = String::from_str(alloc, "p")?;
+    let bytes = Vec::from_slice(alloc, text.as_bytes())?;
+    let files = vec![in alloc; MemFile { name, bytes }]?;
+    Ok(MemFolder::new(files, Vec::new(alloc)))
+}
+
+/// Bytes as a text; nothing where they are none.
+fn text_of(alloc: Global, bytes: &[u8]) -> Result<String, NoMemory> {
+    match std::str::from_utf8(bytes) {
+        Ok(text) => Ok(String::from_str(alloc, text)?),
+        Err(_) => Ok(String::new(alloc)),
+    }
+}
+
+/// What is told of a file with this text.
+pub fn told(alloc: Global, text: &str) -> Result<Told, NoMemory> {
     told_within(alloc, text, ROOM)
 }
 
 /// The same, where only so many bytes can be written.
-pub fn told_within(alloc: Global, text: &str, room: usize) -> Result<(Status, String), Fail> {
-    let mut files = Vec::new(alloc);
-    files.push(MemFile {
-        name: String::from_str(alloc, "p")?,
-        bytes: Vec::from_slice(alloc, text.as_bytes())?,
-    })?;
-    let mut folder = MemFolder::new(files, Vec::new(alloc));
+pub fn told_within(alloc: Global, text: &str, room: usize) -> Result<Told, NoMemory> {
     let mut out = MemSink::new(alloc, room, ROOM, Vec::new(alloc))?;
+    let mut folder = folder(alloc, text)?;
     let status = cost(alloc, "p", &mut folder, &mut out);
-    Ok((
-        status,
-        String::from_str(alloc, std::str::from_utf8(out.taken())?)?,
-    ))
+    let lines = text_of(alloc, out.taken())?;
+    Ok(Told { status, lines })
 }
 
 /// A number, or 0 where the word is none.

@@ -7,8 +7,8 @@
 
 use crate::lines::{pieces, protocol, told};
 use pb_cli_cost::Status;
+use pb_text::NoMemory;
 use std::alloc::{AllocError, Global};
-use std::test::Fail;
 
 /// How many numbers there are in both blocks. Two choices have three times as many pieces.
 const NUMBERS: u32 = 1_365;
@@ -44,7 +44,7 @@ fn choice(alloc: Global, more: &str) -> Result<String, AllocError> {
 }
 
 /// The two choices, and these messages of one word behind them, each for all ranks from a number on.
-fn file(alloc: Global, from: &[u32]) -> Result<String, AllocError> {
+fn file(alloc: Global, from: &[u32]) -> Result<String, NoMemory> {
     let mut body = choice(alloc, "")?;
     let second = choice(alloc, "    C(int32[4]) from W[1] to W[0];\n")?;
     body.push_str(second.as_str())?;
@@ -55,35 +55,41 @@ fn file(alloc: Global, from: &[u32]) -> Result<String, AllocError> {
     protocol(alloc, "2..max", body.as_str())
 }
 
-#[test]
-fn has_as_many_pieces_as_may_be(rt: HostRuntime) -> Result<(), Fail> {
-    let alloc = rt.alloc();
-    let (status, lines) = told(alloc, file(alloc, &[8])?.as_str())?;
-    assert!(rt; status == Status::Done);
-    assert!(rt; pieces(lines.as_str(), "least words ") == 4_096);
-    assert!(rt; pieces(lines.as_str(), "least messages ") == 685);
-    Ok(())
+/// How many pieces of words and of messages there are with these messages.
+fn counts(alloc: Global, from: &[u32]) -> Result<Option<(usize, usize)>, NoMemory> {
+    let file = file(alloc, from)?;
+    let told = told(alloc, file.as_str())?;
+    if told.status != Status::Done {
+        return Ok(None);
+    }
+    let words = pieces(told.lines.as_str(), "least words ");
+    let messages = pieces(told.lines.as_str(), "least messages ");
+    Ok(Some((words, messages)))
+}
+
+/// Whether there are too many pieces with these messages.
+fn is_limit(alloc: Global, from: &[u32]) -> Result<bool, NoMemory> {
+    let file = file(alloc, from)?;
+    let told = told(alloc, file.as_str())?;
+    Ok(told.status == Status::Limit && told.lines.as_str() == "pabble: limit pieces\n")
 }
 
 #[test]
-fn refuses_one_more(rt: HostRuntime) -> Result<(), Fail> {
-    let alloc = rt.alloc();
-    let (status, lines) = told(alloc, file(alloc, &[8, 12])?.as_str())?;
-    assert!(rt; status == Status::Limit);
-    assert!(rt; lines.as_str() == "pabble: limit pieces\n");
-    Ok(())
+fn has_as_many_pieces_as_may_be(rt: HostRuntime) {
+    assert!(rt; counts(rt.alloc(), &[8]) == Ok(Some((4_096, 685))));
+}
+
+#[test]
+fn refuses_one_more(rt: HostRuntime) {
+    assert!(rt; is_limit(rt.alloc(), &[8, 12]) == Ok(true));
 }
 
 // The first choice's least turns down at 32 by one word a rank, and a message for each rank from 32 on makes it one line there.
 #[test]
-fn refuses_one_more_though_a_later_message_joins_two(rt: HostRuntime) -> Result<(), Fail> {
-    let alloc = rt.alloc();
-    let (status, lines) = told(alloc, file(alloc, &[8, 12, 32])?.as_str())?;
-    assert!(rt; status == Status::Limit);
-    assert!(rt; lines.as_str() == "pabble: limit pieces\n");
-    let (status, lines) = told(alloc, file(alloc, &[8, 32, 12])?.as_str())?;
-    assert!(rt; status == Status::Done);
-    assert!(rt; pieces(lines.as_str(), "least words ") == 4_096);
+fn refuses_one_more_though_a_later_message_joins_two(rt: HostRuntime) -> Result<(), NoMemory> {
+    assert!(rt; is_limit(rt.alloc(), &[8, 12, 32]) == Ok(true));
+    let counts = counts(rt.alloc(), &[8, 32, 12])?;
+    assert!(rt; counts.is_some_and(|(words, _)| words == 4_096));
     Ok(())
 }
 
@@ -97,12 +103,18 @@ const JOINED: &str = "  choice K at W[0] {
   }
   A(int32) from W[i:7..N-1] to W[0];";
 
+fn is_joined(alloc: Global) -> Result<bool, NoMemory> {
+    let file = protocol(alloc, "2..max", JOINED)?;
+    let told = told(alloc, file.as_str())?;
+    let lines = told.lines.as_str();
+    Ok(
+        told.status == Status::Done
+            && lines.contains("least words 2 to max: 1 * N + -1\n")
+            && lines.contains("most words 2 to 7: 0 * N + 6\nmost words 8 to max: 2 * N + -8\n"),
+    )
+}
+
 #[test]
-fn neighbours_of_one_line_are_one_piece(rt: HostRuntime) -> Result<(), Fail> {
-    let alloc = rt.alloc();
-    let (status, lines) = told(alloc, protocol(alloc, "2..max", JOINED)?.as_str())?;
-    assert!(rt; status == Status::Done);
-    assert!(rt; lines.contains("least words 2 to max: 1 * N + -1\n"));
-    assert!(rt; lines.contains("most words 2 to 7: 0 * N + 6\nmost words 8 to max: 2 * N + -8\n"));
-    Ok(())
+fn neighbours_of_one_line_are_one_piece(rt: HostRuntime) {
+    assert!(rt; is_joined(rt.alloc()) == Ok(true));
 }

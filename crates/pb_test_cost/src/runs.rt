@@ -3,10 +3,9 @@
 use pb_compile::{Core, accept};
 use pb_core_sound::is_sound;
 use pb_plain::{Flat, flat_of, seats};
-use pb_plain_run::{Answers, FullAction, RankAction, Sequence, Setting, sequential_run};
+use pb_plain_run::{Answers, FullAction, RankAction, RunFault, Sequence, Setting, sequential_run};
 use pb_text::{MOST_TEXT_BYTES, NoMemory};
 use std::alloc::Global;
-use std::test::Fail;
 
 /// How many steps a run may have.
 const MOST_STEPS: u64 = 4_096;
@@ -23,7 +22,7 @@ struct Chosen {
 }
 
 /// The least and the most of messages and of words.
-#[derive(Clone, Copy, Debug, PartialEq, Eq)]
+#[derive(Clone, Copy, PartialEq, Eq)]
 pub struct Sent {
     pub least_messages: i64,
     pub most_messages: i64,
@@ -114,53 +113,72 @@ fn counted(run: &Sequence) -> (i64, i64) {
     (messages, words)
 }
 
-/// The least and the most over all runs of a flat protocol.
-fn over_all(alloc: Global, setting: &Setting, protocol: &Flat) -> Result<Sent, Fail> {
-    let mut chosen = Vec::new(alloc);
-    let mut sent = None;
-    for _ in 0..MOST_RUNS {
-        let answers = answers(alloc, &chosen, setting.total)?;
-        let run = sequential_run(alloc, setting, protocol, &answers, MOST_STEPS)?;
-        if !run.is_over {
-            return Err(Fail::new("a run is too long"));
-        }
-        let (messages, words) = counted(&run);
-        let first = Sent {
+/// The run that takes these branches.
+fn run_of(
+    alloc: Global,
+    setting: &Setting,
+    protocol: &Flat,
+    chosen: &[Chosen],
+) -> Result<Sequence, RunFault> {
+    let answers = answers(alloc, chosen, setting.total)?;
+    sequential_run(alloc, setting, protocol, &answers, MOST_STEPS)
+}
+
+/// What a run sends, with what others send.
+fn joined(sent: Option<Sent>, run: &Sequence) -> Sent {
+    let (messages, words) = counted(run);
+    match sent {
+        Some(sent) => sent.with(messages, words),
+        None => Sent {
             least_messages: messages,
             most_messages: messages,
             least_words: words,
             most_words: words,
-        };
-        sent = Some(sent.unwrap_or(first).with(messages, words));
+        },
+    }
+}
+
+/// The least and the most over all runs of a flat protocol; None where one is too long, or there are too many.
+fn over_all(alloc: Global, setting: &Setting, protocol: &Flat) -> Result<Option<Sent>, RunFault> {
+    let mut chosen = Vec::new(alloc);
+    let mut sent = None;
+    for _ in 0..MOST_RUNS {
+        let run = run_of(alloc, setting, protocol, &chosen)?;
+        if !run.is_over {
+            return Ok(None);
+        }
+        sent = Some(joined(sent, &run));
         chosen = chosen_in(alloc, &run.actions)?;
         if !turn(&mut chosen)? {
-            return Ok(sent.unwrap_or(first));
+            return Ok(sent);
         }
     }
-    Err(Fail::new("there are too many runs"))
+    Ok(None)
 }
 
-/// The core of a file that is accepted.
-fn core_of(alloc: Global, file: &str) -> Result<Core, Fail> {
-    let bytes = file.as_bytes();
-    if bytes.len() > MOST_TEXT_BYTES as usize {
-        return Err(Fail::new("the file is too long"));
-    }
-    Ok(accept(alloc, bytes)?)
-}
-
-/// The least and the most that the protocol in a file sends at N = n.
-pub fn sent_at(alloc: Global, file: &str, n: u32) -> Result<Sent, Fail> {
-    let core = core_of(alloc, file)?;
-    if !is_sound(&core) {
-        return Err(Fail::new("the core isn't sound"));
+/// The least and the most that the runs of a core send at N = n, where it is sound.
+fn sent_of(alloc: Global, core: &Core, n: u32) -> Result<Option<Sent>, RunFault> {
+    if !is_sound(core) {
+        return Ok(None);
     }
     let n = i64::from(n);
     let ranks = seats(alloc, &core.roles, n)?;
-    let protocol = flat_of(alloc, &core, &ranks, n)?;
+    let protocol = flat_of(alloc, core, &ranks, n)?;
     let setting = Setting {
         total: ranks.len() as u64,
         labels: &core.labels,
     };
     over_all(alloc, &setting, &protocol)
+}
+
+/// The least and the most that the protocol in a file sends at N = n, where it is accepted.
+pub fn sent_at(alloc: Global, file: &str, n: u32) -> Result<Option<Sent>, RunFault> {
+    let bytes = file.as_bytes();
+    if bytes.len() > MOST_TEXT_BYTES as usize {
+        return Ok(None);
+    }
+    match accept(alloc, bytes) {
+        Ok(core) => sent_of(alloc, &core, n),
+        Err(_) => Ok(None),
+    }
 }

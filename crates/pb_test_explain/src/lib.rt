@@ -8,6 +8,8 @@ mod call_tests;
 #[cfg(test)]
 mod kernel_tests;
 #[cfg(test)]
+mod pages;
+#[cfg(test)]
 mod run_tests;
 #[cfg(test)]
 mod source_tests;

@@ -1,34 +1,35 @@
 use pb_explain_tree::path_to;
-use pb_syntax::{Block, Statement};
-use pb_text::{Name, Place, Spot};
-use std::test::Fail;
+use pb_parse::parse;
+use pb_syntax::Block;
+use pb_text::{NoMemory, Place};
+use std::alloc::Global;
 
-fn at(line: u32) -> Place {
-    Place { line, col: 1 }
+const FILE: &[u8] = b"const N = 2..max; global protocol P(role W[0..N-1]) {
+rec X {
+barrier;
+continue X;
+}
+}
+";
+
+/// Whether the way to the third line leads over two statements, with one behind the second, and none to the ninth line.
+fn has_way(alloc: Global, block: &Block) -> Result<bool, NoMemory> {
+    let path = path_to(alloc, block, Place { line: 3, col: 1 })?;
+    Ok(path.len() == 2 && path[1].next.is_some())
+}
+
+fn has_no_way(alloc: Global, block: &Block) -> Result<bool, NoMemory> {
+    Ok(path_to(alloc, block, Place { line: 9, col: 1 })?.is_empty())
+}
+
+fn finds_way(alloc: Global) -> Result<bool, NoMemory> {
+    match parse(alloc, FILE) {
+        Ok(file) => Ok(has_way(alloc, &file.body)? && has_no_way(alloc, &file.body)?),
+        Err(_) => Ok(false),
+    }
 }
 
 #[test]
-fn finds_the_way(rt: HostRuntime) -> Result<(), Fail> {
-    let name = Spot {
-        name: Name::of(b"X").ok_or("name")?,
-        place: at(2),
-    };
-    let mut inner = Vec::new(rt.alloc());
-    inner.push(Statement::Barrier { place: at(3) })?;
-    inner.push(Statement::Continue { place: at(4), name })?;
-    let mut list = Vec::new(rt.alloc());
-    list.push(Statement::Rec {
-        place: at(2),
-        name,
-        body: Block {
-            place: at(2),
-            list: inner,
-        },
-    })?;
-    let block = Block { place: at(1), list };
-    let path = path_to(rt.alloc(), &block, at(3))?;
-    assert!(rt; path.len() == 2);
-    assert!(rt; path[1].next.is_some());
-    assert!(rt; path_to(rt.alloc(), &block, at(9))?.len() == 0);
-    Ok(())
+fn finds_the_way(rt: HostRuntime) {
+    assert!(rt; finds_way(rt.alloc()) == Ok(true));
 }

@@ -5,9 +5,8 @@ ghost use Rattle.std.specs.Prelude.{◌≤◌};
 use pb_cli_file::{Wanted, tell, tell_merged};
 use pb_cli_simulate::{Mode, Modes, Options, Shown, Status, replay, sim};
 use pb_io::{Folder, MemFile, MemFolder, MemSink, Sink};
-use pb_text::MOST_EVENTS;
-use std::alloc::{AllocError, Global};
-use std::test::Fail;
+use pb_text::{MOST_EVENTS, NoMemory};
+use std::alloc::Global;
 
 /// A message with a word, and a kernel.
 pub const PROTOCOL: &str = "const N = 2..max;
@@ -100,12 +99,17 @@ pub fn done<F: Folder, O: Sink>(
     }
 }
 
-/// A file with these bytes.
-pub fn file(alloc: Global, name: &str, bytes: &[u8]) -> Result<MemFile, AllocError> {
-    Ok(MemFile {
-        name: String::from_str(alloc, name)?,
-        bytes: Vec::from_slice(alloc, bytes)?,
-    })
+/// Adds a file with these bytes.
+pub fn add(
+    alloc: Global,
+    files: &mut Vec<MemFile>,
+    name: &str,
+    bytes: &[u8],
+) -> Result<(), NoMemory> {
+    let name = String::from_str(alloc, name)?;
+    let bytes = Vec::from_slice(alloc, bytes)?;
+    files.push(MemFile { name, bytes })?;
+    Ok(())
 }
 
 /// A folder of these files whose calls don't fail.
@@ -113,25 +117,31 @@ pub fn folder_of(alloc: Global, files: Vec<MemFile>) -> MemFolder {
     MemFolder::new(files, Vec::new(alloc))
 }
 
-/// The C text of a protocol.
-pub fn text_of(alloc: Global, protocol: &str) -> Result<Vec<u8>, Fail> {
+/// One file.
+pub fn one(alloc: Global, name: &str, bytes: &[u8]) -> Result<Vec<MemFile>, NoMemory> {
     let mut files = Vec::new(alloc);
-    files.push(file(alloc, "p", protocol.as_bytes())?)?;
-    Ok(told(alloc, Asked::Text, &mut folder_of(alloc, files))?.bytes)
+    add(alloc, &mut files, name, bytes)?;
+    Ok(files)
+}
+
+/// The C text of a protocol.
+pub fn text_of(alloc: Global, protocol: &str) -> Result<Vec<u8>, NoMemory> {
+    let mut folder = folder_of(alloc, one(alloc, "p", protocol.as_bytes())?);
+    Ok(told(alloc, Asked::Text, &mut folder)?.bytes)
 }
 
 /// The four files, with this text.
-pub fn files(alloc: Global, text: &[u8]) -> Result<Vec<MemFile>, AllocError> {
+pub fn files(alloc: Global, text: &[u8]) -> Result<Vec<MemFile>, NoMemory> {
     let mut files = Vec::new(alloc);
-    files.push(file(alloc, "p", PROTOCOL.as_bytes())?)?;
-    files.push(file(alloc, "k", KERNELS.as_bytes())?)?;
-    files.push(file(alloc, "t", text)?)?;
-    files.push(file(alloc, "s", SCHEDULE.as_bytes())?)?;
+    add(alloc, &mut files, "p", PROTOCOL.as_bytes())?;
+    add(alloc, &mut files, "k", KERNELS.as_bytes())?;
+    add(alloc, &mut files, "t", text)?;
+    add(alloc, &mut files, "s", SCHEDULE.as_bytes())?;
     Ok(files)
 }
 
 /// A command over a folder, with a sink that has room for all.
-pub fn told<F: Folder>(alloc: Global, asked: Asked, folder: &mut F) -> Result<Answer, Fail> {
+pub fn told<F: Folder>(alloc: Global, asked: Asked, folder: &mut F) -> Result<Answer, NoMemory> {
     let mut out = MemSink::new(alloc, ROOM, ROOM, Vec::new(alloc))?;
     let status = done(alloc, asked, folder, &mut out);
     let bytes = Vec::from_slice(alloc, out.taken())?;

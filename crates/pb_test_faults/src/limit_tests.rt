@@ -1,78 +1,78 @@
 //! Each limit of a file, at its number and one past it.
 
-use crate::commands::{Asked, OF_FILE, PROTOCOL, done, file, folder_of, options, text_of, told};
+use crate::commands::{
+    Asked, OF_FILE, PROTOCOL, add, done, folder_of, one, options, text_of, told,
+};
 use pb_cli_simulate::{Shown, Status, replay, sim};
-use pb_io::{MemFile, SureSink};
+use pb_io::SureSink;
+use pb_text::NoMemory;
 use std::alloc::Global;
-use std::test::Fail;
 
-/// What a file begins with.
-const HEAD: &str = "const N = 2..max;\nglobal protocol P(role W[0..N-1]) {\n";
+/// Limits, each with its number and a file at it. Between every other two `~` stands a part that the file has so often, with the
+/// number of the part for `#`.
+const REPEATED: &str = "name at 3:1
+64
+const N = 2..max;
+global protocol P(role W[0..N-1]) {
+~A~() from W[0] to W[1];
+}
+--
+nesting at 129:18
+63
+const N = 2..max;
+global protocol P(role W[0..N-1]) {
+~choice K at W[0] {
+A() from W[0] to W[i:1..N-1];
+~~} or {
+B() from W[0] to W[i:1..N-1];
+}
+~}
+--
+statements at 4003:1
+4000
+const N = 2..max;
+global protocol P(role W[0..N-1]) {
+~barrier;
+~}
+--
+roles at 66:1
+63
+const N = 2..max;
+global protocol P(role W[0..N-1]~,
+role V#~) {
+}
+--
+branches at 66:3
+63
+const N = 2..max;
+global protocol P(role W[0..N-1]) { choice K at W[0] { A() from W[0] to W[i:1..N-1];~
+} or { A#() from W[0] to W[i:1..N-1];~}}";
 
-/// The same, where only W has ranks.
-const WIDE: &str = "const N = 2..max;\nglobal protocol P(role W[0..N+";
+/// Limits, each with the largest number that is allowed in a place, and a file with `#` there.
+const NUMBERED: &str = "number at 1:14
+2000000000
+const N = 2..#;global protocol P(role W[0..N-1]) {}
+--
+constant at 1:11
+100000
+const N = #..max;global protocol P(role W[0..N-1]) {}
+--
+constant at 2:31
+100000
+const N = 2..max;
+global protocol P(role W[0..N+#]) {}
+--
+payload at 3:9
+1024
+const N = 2..max;
+global protocol P(role W[0..N-1]) {
+A(int32[#]) from W[0] to W[1];}";
 
-/// Files with a part as often as is allowed: what stands before it, the part, what stands behind it, what closes each part, how
-/// often, and what is told of the file with one more. `#` is the number of the part.
-const REPEATED: [(&str, &str, &str, &str, u32, &str); 5] = [
-    (HEAD, "A", "() from W[0] to W[1];\n", "", 64, "name at 3:1"),
-    (
-        HEAD,
-        "choice K at W[0] {\nA() from W[0] to W[i:1..N-1];\n",
-        "",
-        "} or {\nB() from W[0] to W[i:1..N-1];\n}\n",
-        63,
-        "nesting at 129:18",
-    ),
-    (HEAD, "barrier;\n", "", "", 4_000, "statements at 4003:1"),
-    (
-        "const N = 2..max;\nglobal protocol P(role W[0..N-1]",
-        ",\nrole V#",
-        ") {\n",
-        "",
-        63,
-        "roles at 66:1",
-    ),
-    (
-        "const N = 2..max;\nglobal protocol P(role W[0..N-1]) { choice K at W[0] { A() from W[0] to W[i:1..N-1];",
-        "\n} or { A#() from W[0] to W[i:1..N-1];",
-        "}",
-        "",
-        63,
-        "branches at 66:3",
-    ),
-];
-
-/// Files with the largest number that is allowed in a place: what stands before it, the number, what stands behind it, and what is
-/// told of the next one.
-const NUMBERED: [(&str, u32, &str, &str); 4] = [
-    (
-        "const N = 2..",
-        2_000_000_000,
-        ";global protocol P(role W[0..N-1]) {",
-        "number at 1:14",
-    ),
-    (
-        "const N = ",
-        100_000,
-        "..max;global protocol P(role W[0..N-1]) {",
-        "constant at 1:11",
-    ),
-    (WIDE, 100_000, "]) {", "constant at 2:31"),
-    (
-        "const N = 2..max;\nglobal protocol P(role W[0..N-1]) {\nA(int32[",
-        1_024,
-        "]) from W[0] to W[1];",
-        "payload at 3:9",
-    ),
-];
-
-/// Adds a part with this number in place of each `#`.
-fn push_numbered(alloc: Global, out: &mut String, part: &str, number: u32) -> Result<(), Fail> {
-    let digits = format!(in alloc; "{number}")?;
+/// Adds a part with these digits in place of each `#`.
+fn push_numbered(out: &mut String, part: &str, digits: &str) -> Result<(), NoMemory> {
     for letter in part.chars() {
         if letter == '#' {
-            out.push_str(&digits)?;
+            out.push_str(digits)?;
         } else {
             out.push(letter)?;
         }
@@ -80,154 +80,163 @@ fn push_numbered(alloc: Global, out: &mut String, part: &str, number: u32) -> Re
     Ok(())
 }
 
-/// A file with a part so many times.
-fn repeated(
-    alloc: Global,
-    row: (&str, &str, &str, &str, u32, &str),
-    count: u32,
-) -> Result<String, Fail> {
-    let (before, part, behind, closing, _, _) = row;
-    let mut out = String::from_str(alloc, before)?;
+/// Adds a part so many times, each with its number.
+fn push_parts(alloc: Global, out: &mut String, part: &str, count: u32) -> Result<(), NoMemory> {
     for number in 0..count {
-        push_numbered(alloc, &mut out, part, number)?;
+        let digits = format!(in alloc; "{number}")?;
+        push_numbered(out, part, digits.as_str())?;
     }
-    out.push_str(behind)?;
-    for _ in 0..count {
-        out.push_str(closing)?;
+    Ok(())
+}
+
+/// The file in which each second piece stands so many times.
+fn repeated(alloc: Global, pieces: &str, count: u32) -> Result<String, NoMemory> {
+    let mut out = String::new(alloc);
+    for (at, piece) in pieces.split('~').enumerate() {
+        let times = if at % 2 == 0 { 1 } else { count };
+        push_parts(alloc, &mut out, piece, times)?;
     }
-    out.push('}')?;
     Ok(out)
 }
 
-/// How often a command answers differently than `Done` on the first protocol, and with this line on the second.
-fn strays(alloc: Global, most: &str, past: &str, limit: &str) -> Result<u32, Fail> {
+/// The file with this number.
+fn numbered(alloc: Global, text: &str, number: u32) -> Result<String, NoMemory> {
+    let digits = format!(in alloc; "{number}")?;
+    let mut out = String::new(alloc);
+    push_numbered(&mut out, text, digits.as_str())?;
+    Ok(out)
+}
+
+fn is_done(alloc: Global, asked: Asked, file: &str) -> Result<bool, NoMemory> {
+    let mut folder = folder_of(alloc, one(alloc, "p", file.as_bytes())?);
+    Ok(done(alloc, asked, &mut folder, &mut SureSink::new()) == Status::Done)
+}
+
+fn is_refused(alloc: Global, asked: Asked, file: &str, line: &str) -> Result<bool, NoMemory> {
+    let mut folder = folder_of(alloc, one(alloc, "p", file.as_bytes())?);
+    let answer = told(alloc, asked, &mut folder)?;
+    Ok(answer.status == Status::Limit && answer.bytes.as_slice() == line.as_bytes())
+}
+
+/// Whether each command is done on the first protocol, and answers this limit on the second.
+fn is_limit(alloc: Global, most: &str, past: &str, limit: &str) -> Result<bool, NoMemory> {
     let line = format!(in alloc; "pabble: limit {limit}\n")?;
-    let mut count = 0_u32;
     for asked in OF_FILE {
-        let mut folder = folder_of(alloc, one(alloc, "p", most.as_bytes())?);
-        let status = done(alloc, asked, &mut folder, &mut SureSink::new());
-        let mut folder = folder_of(alloc, one(alloc, "p", past.as_bytes())?);
-        let answer = told(alloc, asked, &mut folder)?;
-        let is_told = answer.status == Status::Limit && answer.bytes.as_slice() == line.as_bytes();
-        if status != Status::Done || !is_told {
-            count = count.saturating_add(1);
+        if !is_done(alloc, asked, most)? || !is_refused(alloc, asked, past, line.as_str())? {
+            return Ok(false);
         }
     }
-    Ok(count)
+    Ok(true)
 }
 
-/// One file.
-fn one(alloc: Global, name: &str, bytes: &[u8]) -> Result<Vec<MemFile>, Fail> {
-    let mut files = Vec::new(alloc);
-    files.push(file(alloc, name, bytes)?)?;
-    Ok(files)
+/// The limit, its number and the file of a block.
+fn parts_of(block: &str) -> (&str, u32, &str) {
+    let (limit, rest) = block.split_once('\n').unwrap_or((block, ""));
+    let (number, file) = rest.split_once('\n').unwrap_or((rest, ""));
+    (limit, number.parse().unwrap_or(0), file)
 }
 
-#[test]
-fn parts_of_a_protocol(rt: HostRuntime) -> Result<(), Fail> {
-    let alloc = rt.alloc();
-    for row in REPEATED {
-        let (_, _, _, _, count, limit) = row;
-        let most = repeated(alloc, row, count)?;
-        let past = repeated(alloc, row, count.saturating_add(1))?;
-        assert!(rt; strays(alloc, &most, &past, limit)? == 0, "{limit}");
-    }
-    Ok(())
+fn is_repeated_limit(alloc: Global, block: &str) -> Result<bool, NoMemory> {
+    let (limit, count, pieces) = parts_of(block);
+    let most = repeated(alloc, pieces, count)?;
+    let past = repeated(alloc, pieces, count.saturating_add(1))?;
+    is_limit(alloc, most.as_str(), past.as_str(), limit)
 }
 
 #[test]
-fn numbers_of_a_protocol(rt: HostRuntime) -> Result<(), Fail> {
-    let alloc = rt.alloc();
-    for (before, number, behind, limit) in NUMBERED {
-        let past = number.saturating_add(1);
-        let most = format!(in alloc; "{before}{number}{behind}}}")?;
-        let past = format!(in alloc; "{before}{past}{behind}}}")?;
-        assert!(rt; strays(alloc, &most, &past, limit)? == 0, "{limit}");
+fn parts_of_a_protocol(rt: HostRuntime) {
+    for block in REPEATED.split("\n--\n") {
+        assert!(rt; is_repeated_limit(rt.alloc(), block) == Ok(true), "{block}");
     }
-    Ok(())
+}
+
+fn is_numbered_limit(alloc: Global, block: &str) -> Result<bool, NoMemory> {
+    let (limit, number, text) = parts_of(block);
+    let most = numbered(alloc, text, number)?;
+    let past = numbered(alloc, text, number.saturating_add(1))?;
+    is_limit(alloc, most.as_str(), past.as_str(), limit)
+}
+
+#[test]
+fn numbers_of_a_protocol(rt: HostRuntime) {
+    for block in NUMBERED.split("\n--\n") {
+        assert!(rt; is_numbered_limit(rt.alloc(), block) == Ok(true), "{block}");
+    }
 }
 
 /// 32 numbers and 32 ends, which meet at each N from 3,971 to 8,066, from this N on.
-fn meeting(alloc: Global, low: u32) -> Result<String, Fail> {
+fn meeting(alloc: Global, low: u32) -> Result<String, NoMemory> {
     let mut out = format!(in alloc;
         "const N = {low}..max;\nglobal protocol P(role W[0..N+100000]) {{\n"
     )?;
     for k in 0_u32..32 {
-        let here = 4_096 + 128 * k;
-        let there = 4 * k;
-        let line = format!(in alloc; "compute K at W[{here}];\ncompute K at W[N+{there}];\n")?;
-        out.push_str(&line)?;
+        push_meeting(alloc, &mut out, 4_096 + 128 * k, 4 * k)?;
     }
     out.push('}')?;
     Ok(out)
 }
 
-#[test]
-fn breakpoints_of_a_protocol(rt: HostRuntime) -> Result<(), Fail> {
-    let alloc = rt.alloc();
-    let most = meeting(alloc, 3_971)?;
-    let past = meeting(alloc, 3_970)?;
-    assert!(rt; strays(alloc, &most, &past, "breakpoints")? == 0);
+fn push_meeting(alloc: Global, out: &mut String, here: u32, there: u32) -> Result<(), NoMemory> {
+    let lines = format!(in alloc; "compute K at W[{here}];\ncompute K at W[N+{there}];\n")?;
+    out.push_str(lines.as_str())?;
     Ok(())
 }
 
-/// What `sim` answers on a text at this N.
-fn simulated(alloc: Global, text: &[u8], n: u32) -> Result<Status, Fail> {
+fn is_meeting_limit(alloc: Global, low: u32, past: u32) -> Result<bool, NoMemory> {
+    let most = meeting(alloc, low)?;
+    let past = meeting(alloc, past)?;
+    is_limit(alloc, most.as_str(), past.as_str(), "breakpoints")
+}
+
+#[test]
+fn breakpoints_of_a_protocol(rt: HostRuntime) {
+    assert!(rt; is_meeting_limit(rt.alloc(), 3_971, 3_970) == Ok(true));
+}
+
+/// What `sim` answers on the text at this N.
+fn simulated(alloc: Global, n: u32) -> Result<Status, NoMemory> {
+    let text = text_of(alloc, PROTOCOL)?;
+    let mut folder = folder_of(alloc, one(alloc, "t", &text)?);
+    let answers = |_seed: u64, _rank: u32, _count: u64| 0;
+    let asked = options(n, Shown::Schedule);
     let mut out = SureSink::new();
-    let mut folder = folder_of(alloc, one(alloc, "t", text)?);
-    let answers = |_seed: u64, _rank: u32, _count: u64| 0;
-    let status = sim(
-        alloc,
-        "t",
-        options(n, Shown::Schedule),
-        answers,
-        &mut folder,
-        &mut out,
-    );
-    Ok(status)
+    Ok(sim(alloc, "t", asked, answers, &mut folder, &mut out))
 }
 
 #[test]
-fn ranks_of_a_simulation(rt: HostRuntime) -> Result<(), Fail> {
-    let alloc = rt.alloc();
-    let text = text_of(alloc, PROTOCOL)?;
-    for (n, expected) in [(1_024, Status::Done), (1_025, Status::Limit)] {
-        assert!(rt; simulated(alloc, &text, n)? == expected, "{n}");
-    }
-    Ok(())
+fn ranks_of_a_simulation(rt: HostRuntime) {
+    assert!(rt; simulated(rt.alloc(), 1_024) == Ok(Status::Done));
+    assert!(rt; simulated(rt.alloc(), 1_025) == Ok(Status::Limit));
 }
 
-/// The status of `replay` of these files.
-fn replayed(alloc: Global, text: &[u8], schedule: Vec<u8>) -> Result<Status, Fail> {
-    let mut files = one(alloc, "t", text)?;
-    files.push(MemFile {
-        name: String::from_str(alloc, "s")?,
-        bytes: schedule,
-    })?;
-    let answers = |_seed: u64, _rank: u32, _count: u64| 0;
+/// A schedule that picks rank 5 so many times.
+fn schedule_of(alloc: Global, count: u32) -> Result<Vec<u8>, NoMemory> {
+    let mut schedule = Vec::from_slice(alloc, b"pabble schedule 1\nseed 0\n")?;
+    for _ in 0..count {
+        schedule.extend_from_slice(b"5\n")?;
+    }
+    Ok(schedule)
+}
+
+/// What `replay` answers on the text and this schedule.
+fn replayed(alloc: Global, schedule: &[u8]) -> Result<Status, NoMemory> {
+    let text = text_of(alloc, PROTOCOL)?;
+    let mut files = one(alloc, "t", &text)?;
+    add(alloc, &mut files, "s", schedule)?;
     let mut folder = folder_of(alloc, files);
-    Ok(replay(
-        alloc,
-        "t",
-        "s",
-        2,
-        answers,
-        &mut folder,
-        &mut SureSink::new(),
-    ))
+    let answers = |_seed: u64, _rank: u32, _count: u64| 0;
+    let mut out = SureSink::new();
+    Ok(replay(alloc, "t", "s", 2, answers, &mut folder, &mut out))
 }
 
+fn replayed_times(alloc: Global, count: u32) -> Result<Status, NoMemory> {
+    let schedule = schedule_of(alloc, count)?;
+    replayed(alloc, &schedule)
+}
+
+// There is no rank 5.
 #[test]
-fn events_of_a_schedule(rt: HostRuntime) -> Result<(), Fail> {
-    let alloc = rt.alloc();
-    let text = text_of(alloc, PROTOCOL)?;
-    // There is no rank 5.
-    for (count, expected) in [(1_000_000, Status::Schedule), (1_000_001, Status::Limit)] {
-        let mut schedule = Vec::from_slice(alloc, b"pabble schedule 1\nseed 0\n")?;
-        for _ in 0..count {
-            schedule.extend_from_slice(b"5\n")?;
-        }
-        assert!(rt; replayed(alloc, &text, schedule)? == expected, "{count}");
-    }
-    Ok(())
+fn events_of_a_schedule(rt: HostRuntime) {
+    assert!(rt; replayed_times(rt.alloc(), 1_000_000) == Ok(Status::Schedule));
+    assert!(rt; replayed_times(rt.alloc(), 1_000_001) == Ok(Status::Limit));
 }

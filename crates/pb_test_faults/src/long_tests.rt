@@ -1,14 +1,11 @@
 //! Texts and schedules of as many bytes as may be, and of one more.
 
-ghost use Rattle.std.specs.Prelude.{◌≤◌};
-
 use crate::commands::{PROTOCOL, options, text_of};
 use crate::long_folder::{LongFile, LongFolder};
 use pb_cli_simulate::{Shown, Status, replay, sim};
 use pb_io::MemSink;
-use pb_text::MOST_TEXT_BYTES;
+use pb_text::{MOST_TEXT_BYTES, NoMemory};
 use std::alloc::Global;
-use std::test::Fail;
 
 /// The line that opens the prelude of a text. What stands behind it, up to the end of the prelude, is any lines.
 const PRELUDE: &str = "/*@ prelude */\n";
@@ -17,7 +14,7 @@ const PRELUDE: &str = "/*@ prelude */\n";
 const ROOM: usize = 1_024;
 
 /// A folder with the file `long`, and this text under each other name.
-fn with_long(alloc: Global, text: &[u8], long: LongFile) -> Result<LongFolder, Fail> {
+fn with_long(alloc: Global, text: &[u8], long: LongFile) -> Result<LongFolder, NoMemory> {
     let text = LongFile::new(alloc, text, b"", text.len())?;
     Ok(LongFolder::new(long, text))
 }
@@ -28,22 +25,21 @@ fn is_told(status: Status, out: &MemSink, expected: Status, bytes: &[u8]) -> boo
 }
 
 /// A text of so many bytes, with a long line in its prelude.
-fn long_text(alloc: Global, text: &str, len: usize) -> Result<LongFile, Fail> {
-    let (front, back) = text.split_once(PRELUDE).ok_or("a text has a prelude")?;
+fn long_text(alloc: Global, text: &str, len: usize) -> Result<LongFile, NoMemory> {
+    let (front, back) = text.split_once(PRELUDE).unwrap_or((text, ""));
     let front = format!(in alloc; "{front}{PRELUDE}")?;
     let back = format!(in alloc; "\n{back}")?;
     Ok(LongFile::new(alloc, front.as_bytes(), back.as_bytes(), len)?)
 }
 
-/// Whether `sim` answers so on a text of so many bytes.
+/// Whether `sim` answers so on this text.
 fn simulates(
     alloc: Global,
-    text: &str,
-    len: usize,
+    long: LongFile,
     expected: Status,
     bytes: &[u8],
-) -> Result<bool, Fail> {
-    let mut folder = with_long(alloc, b"", long_text(alloc, text, len)?)?;
+) -> Result<bool, NoMemory> {
+    let mut folder = with_long(alloc, b"", long)?;
     let mut out = MemSink::new(alloc, ROOM, ROOM, Vec::new(alloc))?;
     let answers = |_seed: u64, _rank: u32, _count: u64| 7;
     let asked = options(2, Shown::Log);
@@ -51,17 +47,28 @@ fn simulates(
     Ok(is_told(status, &out, expected, bytes))
 }
 
-#[test]
-fn bytes_of_a_text(rt: HostRuntime) -> Result<(), Fail> {
-    let alloc = rt.alloc();
+/// Whether `sim` answers so on a text of so many bytes.
+fn simulates_long(
+    alloc: Global,
+    len: usize,
+    expected: Status,
+    bytes: &[u8],
+) -> Result<bool, NoMemory> {
     let text = text_of(alloc, PROTOCOL)?;
-    let text = std::str::from_utf8(&text)?;
-    let most = MOST_TEXT_BYTES as usize;
+    match std::str::from_utf8(&text) {
+        Ok(text) => simulates(alloc, long_text(alloc, text, len)?, expected, bytes),
+        Err(_) => Ok(false),
+    }
+}
+
+const MOST: usize = MOST_TEXT_BYTES as usize;
+
+#[test]
+fn bytes_of_a_text(rt: HostRuntime) {
     let log = b"0 send 1 A 7\n0 run K\n1 recv 0 A 7\nended\n";
-    assert!(rt; simulates(alloc, text, most, Status::Done, log)?);
+    assert!(rt; simulates_long(rt.alloc(), MOST, Status::Done, log) == Ok(true));
     let line = b"pabble: limit file bytes\n";
-    assert!(rt; simulates(alloc, text, most + 1, Status::Limit, line)?);
-    Ok(())
+    assert!(rt; simulates_long(rt.alloc(), MOST + 1, Status::Limit, line) == Ok(true));
 }
 
 /// Whether `replay` answers so on a schedule of so many spaces.
@@ -71,7 +78,7 @@ fn replays(
     len: usize,
     expected: Status,
     bytes: &[u8],
-) -> Result<bool, Fail> {
+) -> Result<bool, NoMemory> {
     let long = LongFile::new(alloc, b"", b"", len)?;
     let mut folder = with_long(alloc, text, long)?;
     let mut out = MemSink::new(alloc, ROOM, ROOM, Vec::new(alloc))?;
@@ -80,15 +87,21 @@ fn replays(
     Ok(is_told(status, &out, expected, bytes))
 }
 
+fn replays_long(
+    alloc: Global,
+    len: usize,
+    expected: Status,
+    bytes: &[u8],
+) -> Result<bool, NoMemory> {
+    let text = text_of(alloc, PROTOCOL)?;
+    replays(alloc, &text, len, expected, bytes)
+}
+
 // No schedule begins with a space, so one of as many bytes as may be has a malformed line.
 #[test]
-fn bytes_of_a_schedule(rt: HostRuntime) -> Result<(), Fail> {
-    let alloc = rt.alloc();
-    let text = text_of(alloc, PROTOCOL)?;
-    let most = MOST_TEXT_BYTES as usize;
+fn bytes_of_a_schedule(rt: HostRuntime) {
     let line = b"pabble: schedule line 1\n";
-    assert!(rt; replays(alloc, &text, most, Status::Schedule, line)?);
+    assert!(rt; replays_long(rt.alloc(), MOST, Status::Schedule, line) == Ok(true));
     let line = b"pabble: limit file bytes\n";
-    assert!(rt; replays(alloc, &text, most + 1, Status::Limit, line)?);
-    Ok(())
+    assert!(rt; replays_long(rt.alloc(), MOST + 1, Status::Limit, line) == Ok(true));
 }
