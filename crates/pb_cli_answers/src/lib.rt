@@ -7,8 +7,6 @@
 mod generators;
 mod jumped;
 mod place;
-#[cfg(test)]
-mod tests;
 
 pub use generators::Generators;
 pub use jumped::word;

@@ -1,4 +1,4 @@
-use crate::{Generators, word};
+use pb_cli_answers::{Generators, word};
 
 /// The first words that the generator's authors print for the seed 42 and the stream 54.
 #[test]
@@ -10,8 +10,8 @@ fn words_are_those_of_the_generator(rt: HostRuntime) {
         (4, 0xbfa4784b),
         (5, 0xcbed606e),
     ] {
-        assert_eq!(rt; word(42, 54, count), expected);
-        assert_eq!(rt; generators.word(42, 54, count), expected);
+        assert!(rt; word(42, 54, count) == expected);
+        assert!(rt; generators.word(42, 54, count) == expected);
     }
 }
 
@@ -35,6 +35,6 @@ fn a_place_changes_no_word(rt: HostRuntime) {
         (1, 0, 0),
         (1, 0, 1),
     ] {
-        assert_eq!(rt; generators.word(seed, rank, count), word(seed, rank, count));
+        assert!(rt; generators.word(seed, rank, count) == word(seed, rank, count));
     }
 }
