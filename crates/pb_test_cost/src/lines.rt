@@ -10,7 +10,7 @@ pub const ROOM: usize = 4_194_304;
 
 /// What is told of a file: the status of `cost`, and what is written.
 #[derive(Drop)]
-pub struct Told {
+pub struct Answer {
     pub status: Status,
     pub lines: String,
 }
@@ -40,17 +40,17 @@ fn text_of(alloc: Global, bytes: &[u8]) -> Result<String, NoMemory> {
 }
 
 /// What is told of a file with this text.
-pub fn told(alloc: Global, text: &str) -> Result<Told, NoMemory> {
+pub fn told(alloc: Global, text: &str) -> Result<Answer, NoMemory> {
     told_within(alloc, text, ROOM)
 }
 
 /// The same, where only so many bytes can be written.
-pub fn told_within(alloc: Global, text: &str, room: usize) -> Result<Told, NoMemory> {
+pub fn told_within(alloc: Global, text: &str, room: usize) -> Result<Answer, NoMemory> {
     let mut out = MemSink::new(alloc, room, ROOM, Vec::new(alloc))?;
     let mut folder = folder(alloc, text)?;
     let status = cost(alloc, "p", &mut folder, &mut out);
     let lines = text_of(alloc, out.taken())?;
-    Ok(Told { status, lines })
+    Ok(Answer { status, lines })
 }
 
 /// A number, or 0 where the word is none.
