@@ -1,7 +1,7 @@
 ghost use Rattle.std.specs.Prelude.{◌≡◌, ◌+ℤ◌};
 
 /// What an offset is added to.
-#[derive(Clone, Copy, Debug, PartialEq, Eq)]
+#[derive(Clone, Copy, PartialEq, Eq)]
 pub enum Base {
     /// Nothing.
     Fixed,
@@ -12,7 +12,7 @@ pub enum Base {
 }
 
 /// A number `off`, `N + off` or `i + off`. Offsets lie within 1,000,000 of zero.
-#[derive(Clone, Copy, Debug, PartialEq, Eq)]
+#[derive(Clone, Copy, PartialEq, Eq)]
 pub struct Lin {
     pub base: Base,
     pub off: i32,

@@ -2,7 +2,7 @@ ghost use Rattle.std.specs.Prelude.{◌≡◌};
 ghost use Rattle.pb_cases.specs.Roles.{is_earlier_than, earlier};
 
 /// A rank of some N: where a search ended.
-#[derive(Clone, Copy, Debug, PartialEq, Eq)]
+#[derive(Clone, Copy, PartialEq, Eq)]
 pub struct Bad {
     /// The number N.
     pub n: i64,

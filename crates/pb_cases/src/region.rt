@@ -14,7 +14,7 @@ use pb_text::NoMemory;
 use std::alloc::Global;
 
 /// Which ranks two lists of guards single out.
-#[derive(Clone, Copy, PartialEq, Eq)]
+#[derive(Clone, Copy)]
 pub(crate) enum Wanted {
     /// Those of which a guard of each list holds.
     Both,
@@ -23,7 +23,7 @@ pub(crate) enum Wanted {
 }
 
 /// A role and an index.
-#[derive(Clone, Copy, PartialEq, Eq)]
+#[derive(Clone, Copy)]
 pub(crate) struct Rank {
     role: u32,
     index: i64,

@@ -4,7 +4,7 @@ use pb_core_language::Place;
 use pb_rules::At;
 
 /// The number and the place of a statement or a block.
-#[derive(Clone, Copy, Debug)]
+#[derive(Clone, Copy)]
 pub struct Mark {
     pub number: u32,
     pub place: Place,

@@ -1,7 +1,7 @@
 ghost use Rattle.std.specs.Prelude.{◌≡◌};
 
 /// What a rank that is told of a choice finds first in its branches.
-#[derive(Clone, Copy, PartialEq, Eq)]
+#[derive(Clone, Copy)]
 pub enum ChoiceRule {
     /// Rule 10: it finds only receives.
     OnlyReceives,

@@ -1,5 +1,5 @@
 /// What is written of an accepted protocol file.
-#[derive(Clone, Copy, PartialEq, Eq)]
+#[derive(Clone, Copy)]
 pub enum Wanted {
     /// The line `accepted`.
     Verdict,

@@ -9,7 +9,7 @@ use pb_syntax::{End, IndexText, LinText, NoMemory, RangeText, RoleText};
 use pb_text::{Name, Spot};
 
 /// What a name is of.
-#[derive(Clone, Copy, PartialEq, Eq)]
+#[derive(Clone, Copy)]
 pub enum NameKind {
     Constant,
     Protocol,

@@ -2,7 +2,7 @@ use pb_text::{NoMemory, Place};
 use thiserror::Error;
 
 /// Why a file has no core.
-#[derive(Clone, Copy, Debug, PartialEq, Eq, Error)]
+#[derive(Clone, Copy, Debug, Error)]
 pub enum LowerFault {
     /// The least of the rules 1 to 5 that is broken, and the first place in the file at which it is.
     #[error("Broken")]

@@ -4,7 +4,7 @@ use pb_syntax::{CoreKernel, CoreLabel};
 use pb_text::{Name, Place};
 
 /// A role and the range of its indices.
-#[derive(Clone, Copy, PartialEq, Eq)]
+#[derive(Clone, Copy)]
 pub struct CoreRole {
     pub name: Name,
     /// Where its declaration names it.

@@ -7,7 +7,7 @@ use pb_syntax::Op;
 use pb_text::Place;
 
 /// A role with an index: one end of a message, or where something is done.
-#[derive(Clone, Copy, PartialEq, Eq)]
+#[derive(Clone, Copy)]
 pub struct CoreEnd {
     /// The role's number.
     pub role: u32,
@@ -17,7 +17,7 @@ pub struct CoreEnd {
 }
 
 /// From which to which value the variable of a foreach runs.
-#[derive(Clone, Copy, PartialEq, Eq)]
+#[derive(Clone, Copy)]
 pub struct Bounds {
     pub low: Lin,
     pub high: Lin,

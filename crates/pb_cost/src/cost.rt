@@ -22,7 +22,7 @@ pub struct Cost {
 }
 
 /// Why a protocol has no cost.
-#[derive(Clone, Copy, Debug, PartialEq, Eq, Error)]
+#[derive(Clone, Copy, Debug, Error)]
 pub enum CostFault {
     /// It has a loop; the place is that of the first.
     #[error("HasLoop")]

@@ -7,7 +7,7 @@ use pb_text::NoMemory;
 use std::alloc::Global;
 
 /// A line `a * N + b` for N from `from` to `to`, or without an upper end.
-#[derive(Clone, Copy, PartialEq, Eq)]
+#[derive(Clone, Copy)]
 pub struct Piece {
     pub from: i64,
     pub to: Option<i64>,

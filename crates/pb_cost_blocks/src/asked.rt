@@ -7,21 +7,21 @@ use pb_core_language::{CoreLabel, Payload};
 use pb_cost_joins::{Join, Span};
 
 /// The least or the most.
-#[derive(Clone, Copy, Debug, PartialEq, Eq)]
+#[derive(Clone, Copy)]
 pub enum Way {
     Least,
     Most,
 }
 
 /// What is counted of a message: that it is one, or its words.
-#[derive(Clone, Copy, Debug, PartialEq, Eq)]
+#[derive(Clone, Copy)]
 pub enum Counted {
     Messages,
     Words,
 }
 
 /// One of the four counts, on these numbers.
-#[derive(Clone, Copy, Debug, PartialEq, Eq)]
+#[derive(Clone, Copy)]
 pub struct Asked {
     pub way: Way,
     pub what: Counted,

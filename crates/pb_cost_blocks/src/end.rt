@@ -1,7 +1,7 @@
 ghost use Rattle.std.specs.Prelude.{◌≤ℤ◌, pos, negsuc};
 
 /// An end of a foreach: what it is at a span's first number, and by how much it grows with each number.
-#[derive(Clone, Copy, PartialEq, Eq)]
+#[derive(Clone, Copy)]
 pub(crate) struct End {
     pub(crate) start: i64,
     pub(crate) slope: i64,

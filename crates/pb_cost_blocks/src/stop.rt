@@ -1,7 +1,7 @@
 use thiserror::Error;
 
 /// Why a count isn't told.
-#[derive(Clone, Copy, Debug, PartialEq, Eq, Error)]
+#[derive(Clone, Copy, Debug, Error)]
 pub enum Stop {
     /// The first statements of some block, or the first branches of some choice, have more than 4,096 pieces.
     #[error("TooManyPieces")]

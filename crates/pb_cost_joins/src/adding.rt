@@ -85,7 +85,7 @@ fn add_sum(builder: &mut Builder, a: Ray, b: Ray, span: Span) -> Result<(), NoMe
 }
 
 /// A line, however steep.
-#[derive(Clone, Copy, PartialEq, Eq)]
+#[derive(Clone, Copy)]
 struct Steep {
     start: i64,
     slope: i64,

@@ -2,7 +2,7 @@ use pb_cost_pieces::NoMemory;
 use thiserror::Error;
 
 /// Why two counts aren't joined.
-#[derive(Clone, Copy, Debug, PartialEq, Eq, Error)]
+#[derive(Clone, Copy, Debug, Error)]
 pub enum CountFault {
     /// Their weights are more than 4,100,000 together.
     #[error("TooHeavy")]

@@ -1,7 +1,7 @@
 ghost use Rattle.std.specs.Prelude.{◌≡◌, ◌≤ℤ◌, ◌*ℤ◌, pos, negsuc};
 
 /// A line from a number on: it starts with `start`, and grows by `slope` with each number.
-#[derive(Clone, Copy, PartialEq, Eq)]
+#[derive(Clone, Copy)]
 pub struct Ray {
     pub start: i64,
     pub slope: i64,

@@ -4,7 +4,7 @@ use crate::ray::Ray;
 
 /// Numbers from `from` to `to`, on which a function is the line that starts with `start` and grows by `slope` with each
 /// number.
-#[derive(Clone, Copy, PartialEq, Eq)]
+#[derive(Clone, Copy)]
 pub struct Stretch {
     pub from: i64,
     pub to: i64,

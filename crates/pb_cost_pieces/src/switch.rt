@@ -6,7 +6,7 @@ use crate::crossing::stays_below;
 use crate::ray::Ray;
 
 /// A line for so many numbers, and then another; None where the first one goes on for ever.
-#[derive(Clone, Copy, PartialEq, Eq)]
+#[derive(Clone, Copy)]
 pub struct Switch {
     pub kept: Ray,
     pub other: Ray,

@@ -22,7 +22,7 @@ use pb_text::Place;
 use std::alloc::Global;
 
 /// What a line of main's statements does.
-#[derive(Clone, Copy, Debug, PartialEq, Eq)]
+#[derive(Clone, Copy)]
 pub enum Step {
     /// It goes on.
     On,

@@ -10,7 +10,7 @@ use pb_text_read::{number, strip};
 const LIMIT: u128 = 4_294_967_296;
 
 /// Why a part can't be read.
-#[derive(Clone, Copy, Debug, PartialEq, Eq)]
+#[derive(Clone, Copy)]
 pub(crate) enum Stop {
     /// No part stands here.
     Unread,

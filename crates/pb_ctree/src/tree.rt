@@ -1,7 +1,7 @@
 use crate::Local;
 
 /// The number `a * N + b`.
-#[derive(Clone, Copy, PartialEq, Eq)]
+#[derive(Clone, Copy)]
 pub struct Formula {
     pub a: i64,
     pub b: i64,

@@ -2,7 +2,7 @@ ghost use Rattle.std.specs.Prelude.{◌≡◌, ℕ, ◌+◌, ◌<◌, ◌≤◌,
 ghost use Rattle.pb_diff.specs.Systems.{with_constraint, has_pair, is_on, at};
 
 /// `a - b <= c`, for the variables a and b.
-#[derive(Clone, Copy, PartialEq, Eq)]
+#[derive(Clone, Copy)]
 pub struct Constraint {
     pub a: u8,
     pub b: u8,

@@ -5,7 +5,7 @@ ghost use Rattle.pb_diff_apart.specs.Terms.{IsTerm, term_value, variable_of};
 use pb_affine::{Base, Lin};
 
 /// The number of a system's variable, plus an offset. Variable 0 is 0, variable 1 is N, and variable 2 the index.
-#[derive(Clone, Copy, PartialEq, Eq)]
+#[derive(Clone, Copy)]
 pub(crate) struct Term {
     pub(crate) variable: u8,
     pub(crate) offset: i64,

@@ -8,7 +8,7 @@ use thiserror::Error;
 
 /// Why a file can't be inlined. Of the variants up to `Cycle` the earliest counts, with its first place in the order of the
 /// file. `TooMany` comes after these.
-#[derive(Clone, Copy, Debug, PartialEq, Eq, Error)]
+#[derive(Clone, Copy, Debug, Error)]
 pub enum DoFault {
     /// A subprotocol has the name of an earlier one, or a parameter the name of an earlier one of its list. The place is
     /// that of the later name.

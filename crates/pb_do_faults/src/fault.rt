@@ -3,7 +3,7 @@ use std::alloc::AllocFailed;
 use thiserror::Error;
 
 /// What is wrong with the calls of a file. The earlier variant counts, with its first place in the order of the file.
-#[derive(Clone, Copy, Debug, PartialEq, Eq, Error)]
+#[derive(Clone, Copy, Debug, Error)]
 pub enum CallFault {
     /// A subprotocol has the name of an earlier one, or a parameter the name of an earlier one of its list.
     #[error("Twice")]

@@ -2,7 +2,7 @@ use pb_text::{NoMemory, Place, Quantity};
 use std::alloc::AllocFailed;
 
 /// Why inlining stops.
-#[derive(Clone, Copy, Debug, PartialEq, Eq)]
+#[derive(Clone, Copy)]
 pub enum Halt {
     /// This limit is passed, by this statement of the protocol or by what comes of it.
     TooMany(Quantity, Place),

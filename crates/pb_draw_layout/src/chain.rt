@@ -6,7 +6,7 @@ use pb_text::NoMemory;
 use std::alloc::Global;
 
 /// An event of the longest chain.
-#[derive(Clone, Copy, PartialEq, Eq)]
+#[derive(Clone, Copy)]
 pub struct Link {
     /// Its place among the events that are drawn.
     pub index: usize,

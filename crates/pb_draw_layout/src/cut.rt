@@ -7,7 +7,7 @@ use pb_text::NoMemory;
 use std::alloc::Global;
 
 /// Which events are asked for, and how many of them are drawn.
-#[derive(Clone, Copy, PartialEq, Eq)]
+#[derive(Clone, Copy)]
 pub struct Cut {
     /// The line of the first event, counted from 1.
     pub from: u32,

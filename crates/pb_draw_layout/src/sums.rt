@@ -9,7 +9,7 @@ use std::alloc::Global;
 const MOST_LABELS: usize = 8;
 
 /// What is sent of one label.
-#[derive(Clone, Copy, Debug, PartialEq, Eq)]
+#[derive(Clone, Copy)]
 pub struct Sum {
     /// The label, by its place among the log's names.
     pub name: u32,

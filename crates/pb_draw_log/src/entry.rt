@@ -40,7 +40,7 @@ pub struct Step {
 }
 
 /// An action of a log.
-#[derive(Clone, Copy, Debug, PartialEq, Eq)]
+#[derive(Clone, Copy, Debug)]
 pub struct Entry {
     /// What is done.
     pub step: Step,

@@ -5,7 +5,7 @@ use pb_text::NoMemory;
 use thiserror::Error;
 
 /// Why bytes are no log. Lines are counted from 1.
-#[derive(Clone, Copy, Debug, PartialEq, Eq, Error)]
+#[derive(Clone, Copy, Debug, Error)]
 pub enum LogFault {
     /// The first line that is in no form of a log.
     #[error("BadLine")]

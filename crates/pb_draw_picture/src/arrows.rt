@@ -11,14 +11,14 @@ use pb_text::NoMemory;
 use std::alloc::Global;
 
 /// A point, in pixels from the left and from above.
-#[derive(Clone, Copy, PartialEq, Eq)]
+#[derive(Clone, Copy)]
 pub struct Point {
     pub x: u64,
     pub y: u64,
 }
 
 /// Whether the other end of a message is in the log.
-#[derive(Clone, Copy, PartialEq, Eq)]
+#[derive(Clone, Copy)]
 pub enum Form {
     /// It is.
     Closed,
@@ -27,7 +27,7 @@ pub enum Form {
 }
 
 /// An arrow.
-#[derive(Clone, Copy, PartialEq, Eq)]
+#[derive(Clone, Copy)]
 pub struct Arrow {
     /// The event that it begins at, or ends at, by its place among those that are drawn.
     pub index: usize,
@@ -97,7 +97,7 @@ fn whole(scale: &Scale, layout: &Layout, index: usize, mate: usize) -> Option<Ar
 }
 
 /// The drawn end of a message whose other end isn't drawn, and how its arrow lies.
-#[derive(Clone, Copy, PartialEq, Eq)]
+#[derive(Clone, Copy)]
 struct Loose {
     /// The event.
     here: Point,

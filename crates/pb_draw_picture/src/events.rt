@@ -8,7 +8,7 @@ use pb_draw_log::Deed;
 use pb_text::NoMemory;
 
 /// The forms that marks have. Marks of one form stand together.
-#[derive(Clone, Copy, PartialEq, Eq)]
+#[derive(Clone, Copy)]
 enum Form {
     /// A dot, for a send and a receive.
     Dot,

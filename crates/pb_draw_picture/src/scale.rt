@@ -9,7 +9,7 @@ pub const LETTER: u64 = 6;
 const TOP: u64 = 48;
 
 /// Where rows and columns are, in pixels from the left and from above.
-#[derive(Clone, Copy, PartialEq, Eq)]
+#[derive(Clone, Copy)]
 pub struct Scale {
     /// Where the lines of the ranks begin.
     pub left: u64,

@@ -7,7 +7,7 @@ use pb_text::NoMemory;
 use std::alloc::Global;
 
 /// How much is sent.
-#[derive(Clone, Copy, PartialEq, Eq)]
+#[derive(Clone, Copy)]
 pub struct Count {
     pub messages: u64,
     pub words: u64,

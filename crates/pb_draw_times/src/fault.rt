@@ -5,7 +5,7 @@ use pb_text::NoMemory;
 use thiserror::Error;
 
 /// Why actions have no times.
-#[derive(Clone, Copy, Debug, PartialEq, Eq, Error)]
+#[derive(Clone, Copy, Debug, Error)]
 pub enum TimesFault {
     /// No order was found in which each action comes behind those that it waits for.
     #[error("Circle")]

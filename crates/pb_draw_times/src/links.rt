@@ -10,7 +10,7 @@ use pb_text::NoMemory;
 use std::alloc::Global;
 
 /// One collective: the one behind so many of its name, of each rank.
-#[derive(Clone, Copy, Debug, PartialEq, Eq, Hash)]
+#[derive(Clone, Copy, PartialEq, Eq, Hash)]
 pub struct Joint {
     pub name: u32,
     pub number: usize,

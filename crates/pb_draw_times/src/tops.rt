@@ -8,7 +8,7 @@ use pb_text::NoMemory;
 use std::alloc::Global;
 
 /// An action and its time.
-#[derive(Clone, Copy, Debug, PartialEq, Eq)]
+#[derive(Clone, Copy)]
 pub struct Top {
     pub time: u32,
     pub place: usize,

@@ -14,7 +14,7 @@ use std::alloc::Global;
 pub const MOST_FILE_BYTES: u32 = 1_048_576;
 
 /// Why a file gives no bytes once more.
-#[derive(Clone, Copy, PartialEq, Eq)]
+#[derive(Clone, Copy)]
 pub enum Loss {
     /// It has more bytes than it may have.
     TooLong,

@@ -2,7 +2,7 @@ ghost use Rattle.std.specs.Prelude.{◌≡◌};
 ghost use Rattle.pb_explain_source.specs.Pages.{after_byte, after_blank, after_colon, after_digit, after_word};
 
 /// What a page ends with, as far as it may come to tell a place.
-#[derive(Clone, Copy, PartialEq, Eq)]
+#[derive(Clone, Copy)]
 pub enum Tail {
     /// Nothing that a place begins with.
     Other,

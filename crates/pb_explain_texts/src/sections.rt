@@ -1,7 +1,7 @@
 //! What stands where in a C text.
 
 /// A part of a C text.
-#[derive(Clone, Copy, PartialEq)]
+#[derive(Clone, Copy)]
 enum Section {
     /// The names of roles and labels.
     Tables,

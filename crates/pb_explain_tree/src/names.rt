@@ -6,7 +6,7 @@ use pb_text::{Name, NoMemory, Spot};
 use std::alloc::Global;
 
 /// What a name stands for.
-#[derive(Clone, Copy, PartialEq)]
+#[derive(Clone, Copy)]
 pub enum Kind {
     Constant,
     Protocol,
@@ -19,7 +19,7 @@ pub enum Kind {
 }
 
 /// What a name does where it stands.
-#[derive(Clone, Copy, PartialEq)]
+#[derive(Clone, Copy)]
 pub enum Duty {
     /// It declares the constant, the protocol or a role.
     Declares,

@@ -1,5 +1,5 @@
 /// A command.
-#[derive(Clone, Copy, PartialEq)]
+#[derive(Clone, Copy)]
 pub enum Verb {
     Check,
     Project,

@@ -2,7 +2,7 @@ use crate::command::Verb;
 use crate::numbers::number_in;
 
 /// An option.
-#[derive(Clone, Copy, PartialEq)]
+#[derive(Clone, Copy)]
 pub enum Choice {
     N,
     Seed,

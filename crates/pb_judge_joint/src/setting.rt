@@ -7,7 +7,7 @@ use pb_syntax::Payload;
 use pb_text::Joint;
 
 /// A collective, with the numbers of its label and its root.
-#[derive(Clone, Copy, Debug, PartialEq, Eq)]
+#[derive(Clone, Copy)]
 pub enum Collective {
     Barrier,
     Broadcast { label: u32, root: u32 },

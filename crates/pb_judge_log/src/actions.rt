@@ -15,7 +15,7 @@ use pb_text::{Action, Joint, NoMemory, Words};
 use std::alloc::Global;
 
 /// What a rank does, by the second field of its line.
-#[derive(Clone, Copy, PartialEq, Eq)]
+#[derive(Clone, Copy)]
 pub enum Verb {
     Choose,
     Run,
@@ -26,7 +26,7 @@ pub enum Verb {
 }
 
 /// An action without its rank and its words.
-#[derive(Clone, Copy, Debug, PartialEq, Eq)]
+#[derive(Clone, Copy)]
 pub enum Deed {
     Choose { kernel: u32, answer: u32 },
     Run { kernel: u32 },

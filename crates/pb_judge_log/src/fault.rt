@@ -5,7 +5,7 @@ use pb_text::NoMemory;
 use thiserror::Error;
 
 /// Why bytes are no log. Lines are counted from 1, up to 4,294,967,295.
-#[derive(Clone, Copy, Debug, PartialEq, Eq, Error)]
+#[derive(Clone, Copy, Debug, Error)]
 pub enum LogFault {
     /// The first line that isn't in the form of a log.
     #[error("BadLine")]

@@ -5,7 +5,7 @@ use std::alloc::Global;
 use std::marker::Model;
 
 /// The actions of a log in order, each with the number of its line.
-#[derive(Debug, Drop)]
+#[derive(Drop)]
 pub struct Log {
     entries: Vec<(u32, Action)>,
 }

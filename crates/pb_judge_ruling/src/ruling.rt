@@ -1,5 +1,5 @@
 /// What a log is, beside the sequential run under its own answers.
-#[derive(Clone, Copy, PartialEq, Eq)]
+#[derive(Clone, Copy)]
 pub enum Ruling {
     /// The run ends, and each rank has done its part of it.
     Whole,

@@ -9,7 +9,7 @@ use pb_judge_lists::Lists;
 use pb_text::Action;
 
 /// The first entry that a rank has left, by its line, where the rank does something else.
-#[derive(Clone, Copy, Debug, PartialEq, Eq)]
+#[derive(Clone, Copy)]
 pub struct Difference {
     pub rank: u32,
     pub line: u32,

@@ -1,5 +1,5 @@
 /// How the walk over a statement or a block ends.
-#[derive(Clone, Copy, PartialEq, Eq)]
+#[derive(Clone, Copy)]
 pub enum Flow {
     /// What stands behind it comes next.
     Passed,

@@ -7,7 +7,7 @@ use std::alloc::AllocFailed;
 use thiserror::Error;
 
 /// Why bytes are no text, and where. The first fault in text order is named.
-#[derive(Clone, Copy, Debug, PartialEq, Eq, Error)]
+#[derive(Clone, Copy, Debug, Error)]
 pub enum LexError {
     /// A byte that begins no token.
     #[error("BadByte")]
@@ -24,7 +24,7 @@ pub enum LexError {
 }
 
 /// Why there are no tokens.
-#[derive(Clone, Copy, Debug, PartialEq, Eq, Error)]
+#[derive(Clone, Copy, Debug, Error)]
 pub enum LexFault {
     /// The bytes are no text.
     #[error("Bad")]

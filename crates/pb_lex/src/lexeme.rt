@@ -10,7 +10,7 @@ use crate::word::{begins_word, word};
 use pb_text::{Key, Mark};
 
 /// Why a text begins with no lexeme.
-#[derive(Clone, Copy, Debug, PartialEq, Eq)]
+#[derive(Clone, Copy)]
 pub enum Fault {
     BadByte,
     OpenComment,
@@ -19,7 +19,7 @@ pub enum Fault {
 }
 
 /// What some bytes are.
-#[derive(Clone, Copy, PartialEq, Eq)]
+#[derive(Clone, Copy)]
 pub enum Sort {
     /// Blanks, or a comment up to its end.
     Gap,
@@ -33,7 +33,7 @@ pub enum Sort {
 }
 
 /// What a text begins with, and of how many bytes it is.
-#[derive(Clone, Copy, PartialEq, Eq)]
+#[derive(Clone, Copy)]
 pub struct Lexeme {
     pub sort: Sort,
     pub len: usize,

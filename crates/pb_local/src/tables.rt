@@ -1,7 +1,7 @@
 use crate::{CoreKernel, CoreLabel, Lin, NRange, Name, Payload, Stmt};
 
 /// A role with its range of indices. Its ends have no variable.
-#[derive(Clone, Copy, PartialEq, Eq)]
+#[derive(Clone, Copy)]
 pub struct Role {
     pub name: Name,
     /// The least index.

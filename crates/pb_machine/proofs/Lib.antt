@@ -3,4 +3,3 @@ pub mod Views
 pub mod Ranges
 pub mod Counting
 pub mod Phases
-pub mod Samples

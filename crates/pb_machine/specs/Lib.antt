@@ -2,4 +2,3 @@ pub mod Acts
 pub mod Seats
 pub mod Sizes
 pub mod Steps
-pub mod Sample

@@ -56,7 +56,7 @@ pub enum Next {
 }
 
 /// What a step gets from outside.
-#[derive(Clone, Copy, PartialEq, Eq)]
+#[derive(Clone, Copy)]
 pub enum Input {
     /// Nothing.
     Plain,

@@ -1,7 +1,7 @@
 use crate::Op;
 
 /// A collective call, with all that the ranks have to agree on.
-#[derive(Clone, Copy, Debug, PartialEq, Eq)]
+#[derive(Clone, Copy)]
 pub enum Call {
     Barrier,
     Broadcast { label: u32, root: u32 },

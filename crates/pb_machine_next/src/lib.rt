@@ -15,11 +15,9 @@ mod step;
 pub use ahead::{Ahead, Go};
 pub use call::Call;
 pub use me::Me;
-pub use numbers::tested;
+pub use numbers::{guard_holds, some_holds, source, tested};
 pub use pb_ctree::{Formula, Op, Stmt, Test};
+pub use peers::peer;
 pub use probe::tests_at;
 pub use state::State;
 pub use step::Step;
-
-#[cfg(test)]
-mod tests;

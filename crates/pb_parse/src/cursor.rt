@@ -13,7 +13,7 @@ use pb_text::{Key, MOST_NUMBER, Mark, Token, TokenKind};
 use std::alloc::AllocFailed;
 
 /// Why a form can't be read.
-#[derive(Clone, Copy, Debug, PartialEq, Eq)]
+#[derive(Clone, Copy)]
 pub enum Stop {
     /// The next token doesn't go on, or there is none.
     Unexpected,

@@ -7,7 +7,7 @@ use thiserror::Error;
 
 /// Why there is no tree. A lexical fault comes before all others. Then the earliest token counts, and at one token the
 /// earlier variant.
-#[derive(Clone, Copy, Debug, PartialEq, Eq, Error)]
+#[derive(Clone, Copy, Debug, Error)]
 pub enum ParseFault {
     /// The first lexical fault of the bytes.
     #[error("Lex")]

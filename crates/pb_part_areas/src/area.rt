@@ -9,7 +9,7 @@ use pb_affine::Lin;
 
 /// The ranks of one role whose index lies from `low` on and before `end`, for the N from `from` on and before `until`.
 /// The lins have no variable; one that has counts with 0 for it.
-#[derive(Clone, Copy, Debug, PartialEq, Eq)]
+#[derive(Clone, Copy)]
 pub struct Area {
     /// The role's number.
     pub role: u32,

@@ -9,7 +9,7 @@ use crate::numbers::{is_param, meet};
 use pb_affine::Lin;
 
 /// Two areas.
-#[derive(Clone, Copy, Debug, PartialEq, Eq)]
+#[derive(Clone, Copy)]
 pub struct Two {
     pub first: Area,
     pub second: Area,

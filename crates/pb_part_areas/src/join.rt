@@ -13,7 +13,7 @@ use crate::empty::{is_empty, is_open, is_upright, tightened};
 use pb_text::NoMemory;
 
 /// An area of a list, put together with one more.
-#[derive(Clone, Copy, PartialEq, Eq)]
+#[derive(Clone, Copy)]
 struct Join {
     place: usize,
     area: Area,

@@ -14,14 +14,14 @@ use pb_text::NoMemory;
 use std::alloc::Global;
 
 /// What the rank at an end finds there: to send or to compute, or a message of a sender.
-#[derive(Clone, Copy, PartialEq, Eq)]
+#[derive(Clone, Copy)]
 pub(crate) enum Finding {
     Acts,
     Gets { source: CoreEnd, label: u32 },
 }
 
 /// An end of an item of a foreach.
-#[derive(Clone, Copy, PartialEq, Eq)]
+#[derive(Clone, Copy)]
 pub(crate) struct Visit {
     pub(crate) end: CoreEnd,
     pub(crate) finding: Finding,

@@ -16,14 +16,14 @@ pub struct Seat {
 }
 
 /// An end as it stands in the file, with the seat that it asks for.
-#[derive(Clone, Copy, Debug, PartialEq, Eq)]
+#[derive(Clone, Copy)]
 pub struct Asked {
     pub mark: Mark,
     pub seat: Seat,
 }
 
 /// The ends of a statement.
-#[derive(Clone, Copy, Debug, PartialEq, Eq)]
+#[derive(Clone, Copy)]
 pub enum Ends {
     None,
     One(Asked),
@@ -32,14 +32,14 @@ pub enum Ends {
 }
 
 /// Where a statement comes from.
-#[derive(Clone, Copy, Debug, PartialEq, Eq)]
+#[derive(Clone, Copy)]
 pub struct Origin {
     pub mark: Mark,
     pub ends: Ends,
 }
 
 /// A collective, with all that the ranks have to agree on. Roots are rank numbers.
-#[derive(Clone, Copy, Debug, PartialEq, Eq)]
+#[derive(Clone, Copy)]
 pub enum Collective {
     Barrier,
     Broadcast { label: u32, root: u64 },
@@ -48,7 +48,7 @@ pub enum Collective {
 }
 
 /// A flat protocol: each statement with what is done after it. Ends are rank numbers.
-#[derive(Debug, Drop)]
+#[derive(Drop)]
 #[cycle(flat)]
 pub enum Flat {
     Stop,
@@ -89,7 +89,7 @@ pub enum Flat {
 }
 
 /// The branches of a choice.
-#[derive(Debug, Drop)]
+#[derive(Drop)]
 #[cycle(flat)]
 pub enum Branches {
     None,

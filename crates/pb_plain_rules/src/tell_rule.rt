@@ -7,7 +7,7 @@ use crate::{NoMemory, Outcome};
 use std::alloc::Global;
 
 /// A rule on what a rank that is told of a choice finds first in its branches.
-#[derive(Clone, Copy, PartialEq, Eq)]
+#[derive(Clone, Copy)]
 pub enum TellRule {
     /// It finds only receives.
     ReceivesOnly,

@@ -20,7 +20,7 @@ use pb_text::NoMemory;
 use std::alloc::Global;
 
 /// What the ranks find first in a branch.
-#[derive(Debug, Drop)]
+#[derive(Drop)]
 pub struct Branch {
     pub entries: Vec<Entry>,
 }

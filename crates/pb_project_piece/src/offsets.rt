@@ -9,7 +9,7 @@ use pb_text::NoMemory;
 use std::alloc::Global;
 
 /// An offset.
-#[derive(Clone, Copy, PartialEq, Eq)]
+#[derive(Clone, Copy)]
 pub struct Off {
     pub off: i32,
 }

@@ -2,7 +2,7 @@ use pb_core_language::Place;
 use thiserror::Error;
 
 /// A rank, or a role with an index that lies outside its range.
-#[derive(Clone, Copy, Debug, PartialEq, Eq)]
+#[derive(Clone, Copy, Debug)]
 pub struct At {
     /// The role's number.
     pub role: u32,
@@ -10,7 +10,7 @@ pub struct At {
 }
 
 /// Why a protocol isn't accepted.
-#[derive(Clone, Copy, Debug, PartialEq, Eq, Error)]
+#[derive(Clone, Copy, Debug, Error)]
 pub enum RuleFault {
     /// A rule is broken: the least rule, at its first place, with the least N that breaks it there, and then the least role
     /// and index, where the rule speaks of one.

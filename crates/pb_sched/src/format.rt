@@ -1,5 +1,5 @@
 /// The format of a schedule's text.
-#[derive(Clone, Copy, PartialEq, Eq)]
+#[derive(Clone, Copy)]
 pub enum Format {
     /// A rank for each event, and each event is eager.
     One,

@@ -48,7 +48,7 @@ pub fn pick_mode(seed: u64, turn: u64) -> Mode
 }
 
 /// What is drawn for an event.
-#[derive(Clone, Copy, PartialEq, Eq)]
+#[derive(Clone, Copy)]
 pub struct Draw {
     /// What picks the rank.
     pub word: u32,

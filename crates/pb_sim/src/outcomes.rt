@@ -34,7 +34,7 @@ impl From<NoMemory> for StepFault {
 }
 
 /// Why a tree can't be simulated for an N.
-#[derive(Clone, Copy, Debug, PartialEq, Eq, Error)]
+#[derive(Clone, Copy, Debug, Error)]
 pub enum SimFault {
     /// N isn't in the tree's range.
     #[error("OutOfRange")]

@@ -1,5 +1,5 @@
 /// Why a rank has no step, or what was left.
-#[derive(Clone, Copy, PartialEq, Eq)]
+#[derive(Clone, Copy)]
 pub enum Cause {
     /// It waits for a message from this rank with this label.
     Receive { from: u32, label: u32 },
@@ -18,7 +18,7 @@ pub enum Cause {
 }
 
 /// How a world stands.
-#[derive(Clone, Copy, PartialEq, Eq)]
+#[derive(Clone, Copy)]
 pub enum Standing {
     /// Some rank has a step.
     Going,

@@ -6,7 +6,7 @@ use pb_syntax::Op;
 use pb_text::Joint;
 
 /// A collective call, with all that the ranks have to agree on.
-#[derive(Clone, Copy, Debug)]
+#[derive(Clone, Copy)]
 pub enum Call {
     Barrier,
     Broadcast { label: u32, root: u32 },

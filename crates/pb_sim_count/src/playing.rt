@@ -11,7 +11,7 @@ use pb_text::{MOST_EVENTS, Mode};
 use std::alloc::Global;
 
 /// Why no more events are made.
-#[derive(Clone, Copy, Debug, PartialEq, Eq)]
+#[derive(Clone, Copy)]
 pub enum Stop {
     /// All events were made, or nobody has a step.
     Made,

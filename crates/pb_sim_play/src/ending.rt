@@ -1,7 +1,7 @@
 use pb_sim::Cause;
 
 /// How a simulation ended.
-#[derive(Clone, Copy, PartialEq, Eq)]
+#[derive(Clone, Copy)]
 pub enum Ending {
     /// All ranks have ended, and no message is left.
     Ended,

@@ -1,5 +1,5 @@
 /// Why no more events are made.
-#[derive(Clone, Copy, Debug, PartialEq, Eq)]
+#[derive(Clone, Copy)]
 pub enum Stop {
     /// All events were made, or nobody has a step.
     Made,

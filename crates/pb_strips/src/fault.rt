@@ -8,7 +8,7 @@ use thiserror::Error;
 
 /// Why a file with strips can't be flattened. Of the variants up to `Clash` the earliest counts, with its first place in the
 /// order of the file. `TooMany` comes after these.
-#[derive(Clone, Copy, Debug, PartialEq, Eq, Error)]
+#[derive(Clone, Copy, Debug, Error)]
 pub enum StripFault {
     /// The columns of a strip don't ascend, or go beyond 63. The place is that of the role's name.
     #[error("Width")]

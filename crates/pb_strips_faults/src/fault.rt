@@ -4,7 +4,7 @@ use pb_text::{NoMemory, Place};
 use thiserror::Error;
 
 /// What is wrong with the strips of a file. The earliest variant counts, with its first place in the order of the file.
-#[derive(Clone, Copy, Debug, PartialEq, Eq, Error)]
+#[derive(Clone, Copy, Debug, Error)]
 pub enum ColumnFault {
     /// The columns of a strip don't ascend, or go beyond 63. The place is that of the role's name.
     #[error("Width")]

@@ -2,7 +2,7 @@ use pb_text::{NoMemory, Place};
 use std::alloc::AllocFailed;
 
 /// Why a walk stops.
-#[derive(Clone, Copy, Debug, PartialEq, Eq)]
+#[derive(Clone, Copy)]
 pub enum Stop {
     /// What comes from this place is one too many.
     TooMany(Place),

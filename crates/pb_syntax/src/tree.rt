@@ -1,7 +1,7 @@
 use pb_text::{Place, Spot};
 
 /// The upper end of the constant's range.
-#[derive(Clone, Copy, PartialEq, Eq)]
+#[derive(Clone, Copy)]
 pub enum High {
     Upto(u32),
     Max,
@@ -16,7 +16,7 @@ pub enum Payload {
 }
 
 /// The operation of a reduction (MPI 3.1, 5.9.2).
-#[derive(Clone, Copy, Debug, PartialEq, Eq)]
+#[derive(Clone, Copy, PartialEq, Eq)]
 pub enum Op {
     Min,
     Max,

@@ -1,7 +1,7 @@
 use crate::Words;
 
 /// What a collective is known by in a log.
-#[derive(Clone, Copy, Debug, PartialEq, Eq)]
+#[derive(Clone, Copy, PartialEq, Eq)]
 pub enum Joint {
     Barrier,
     /// The label's number.
@@ -9,7 +9,7 @@ pub enum Joint {
 }
 
 /// One action of one rank. Ranks, labels and kernels are given by their numbers.
-#[derive(Debug, Drop)]
+#[derive(Drop)]
 pub enum Action {
     /// The kernel chose the branch with the number `answer`.
     Choose {

@@ -8,7 +8,7 @@ pub struct Place {
 }
 
 /// A name where it stands in a file.
-#[derive(Clone, Copy, PartialEq, Eq)]
+#[derive(Clone, Copy)]
 pub struct Spot {
     pub name: Name,
     pub place: Place,

@@ -1,5 +1,5 @@
 /// What a limit is on.
-#[derive(Clone, Copy, Debug, PartialEq, Eq)]
+#[derive(Clone, Copy, Debug)]
 pub enum Quantity {
     /// Bytes of a file.
     FileBytes,

@@ -30,7 +30,7 @@ pub enum Key {
 }
 
 /// A symbol of the language.
-#[derive(Clone, Copy, Debug, PartialEq, Eq)]
+#[derive(Clone, Copy, PartialEq, Eq)]
 pub enum Mark {
     Dots,
     Equals,
@@ -59,7 +59,7 @@ pub enum TokenKind {
 }
 
 /// A token where it begins.
-#[derive(Clone, Copy, PartialEq, Eq)]
+#[derive(Clone, Copy)]
 pub struct Token {
     pub kind: TokenKind,
     pub place: Place,

@@ -3,7 +3,7 @@ ghost use Rattle.std.specs.Prelude.{◌≡◌, List, ℕ};
 use std::marker::Model;
 
 /// The words of a message, in order.
-#[derive(Debug, Drop)]
+#[derive(Drop)]
 pub struct Words {
     list: Vec<u32>,
 }
