@@ -1,5 +1,5 @@
 #!/usr/bin/env bash
-# Gives the text of the reader's tests, and the C text that the built program prints for each protocol of examples/, to gcc
+# Gives the texts of checks/texts, and the C text that the built program prints for each protocol of examples/, to gcc
 # and to clang, where they are installed, with `-std=c99 -pedantic -Wall -Wextra -fsyntax-only`, and prints what they say.
 # Further protocol files may be named.
 #
@@ -54,10 +54,10 @@ compile() {
     done
 }
 
-# The text of the reader's tests, which has every statement, stands there as one constant.
-texts=crates/pb_test_texts/src/statement_tests.rt
-sed -n '/^const TEXT: &str = "/,/^";$/p' "$top/$texts" | sed -e '1s/^const TEXT: &str = "//' -e '$d' -e 's/\\"/"/g' >"$work/text.c"
-compile "$texts"
+for file in "$top"/checks/texts/*.c; do
+    cp "$file" "$work/text.c"
+    compile "$file"
+done
 
 for file in "$top"/examples/*.pbl "$top"/examples/*/*.pbl "$@"; do
     said=$("$program" gen "$file")

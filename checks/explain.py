@@ -4,8 +4,9 @@ that `pabble` runs.
 
 A file there has lines `KEY: VALUE`, then sections, each behind a line `==== NAME`. The keys are `words`, those after the program's
 name, as a shell parts them, with `\\xHH` for a byte; `status`; and, where it is needed, `before`, a command for bash that makes
-more files. The sections are the files of the call, and at the end `said`, what is said on standard error. A line
-`@repeat COUNT LINE` of a file stands for so many lines; in each `<<EXPRESSION>>` is computed with its number k, from 1.
+more files, and `out`, the file that takes what the call writes. The sections are the files of the call, and at the end `said`, what
+is said on standard error. A line `@repeat COUNT LINE` of a file stands for so many lines; in each `<<EXPRESSION>>` is computed with
+its number k, from 1.
 
 Rows named `draft` are protocols as one first writes them, each with what led to the next one. Besides, `check` is silent there on
 every protocol in `examples`, and `check`, `gen` and `project` write and answer the same of each draft with standard error closed.
@@ -55,8 +56,9 @@ def said(program, path):
             subprocess.run(["bash", "-c", keys["before"]], cwd=room, env={**os.environ, "PABBLE": program}, check=True,
                            stderr=subprocess.DEVNULL, timeout=SECONDS)
         words = [word(it) for it in shlex.split(keys.get("words", "").replace("\\", "\\\\"))]
-        done = subprocess.run([program, *words], cwd=room, stdin=subprocess.DEVNULL, stdout=subprocess.DEVNULL, stderr=subprocess.PIPE,
-                              timeout=SECONDS)
+        with open(keys.get("out", os.devnull), "wb") as out:
+            done = subprocess.run([program, *words], cwd=room, stdin=subprocess.DEVNULL, stdout=out, stderr=subprocess.PIPE,
+                                  timeout=SECONDS)
     return done.returncode, done.stderr.decode(errors="replace")
 
 

@@ -13,11 +13,13 @@ from pathlib import Path
 TOP = Path(__file__).resolve().parent.parent
 HEAD = "const N = 2..max;\nglobal protocol P(role W[0..N-1]) {\n"
 FILE_BYTES, TEXT_BYTES, EVENTS = 1_048_576, 67_108_864, 1_000_000
-USAGE, LIMIT, TEXT, SCHEDULE, TURNS = 2, 5, 8, 9, 11
+SYNTAX, USAGE, LIMIT, TEXT, SCHEDULE, TURNS, CALL = 1, 2, 5, 8, 9, 11, 14
 PROCESSES, SECONDS, SHOWN = 4, 120, 10
 KERNELS = "/*@ prelude */\n/*@ end */\n"
 ENDLESS = f"{HEAD}rec X {{ A(uint32[1024]) from W[0] to W[1]; continue X; }}\n}}\n"
 MESSAGE = f"{HEAD}A() from W[0] to W[1];\n}}\n"
+COMPUTES = f"{HEAD}  compute K at W[0];\n}}\n"
+KERNEL = '/*@ kernel k_K */\n  if (N > 2) { puts("}"); }\n/*@ end */\n'
 TO_ALL, OR = "from W[0] to W[i:1..N-1];", "\n} or {\n"
 FIRST, SECOND = f"choice K at W[0] {{\nA() {TO_ALL}\n", f"}} or {{\nB() {TO_ALL}\n}}\n"
 
@@ -59,33 +61,34 @@ class Room:
         path.write_text(text)
         return path
 
-    def asks(self, status, last, *words):
-        """These words end with this status, and a last line with this front."""
-        self.cases.append((status, last, [self.program, *map(str, words)]))
+    def asks(self, status, last, *words, fronts=()):
+        """These words end with this status, and a last line with this front; so many lines have each of the fronts."""
+        self.cases.append((status, last, [self.program, *map(str, words)], dict(fronts)))
 
     def text(self, protocol):
         return subprocess.run([self.program, "gen", self.file(protocol)], capture_output=True, text=True, check=True).stdout
 
     def failure(self, case):
-        status, last, words = case
+        status, last, words, fronts = case
         with tempfile.TemporaryFile() as out:
             try:
                 code = subprocess.run(words, stdout=out, stderr=subprocess.DEVNULL, timeout=SECONDS).returncode
             except subprocess.TimeoutExpired:
                 return f"{words[1:]}: no answer in {SECONDS} seconds"
-            out.seek(max(0, out.tell() - 4096))
+            out.seek(0 if fronts else max(0, out.tell() - 4096))
             lines = out.read().decode(errors="replace").splitlines()
-        if code == status and (last is None or lines[-1:] and lines[-1].startswith(last)):
+        counts = {front: sum(line.startswith(front) for line in lines) for front in fronts}
+        if code == status and counts == fronts and (last is None or lines[-1:] and lines[-1].startswith(last)):
             return None
-        return f"{words[1:]}: {code} {lines[-1:]}, and not {status} {last}"
+        return f"{words[1:]}: {code} {lines[-1:]} {counts}, and not {status} {last} {fronts}"
 
 
 def of_protocols(room):
     kernels = room.file(KERNELS)
     for line, most, past, n in protocols():
         most, past = room.file(most), room.file(past)
-        for command in ("check", "project", "gen"):
-            room.asks(0, None, command, most)
+        for command, last in (("check", "accepted"), ("project", "done"), ("gen", "}")):
+            room.asks(0, last, command, most)
             room.asks(LIMIT, line, command, past)
         room.asks(LIMIT, line, "gen", past, kernels)
         room.asks(LIMIT, line, "run", past, "--n", "2")
@@ -99,6 +102,57 @@ def of_protocols(room):
             room.asks(0, "ended", "run", most, "--n", n)
 
 
+def turning(more=""):
+    """A choice between two blocks of which the one sends less by turns, and then the other: both send words from rank to rank, the
+    first block a word for each rank from 16 on, the second two for each from 24 on, the first two more for each from 40 on, and so
+    on. So the least of the two turns at each of these 1,365 numbers, and once between any two."""
+    def block(label, which):
+        words = (f"B(int32[2]) from W[i:{16 * at + 8}..N-1] to W[0];" if at else "A(int32) from W[i:16..N-1] to W[0];" for at in range(1365))
+        return "\n".join([f"{label}() {TO_ALL}", *([more] if which else []), *list(words)[which::2]])
+    return f"choice K at W[0] {{\n{block('Go', 0)}{OR}{block('Stop', 1)}\n}}\n"
+
+
+def of_pieces(room):
+    """The second choice turns at the numbers of the first, and elsewhere between them, as its second block sends four words more.
+    Behind the two, each message of one word for all ranks from a number on adds a piece. The first choice's least turns down at 32
+    by one word a rank, and a message for each rank from 32 on makes it one line there, if it comes before there are too many."""
+    choices = turning() + turning("C(int32[4]) from W[1] to W[0];")
+    most = [("least words ", 4096)]
+    for starts, fronts in (((8,), [*most, ("least messages ", 685)]), ((8, 12), None), ((8, 12, 32), None), ((8, 32, 12), most)):
+        file = room.file(HEAD + choices + "".join(f"A(int32) from W[i:{at}..N-1] to W[0];\n" for at in starts) + "}\n")
+        if fronts:
+            room.asks(0, "most words", "cost", file, fronts=fronts)
+        else:
+            room.asks(LIMIT, "pabble: limit pieces", "cost", file)
+
+
+def of_calls(room):
+    """Statements count in all bodies together, braces and branches in each, and parameters are no roles. A call that is wrong is told of a
+    file within the limits."""
+    def asks(status, last, in_sub, in_protocol):
+        text = f"const N = 2..max; protocol A(role B) {{\n{in_sub}}}\nglobal protocol P(role M) {{\n{in_protocol}}}"
+        room.asks(status, last, "expand", room.file(text))
+    in_sub, in_protocol, rec, branch = "do A(B); ", "do A(M); ", "rec X {", "or {} "
+    asks(0, "}", "", 4000 * in_protocol)
+    asks(CALL, "pabble: call cycle at 2:4", 1999 * in_sub, 2001 * in_protocol)
+    asks(LIMIT, "pabble: limit statements at 4:18001", 2000 * in_sub, 2001 * in_protocol)
+    asks(LIMIT, "pabble: limit statements at 2:36001", 4001 * in_sub, "")
+    asks(0, "}", 63 * rec + 63 * "}", 63 * rec + 63 * "}")
+    asks(LIMIT, "pabble: limit nesting at 2:448", 64 * rec + 64 * "}", "")
+    asks(LIMIT, "pabble: limit nesting at 4:448", 63 * rec + 63 * "}", 64 * rec + 64 * "}")
+    asks(0, "}", "choice K at B {} " + 63 * branch, "choice K at M {} " + 63 * branch)
+    asks(LIMIT, "pabble: limit branches at 2:396", "choice K at B {} " + 64 * branch, "choice K at M {} " + branch)
+    asks(LIMIT, "pabble: limit branches at 4:396", "choice K at B {} " + 63 * branch, "choice K at M {} " + 64 * branch)
+    for params, roles, status, last in ((99, 63, CALL, "pabble: call twice at 1:43"), (0, 64, LIMIT, "pabble: limit roles at 2:531"),
+                                        (99, 64, LIMIT, "pabble: limit roles at 2:531")):
+        heads = params * "role B, " + "role B", roles * "role W, " + "role M"
+        room.asks(status, last, "expand", room.file("const N = 2..max; protocol A({}) {{}}\nglobal protocol P({}) {{}}".format(*heads)))
+    # `do` would be statement 4,001, where there may be none; and it is, where there may be one
+    for most, status, last in (("do A(B);" * 3999 + "foreach (i:0..1) { do", SYNTAX, "pabble: syntax at 2:32012"),
+                               ("do A(B);" * 4000 + "do do", LIMIT, "pabble: limit statements at 2:32001")):
+        room.asks(status, last, "expand", room.file(f"const N = 2..max; protocol A(role B) {{\n{most}"))
+
+
 def of_logs(room):
     """A log's last line may be long."""
     protocol, line = room.file(MESSAGE), "pabble: "
@@ -109,9 +163,10 @@ def of_logs(room):
 
 
 def of_kernels(room):
-    protocol = room.file(MESSAGE)
-    room.asks(0, "}", "gen", protocol, room.file(KERNELS.ljust(FILE_BYTES)))
-    room.asks(LIMIT, "pabble: limit file bytes", "gen", protocol, room.file(KERNELS.ljust(FILE_BYTES + 1)))
+    for protocol, kernels in ((MESSAGE, KERNELS), (COMPUTES, KERNEL)):
+        protocol = room.file(protocol)
+        room.asks(0, "}", "gen", protocol, room.file(kernels.ljust(FILE_BYTES)))
+        room.asks(LIMIT, "pabble: limit file bytes", "gen", protocol, room.file(kernels.ljust(FILE_BYTES + 1)))
 
 
 def with_lines(text, lines):
@@ -177,7 +232,7 @@ def of_words(room):
 def main(program):
     with tempfile.TemporaryDirectory() as folder, ThreadPoolExecutor(PROCESSES) as pool:
         room = Room(program, Path(folder))
-        for add in (of_protocols, of_logs, of_kernels, of_texts, of_ranks, of_schedules, of_words):
+        for add in (of_protocols, of_pieces, of_calls, of_logs, of_kernels, of_texts, of_ranks, of_schedules, of_words):
             add(room)
         found = list(filter(None, pool.map(room.failure, room.cases)))
     print(*found[:SHOWN], f"{len(room.cases) - len(found)} passed, {len(found)} failed", sep="\n")

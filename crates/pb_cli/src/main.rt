@@ -12,18 +12,6 @@ ghost use Rattle.pb_cli_status.specs.Written.{Says};
 
 mod call;
 #[cfg(test)]
-mod cost_tests;
-#[cfg(test)]
-mod demo_tests;
-#[cfg(test)]
-mod expand_tests;
-#[cfg(test)]
-mod judge_tests;
-#[cfg(test)]
-mod kernel_tests;
-#[cfg(test)]
-mod strips_tests;
-#[cfg(test)]
 mod tests;
 
 use call::pabble;

@@ -99,7 +99,7 @@ pub fn next_of(lines: &[&str], place: usize, same: Same) -> Option<usize> {
 }
 
 /// Whose line is looked for.
-#[derive(Clone, Copy, PartialEq, Eq)]
+#[derive(Clone, Copy)]
 pub enum Same {
     Rank,
     No,

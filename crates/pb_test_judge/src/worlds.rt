@@ -88,21 +88,6 @@ fn folder(alloc: Global, file: &str, log: &str) -> Result<MemFolder, AllocError>
     Ok(MemFolder::new(files, Vec::new(alloc)))
 }
 
-/// Whether `judge` ends with this exit status on a protocol file and a log at N = n, and writes this line.
-pub fn is_judged(
-    alloc: Global,
-    file: &str,
-    log: &str,
-    n: u32,
-    code: u8,
-    line: &str,
-) -> Result<bool, NoMemory> {
-    let mut folder = folder(alloc, file, log)?;
-    let mut out = sink(alloc)?;
-    let status = judge(alloc, "p", "l", n, &mut folder, &mut out);
-    Ok(status.code() == code && out.taken() == line.as_bytes())
-}
-
 /// Whether `judge` writes this line of a protocol file and a log at N = n.
 pub fn is_ruled(
     alloc: Global,

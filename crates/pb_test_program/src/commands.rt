@@ -24,7 +24,7 @@ const KERNELS: &str =
 pub const SCHEDULE: &str = "pabble schedule 2\nseed 0\n0 e\n0 e\n1 w\n1 e\n";
 
 /// What is asked of the protocol `p`, its kernels `k`, its text `t` and the schedule `s`.
-#[derive(Clone, Copy, Debug, PartialEq, Eq)]
+#[derive(Clone, Copy, Debug)]
 pub enum Asked {
     Verdict,
     Layout,

@@ -9,7 +9,7 @@ use std::alloc::Global;
 use std::test::Fail;
 
 /// An ending.
-#[derive(Clone, Copy, PartialEq, Eq)]
+#[derive(Clone, Copy)]
 pub enum Ending {
     /// OUT is renewed: each body that it had stands in it or in OUT.left, which has those that are gone behind what it had.
     Done,

@@ -1,11 +1,9 @@
-//! Calls whose reads and writes fail, folders and sinks that never do, and files that are as long as they may be.
+//! Calls whose reads and writes fail, and folders and sinks that never do.
 
 ghost use Rattle.std.specs.Prelude.{◌≡◌};
 
 use crate::call::pabble;
-use crate::tests::session::{
-    Faults, NONE, answer_with, file, is_like, play_with, word_of, words_of,
-};
+use crate::tests::session::{Faults, NONE, file, hold, word_of, words_of};
 use pb_cli_status::Status;
 use pb_io::{SureFolder, SureSink};
 use pb_text::NoMemory;
@@ -19,14 +17,19 @@ global protocol P(role W[0..N-1]) {
 }
 ";
 
-/// Plays these calls where `p` is the first protocol.
-fn play_first(rt: &impl Abort, alloc: Global, faults: Faults, calls: &str) -> Result<(), NoMemory> {
-    let session = format!(in alloc; "$ cat > p\n{FIRST}{calls}")?;
-    play_with(rt, alloc, faults, &session)
+/// Asserts that each of these calls answers so where `p` is the first protocol.
+fn hold_first(
+    rt: &impl Abort,
+    alloc: Global,
+    faults: Faults,
+    calls: &str,
+    wanted: &str,
+) -> Result<(), NoMemory> {
+    hold(rt, alloc, faults, FIRST, calls, wanted)
 }
 
-const GENERATED: &str = "$ gen p
-status 0
+/// What `gen p` answers.
+const GENERATED: &str = "status 0
 /* pabble 1 */
 /* protocol P */
 /* N 2 to max */
@@ -73,27 +76,19 @@ int main(int argc, char **argv)
 }
 ";
 
-#[test]
-fn gen_writes_the_text(rt: HostRuntime) -> Result<(), NoMemory> {
-    play_first(&rt, rt.alloc(), NONE, GENERATED)
-}
-
-const UNREAD: &str = "$ gen p; check p\nstatus 3\npabble: read fault\n";
+const UNREAD: &str = "status 3\npabble: read fault\n";
 
 #[test]
 fn each_failing_read_is_a_read_fault(rt: HostRuntime) -> Result<(), NoMemory> {
     for read in 0..3 {
-        play_first(&rt, rt.alloc(), Faults { read, ..NONE }, UNREAD)?;
+        let failing = Faults { read, ..NONE };
+        hold_first(&rt, rt.alloc(), failing, "gen p; check p", UNREAD)?;
     }
-    play_first(&rt, rt.alloc(), Faults { read: 3, ..NONE }, GENERATED)
+    let behind = Faults { read: 3, ..NONE };
+    hold_first(&rt, rt.alloc(), behind, "gen p", GENERATED)
 }
 
-const UNWRITTEN: &str = "$ gen p\nstatus 4\n";
-
-const TEN_BYTES: &str = "$ gen p\nstatus 4\n/* pabble ";
-
-const NINETY_NINE_BYTES: &str = "$ gen p
-status 4
+const NINETY_NINE_BYTES: &str = "status 4
 /* pabble 1 */
 /* protocol P */
 /* N 2 to max */
@@ -104,23 +99,40 @@ status 4
 #[test]
 fn a_failing_write_leaves_a_front(rt: HostRuntime) -> Result<(), NoMemory> {
     let alloc = rt.alloc();
-    play_first(&rt, alloc, Faults { piece: 0, ..NONE }, UNWRITTEN)?;
-    play_first(&rt, alloc, Faults { room: 10, ..NONE }, TEN_BYTES)?;
+    let at_first = Faults { piece: 0, ..NONE };
+    hold_first(&rt, alloc, at_first, "gen p", "status 4\n")?;
+    let ten = Faults { room: 10, ..NONE };
+    hold_first(&rt, alloc, ten, "gen p", "status 4\n/* pabble ")?;
+    hold_first(&rt, alloc, ten, "demo 4", "status 4\ndemo 4\nsen")?;
+    let twelve = Faults { room: 12, ..NONE };
+    hold_first(&rt, alloc, twelve, "demo 4", "status 4\ndemo 4\nsends")?;
     let some = Faults {
         most: 1,
         piece: 99,
         ..NONE
     };
-    play_first(&rt, alloc, some, NINETY_NINE_BYTES)?;
-    play_first(&rt, alloc, Faults { most: 1, ..NONE }, GENERATED)
+    hold_first(&rt, alloc, some, "gen p", NINETY_NINE_BYTES)
+}
+
+#[test]
+fn each_byte_is_taken_alone(rt: HostRuntime) -> Result<(), NoMemory> {
+    let alone = Faults { most: 1, ..NONE };
+    hold_first(&rt, rt.alloc(), alone, "gen p", GENERATED)?;
+    hold_first(
+        &rt,
+        rt.alloc(),
+        alone,
+        "gen; check",
+        "status 2\npabble: usage\n",
+    )
 }
 
 #[test]
 fn check_writes_into_the_room_that_there_is(rt: HostRuntime) -> Result<(), NoMemory> {
-    let all = "$ check p\nstatus 0\naccepted\n";
-    play_first(&rt, rt.alloc(), Faults { room: 64, ..NONE }, all)?;
-    let most = "$ check p\nstatus 4\naccepted";
-    play_first(&rt, rt.alloc(), Faults { room: 8, ..NONE }, most)
+    let all = Faults { room: 64, ..NONE };
+    hold_first(&rt, rt.alloc(), all, "check p", "status 0\naccepted\n")?;
+    let most = Faults { room: 8, ..NONE };
+    hold_first(&rt, rt.alloc(), most, "check p", "status 4\naccepted")
 }
 
 /// The status over a folder and a sink that never fail.
@@ -160,70 +172,4 @@ fn sure_ones_have_no_fault(rt: HostRuntime) -> Result<(), NoMemory> {
         assert!(rt; is_so, "{line}");
     }
     Ok(())
-}
-
-/// The text with blanks behind it, so that it has so many bytes.
-fn padded(alloc: Global, text: &str, count: usize) -> Result<Vec<u8>, NoMemory> {
-    let mut bytes = Vec::from_slice(alloc, text.as_bytes())?;
-    bytes.resize(count, b' ')?;
-    Ok(bytes)
-}
-
-/// What a call answers where `p` and `k` have these bytes.
-fn answer_on(alloc: Global, line: &str, p: &[u8], k: &[u8]) -> Result<String, NoMemory> {
-    let p = file(alloc, "p", p)?;
-    let k = file(alloc, "k", k)?;
-    let files = vec![in alloc; p, k]?;
-    answer_with(alloc, NONE, &files, line)
-}
-
-const DONE: &str = "status 0\n/* pabble 1 */\n...\n  return 0;\n}\n";
-
-const LIMIT: &str = "status 5\npabble: limit file bytes\n";
-
-/// Asserts what is answered where the protocol has so many bytes.
-fn hold_long_file(
-    rt: &impl Abort,
-    alloc: Global,
-    count: usize,
-    wanted: &str,
-) -> Result<(), NoMemory> {
-    let p = padded(alloc, FIRST, count)?;
-    let answer = answer_on(alloc, "gen p", &p, b"")?;
-    assert!(rt; is_like(&answer, wanted), "{answer}");
-    Ok(())
-}
-
-#[test]
-fn a_file_may_have_1048576_bytes(rt: HostRuntime) -> Result<(), NoMemory> {
-    hold_long_file(&rt, rt.alloc(), 1_048_576, DONE)?;
-    hold_long_file(&rt, rt.alloc(), 1_048_577, LIMIT)
-}
-
-/// A compute kernel, and nothing else.
-const COMPUTES: &str = "const N = 2..max;
-global protocol P(role W[0..N-1]) {
-  compute K at W[0];
-}
-";
-
-const KERNEL: &str = "/*@ kernel k_K */\n  if (N > 2) { puts(\"}\"); }\n/*@ end */\n";
-
-/// Asserts what is answered where the kernel file has so many bytes.
-fn hold_long_kernels(
-    rt: &impl Abort,
-    alloc: Global,
-    count: usize,
-    wanted: &str,
-) -> Result<(), NoMemory> {
-    let k = padded(alloc, KERNEL, count)?;
-    let answer = answer_on(alloc, "gen p k", COMPUTES.as_bytes(), &k)?;
-    assert!(rt; is_like(&answer, wanted), "{answer}");
-    Ok(())
-}
-
-#[test]
-fn a_kernel_file_may_have_1048576_bytes(rt: HostRuntime) -> Result<(), NoMemory> {
-    hold_long_kernels(&rt, rt.alloc(), 1_048_576, DONE)?;
-    hold_long_kernels(&rt, rt.alloc(), 1_048_577, LIMIT)
 }
