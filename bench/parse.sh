@@ -53,7 +53,7 @@ speed() {
 
 for name in statements comments loops; do
     "$name" | fill >"$work/$name.pbl"
-    said=$("$built" gen "$work/$name.pbl")
+    said=$("$built" gen "$work/$name.pbl" 2>/dev/null)
     [[ $said == "pabble: rule "* ]] || { echo "$name: $said"; exit 1; }
     echo "$name: pabble $(speed "$built" gen "$work/$name.pbl"), cat $(speed cat "$work/$name.pbl")"
 done

@@ -28,7 +28,7 @@ protocol joint '    allreduce S(int32) with max;
 # The seconds of processor time and the kilobytes of memory of a run: the median.
 middle() {
     for ((run = 0; run < runs; run++)); do
-        seconds=$({ TIMEFORMAT='%3U %3S'; time /usr/bin/time -o time -f '%M' "$program" sim "$@" > out; } 2>&1)
+        seconds=$({ TIMEFORMAT='%3U %3S'; time /usr/bin/time -o time -f '%M' "$program" sim "$@" > out 2> told; } 2>&1)
         echo "$seconds $(tail -n 1 time)"
     done | awk '{ print $1 + $2, $3 }' | sort -g | sed -n "$((runs / 2 + 1))p"
 }
