@@ -18,7 +18,7 @@ import time
 
 sys.dont_write_bytecode = True
 
-from proofs import rt
+from proofs import crates_here, rt
 
 # The last names of the modules that belong to one function.
 PARTS = {"Code", "Mir", "Kinds", "Layout", "Lts", "Met", "Named", "Symbol", "Goals", "Given", "Answers", "Invariants", "Proof", "Statement", "Tie", "decls"}
@@ -49,7 +49,7 @@ def main(words):
     tests, names = "--tests" in words, [it for it in words if it != "--tests"]
     rt.Crate.allowed = rt.handles_of(os.getcwd())
     rt.Crate.cuts_libraries = True
-    crate = next((it for it in rt.crates_of(os.getcwd()) if names and it.name == names[0]), None)
+    crate = next((it for it in crates_here() if names and it.name == names[0]), None)
     if crate is None:
         sys.exit(__doc__)
     room = tempfile.mkdtemp(prefix="dear-")

@@ -1,15 +1,18 @@
 #!/usr/bin/env python3
 """Proves crates without their edits, tests and programs, or takes what was proved: for work on many crates at once.
 
-  scripts/proofs.py [--tests] [NAME..]  proves these crates and those below them, all where none is named, and keeps what passes as
-                                        `rt ci` does, which takes it from there; --tests adds the proofs of the named crates' tests.
-                                        Of the crates that are ready the one with most crates above it comes first
+  scripts/proofs.py [--tests] [NAME..]  proves these crates and those below them, all where none is named; --tests adds the proofs of
+                                        the named crates' tests. Of the crates that are ready the one with most crates above it comes
+                                        first
   scripts/proofs.py --lend              gives each crate of this checkout the library that is kept for exactly its files, so that
                                         `rt check` of a crate above need not build it, and names those that aren't kept
 
+Where the toolchain has a store, what passes is kept there as `rt ci` does, which takes it from there. Where it has none, libraries
+stay in this checkout: a second run proves those alone whose files, or those of a crate below, changed, and nothing can be lent.
 LANES (4) is how many are proved at a time. It is run at the top of a checkout, and stands on the toolchain's own command `rt`:
 `rt ci` alone is the gate.
 """
+import contextlib
 import copy
 import importlib.machinery
 import importlib.util
@@ -36,7 +39,38 @@ def toolchain():
 rt = toolchain()
 
 
+def crates_here():
+    """The crates of the checkout, lowest first."""
+    rt.rtlib.Crate = rt.Crate
+    return sorted(rt.rtlib.crates_below(os.getcwd()), key=lambda it: len(it.below()))
+
+
+def set_stamp(crate):
+    """Lets other commands take the library that stands in the crate's folder as that of its files."""
+    with open(f"{crate.folder}/out/rlib/stamp", "w", encoding="utf-8") as file:
+        file.write(crate.stamp())
+
+
+class Folders:
+    """In the place of a store, where the toolchain has none: the libraries in the folders of this checkout."""
+
+    def key(self, crate):
+        return None
+
+    def in_turn(self, crate, tests, key):
+        return contextlib.nullcontext()
+
+    def is_built(self, crate):
+        pass
+
+    def keep(self, crate, tests, key):
+        if not tests and os.path.isdir(crate.rlib):
+            set_stamp(crate)
+
+
 def store(crates):
+    if not hasattr(rt, "Kept"):
+        return Folders()
     kept = rt.Kept(crates)
     # An entry that can't be given here may be whole for others.
     kept.drop = lambda path: None
@@ -54,6 +88,8 @@ def has_library(kept, crate):
 
 
 def lend_one(kept, crate):
+    if isinstance(kept, Folders):
+        return crate.is_built()
     key = kept.key(crate)
     if not os.path.isdir(kept.place(crate, False, key)):
         return False
@@ -62,8 +98,7 @@ def lend_one(kept, crate):
         if not kept.give(crate, False, key):
             return False
         if not crate.is_static:
-            with open(f"{crate.folder}/out/rlib/stamp", "w", encoding="utf-8") as file:
-                file.write(crate.stamp())
+            set_stamp(crate)
     kept.is_built(crate)
     return True
 
@@ -89,6 +124,8 @@ class Run:
 
     def take(self, crate, tests, key):
         """Whether an earlier run had it. What stands in the crate's folder would be in the way."""
+        if isinstance(self.kept, Folders):
+            return not tests and crate.is_built()
         if not tests and not crate.is_program:
             return lend_one(self.kept, crate)
         for name in self.kept.made(crate, tests):
@@ -160,7 +197,7 @@ class Run:
 
 def main(words):
     rt.Crate.allowed = rt.handles_of(os.getcwd())
-    every = rt.crates_of(os.getcwd())
+    every = crates_here()
     if words == ["--lend"]:
         lend(every)
         return 0

@@ -1,3 +1,2 @@
 pub mod Framed
-pub mod Sample
 pub mod Written

@@ -5,5 +5,4 @@ pub mod Lookups
 pub mod Numbers
 pub mod Rounds
 pub mod Rows
-pub mod Samples
 pub mod Whole

@@ -4,4 +4,3 @@ pub mod Head
 pub mod Items
 pub mod Parts
 pub mod Reading
-pub mod Sample

@@ -1,6 +1,6 @@
 //! The lines before the statements.
 
-ghost use Rattle.std.specs.Prelude.{OnOk, IfOk};
+ghost use Rattle.std.specs.Prelude.{OnOk};
 ghost use Rattle.pb_cread_frame.specs.Views.{IsReader};
 
 use crate::lines::lines_of;
@@ -22,18 +22,18 @@ fn take(alloc: Global, reader: &mut FrameReader, line: &[u8]) -> Result<bool, No
     }
 }
 
-/// A reader that has taken these lines, as far as they stand before the statements.
-fn reader_of(alloc: Global, front: &[u8]) -> Result<FrameReader, NoMemory>
-    ensures { IfOk result IsReader }
+/// Takes these lines, as far as they stand before the statements.
+fn take_lines(alloc: Global, reader: &mut FrameReader, front: &[u8]) -> Result<(), NoMemory>
+    requires { IsReader reader.old }
+    ensures { OnOk result (IsReader reader.new) }
 {
     let lines = lines_of(alloc, front)?;
-    let mut reader = FrameReader::new(alloc)?;
     for line in &lines {
-        if reader.is_done() || !take(alloc, &mut reader, line)? {
+        if reader.is_done() || !take(alloc, reader, line)? {
             break;
         }
     }
-    Ok(reader)
+    Ok(())
 }
 
 /// The first of these lines that the reader takes.
@@ -63,16 +63,31 @@ pub enum Framed {
     Behind(Vec<CoreLabel>),
 }
 
-/// What is known of the line behind these ones.
-pub fn line_behind(alloc: Global, front: &[u8]) -> Result<Framed, NoMemory> {
-    let mut reader = reader_of(alloc, front)?;
+/// What is known of the line that the reader takes next, before the statements.
+fn next_line(alloc: Global, reader: &mut FrameReader) -> Result<Framed, NoMemory>
+    requires { IsReader reader.old }
+{
+    let settled = Settled::of(alloc, reader)?;
+    match first_taken(alloc, reader, settled.lines.as_slice())? {
+        None => Ok(Framed::Open),
+        Some(line) => Ok(Framed::Settled(line.to_vec(alloc)?)),
+    }
+}
+
+/// What is known of the line behind these ones, which the reader hasn't taken.
+fn line_after(alloc: Global, reader: &mut FrameReader, front: &[u8]) -> Result<Framed, NoMemory>
+    requires { IsReader reader.old }
+{
+    take_lines(alloc, reader, front)?;
     if reader.is_done() {
         let labels = mem::replace(&mut reader.local.labels, Vec::new(alloc));
         return Ok(Framed::Behind(labels));
     }
-    let settled = Settled::of(alloc, &reader)?;
-    match first_taken(alloc, &mut reader, settled.lines.as_slice())? {
-        None => Ok(Framed::Open),
-        Some(line) => Ok(Framed::Settled(line.to_vec(alloc)?)),
-    }
+    next_line(alloc, reader)
+}
+
+/// What is known of the line behind these ones.
+pub fn line_behind(alloc: Global, front: &[u8]) -> Result<Framed, NoMemory> {
+    let mut reader = FrameReader::new(alloc)?;
+    line_after(alloc, &mut reader, front)
 }
