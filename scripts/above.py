@@ -10,7 +10,7 @@ def lists():
     for line in open("crates.txt", encoding="utf-8"):
         name, _, cites = line.partition(":")
         if line.strip() and not line.startswith("#"):
-            found[name.strip()] = cites.split()
+            found[name.split()[0]] = cites.split()
     return found
 
 
