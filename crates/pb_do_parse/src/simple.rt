@@ -1,7 +1,7 @@
 ghost use Rattle.std.specs.Prelude.{map};
 ghost use Rattle.pb_parse.specs.Gives.{GivesTo};
 ghost use Rattle.pb_syntax.specs.Reading.{among, many_at};
-ghost use Rattle.pb_syntax.specs.Readers.{message_text_at, compute_text_at, continue_text_at, collective_at, item_keys};
+ghost use Rattle.pb_syntax.specs.Readers.{message_text_at, item_message_at, compute_text_at, continue_text_at, collective_at, item_keys};
 ghost use Rattle.pb_do_syntax.specs.Plain.{plain_block, plain_statement};
 ghost use Rattle.pb_do_grammar.specs.Readers.{simple_at, item_call_at, braces_at, foreach_text_at, call_text_at};
 
@@ -111,32 +111,35 @@ pub(crate) fn collective(cursor: &mut Cursor) -> Result<CallStatement, Stop>
     })
 }
 
-// An item of a `foreach` and its `;`. No end binds.
-#[tactic(auto, unfolding(pb_do_grammar::specs::Readers::item_call_at, pb_syntax::specs::Readers::item_at, pb_syntax::specs::Readers::and_semicolon_at, pb_syntax::specs::Readers::item_message_at, pb_syntax::specs::Readers::compute_text_at))]
+// A message of a `foreach` and its `;`. No end binds.
+#[tactic(auto, unfolding(pb_do_grammar::specs::Readers::simple_at, pb_syntax::specs::Readers::and_semicolon_at, pb_syntax::specs::Readers::item_message_at))]
+fn item_message(cursor: &mut Cursor) -> Result<CallStatement, Stop>
+    ensures { GivesTo plain_statement result cursor.new.rest.now (simple_at item_message_at cursor.old.rest.now) }
+{
+    let label = cursor.name()?;
+    let payload = cursor.payload()?;
+    cursor.key(Key::From)?;
+    let from = cursor.plain_end()?;
+    cursor.key(Key::To)?;
+    let to = cursor.plain_end()?;
+    cursor.mark(Mark::Semicolon)?;
+    Ok(CallStatement::Message {
+        label,
+        payload,
+        from,
+        to,
+    })
+}
+
+// An item of a `foreach` and its `;`.
+#[tactic(auto, unfolding(pb_do_grammar::specs::Readers::item_call_at, pb_syntax::specs::Readers::item_at, pb_do_grammar::specs::Readers::simple_at))]
 pub(crate) fn item(cursor: &mut Cursor) -> Result<CallStatement, Stop>
     ensures { GivesTo plain_statement result cursor.new.rest.now (item_call_at cursor.old.rest.now) }
 {
     if cursor.at_word() {
-        let label = cursor.name()?;
-        let payload = cursor.payload()?;
-        cursor.key(Key::From)?;
-        let from = cursor.plain_end()?;
-        cursor.key(Key::To)?;
-        let to = cursor.plain_end()?;
-        cursor.mark(Mark::Semicolon)?;
-        return Ok(CallStatement::Message {
-            label,
-            payload,
-            from,
-            to,
-        });
+        return item_message(cursor);
     }
-    let place = cursor.key(Key::Compute)?;
-    let kernel = cursor.name()?;
-    cursor.key(Key::At)?;
-    let at = cursor.plain_end()?;
-    cursor.mark(Mark::Semicolon)?;
-    Ok(CallStatement::Compute { place, kernel, at })
+    compute(cursor)
 }
 
 // Items as long as the next token begins one.

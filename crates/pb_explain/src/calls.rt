@@ -102,7 +102,6 @@ fn text_of_calls(alloc: Global, source: &Source, status: Status) -> Result<Vec<u
 }
 
 /// What is told of a file with subprotocols.
-#[tactic(auto, using(pb_explain_again::proofs::Pages::of_file, pb_explain_again::proofs::Pages::of_words))]
 pub fn text_of_expand<F: Folder>(
     alloc: Global,
     folder: &mut F,

@@ -59,7 +59,6 @@ fn text_of_counts<F: Folder>(
 }
 
 /// What is told of the costs of the protocol in a file.
-#[tactic(auto, using(pb_explain_again::proofs::Pages::of_file, pb_explain_again::proofs::Pages::of_words))]
 pub fn text_of_cost<F: Folder>(
     alloc: Global,
     folder: &mut F,

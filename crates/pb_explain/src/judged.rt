@@ -64,7 +64,6 @@ fn text_of_ruling<F: Folder>(
 }
 
 /// What is told of a log.
-#[tactic(auto, using(pb_explain_again::proofs::Pages::of_file, pb_explain_again::proofs::Pages::of_words))]
 fn text_of_log<F: Folder>(
     alloc: Global,
     folder: &mut F,
@@ -123,7 +122,6 @@ fn text_of_excess<F: Folder>(
 }
 
 /// What is told of a limit.
-#[tactic(auto, using(pb_explain_again::proofs::Pages::of_file, pb_explain_again::proofs::Pages::of_words))]
 fn text_of_limits<F: Folder>(
     alloc: Global,
     folder: &mut F,

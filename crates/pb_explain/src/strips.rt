@@ -139,7 +139,6 @@ fn text_of_columns(alloc: Global, source: &Source, status: Status) -> Result<Vec
 }
 
 /// What is told of a file with strips.
-#[tactic(auto, using(pb_explain_again::proofs::Pages::of_file, pb_explain_again::proofs::Pages::of_words))]
 pub fn text_of_strips<F: Folder>(
     alloc: Global,
     folder: &mut F,

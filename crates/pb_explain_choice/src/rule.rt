@@ -5,7 +5,7 @@ use crate::seat::Seat;
 use crate::tell::{tell_labels, tell_nothing, tell_other, tell_sources};
 use pb_explain_ranks::Setting;
 use pb_explain_source::Page;
-use pb_explain_tree::path_to;
+use pb_explain_tree::{Step, path_to};
 use pb_syntax::{Block, End, Statement};
 use pb_text::{Name, NoMemory, Place};
 use std::alloc::Global;
@@ -76,37 +76,103 @@ fn other(found: &[Found]) -> Option<Found> {
     None
 }
 
+/// A branch of a choice, and the choice.
+#[derive(Clone, Copy)]
+struct Chosen<'a> {
+    place: Place,
+    chooser: &'a End,
+    branches: &'a [Block],
+    branch: &'a Block,
+}
+
+/// Writes that the rank isn't told of the branch: it finds something else first, or nothing.
 fn tell_ten(
     alloc: Global,
     page: &mut Page,
     seat: &Seat,
-    place: Place,
-    chooser: &End,
-    branches: &[Block],
+    chosen: &Chosen,
     here: &[Found],
     loops: &mut Vec<Open>,
 ) -> Result<(), NoMemory> {
     match other(here) {
-        Some(found) => tell_other(page, seat, place, chooser, &found),
+        Some(found) => tell_other(page, seat, chosen.place, chosen.chooser, &found),
         None => {
-            let elsewhere = found_elsewhere(alloc, branches, seat, loops)?;
-            tell_nothing(page, seat, place, chooser, elsewhere.as_ref())
+            let elsewhere = found_elsewhere(alloc, chosen.branches, seat, loops)?;
+            tell_nothing(page, seat, chosen.place, chosen.chooser, elsewhere.as_ref())
         }
     }
 }
 
+/// Writes that the rank is told of the choice by two ranks.
 fn tell_eleven(
     alloc: Global,
     page: &mut Page,
     seat: &Seat,
-    place: Place,
-    branches: &[Block],
-    branch: &Block,
+    chosen: &Chosen,
     loops: &mut Vec<Open>,
 ) -> Result<(), NoMemory> {
-    let mut all = found_before(alloc, branches, place, seat, loops)?;
-    let _is_open = firsts_in(branch, seat, loops, &mut all)?;
-    tell_sources(page, seat, place, all.as_slice())
+    let mut all = found_before(alloc, chosen.branches, chosen.place, seat, loops)?;
+    let _is_open = firsts_in(chosen.branch, seat, loops, &mut all)?;
+    tell_sources(page, seat, chosen.place, all.as_slice())
+}
+
+/// Writes that the branch begins with the label of an earlier one.
+fn tell_twelve(
+    alloc: Global,
+    page: &mut Page,
+    seat: &Seat,
+    chosen: &Chosen,
+    here: &[Found],
+    loops: &mut Vec<Open>,
+) -> Result<(), NoMemory> {
+    let before = found_before(alloc, chosen.branches, chosen.place, seat, loops)?;
+    tell_labels(page, seat, chosen.place, before.as_slice(), here)
+}
+
+/// Writes why the branch breaks this rule, where these loops are around it.
+fn tell_chosen(
+    alloc: Global,
+    page: &mut Page,
+    seat: &Seat,
+    rule: u8,
+    chosen: &Chosen,
+    loops: &mut Vec<Open>,
+) -> Result<(), NoMemory> {
+    let here = found_in(alloc, chosen.branch, seat, loops)?;
+    match rule {
+        10 => tell_ten(alloc, page, seat, chosen, here.as_slice(), loops),
+        11 => tell_eleven(alloc, page, seat, chosen, loops),
+        12 => tell_twelve(alloc, page, seat, chosen, here.as_slice(), loops),
+        _ => Ok(()),
+    }
+}
+
+/// Writes why the branch that opens at the place breaks this rule, where the path leads to its choice.
+fn tell_choice_on(
+    alloc: Global,
+    page: &mut Page,
+    seat: &Seat,
+    rule: u8,
+    place: Place,
+    path: &[Step],
+) -> Result<(), NoMemory> {
+    let Some(step) = path.last() else {
+        return Ok(());
+    };
+    let Statement::Choice { at, branches, .. } = step.statement else {
+        return Ok(());
+    };
+    let Some(branch) = branch_at(branches, place) else {
+        return Ok(());
+    };
+    let chosen = Chosen {
+        place,
+        chooser: at,
+        branches,
+        branch,
+    };
+    let mut loops = loops_on(alloc, path, seat)?;
+    tell_chosen(alloc, page, seat, rule, &chosen, &mut loops)
 }
 
 /// Writes why the branch that opens at the place breaks this rule, one from 10 to 12, at the N of the setting for this rank.
@@ -120,39 +186,11 @@ pub fn tell_choice_rule(
     role: Name,
     index: i64,
 ) -> Result<(), NoMemory> {
-    let path = path_to(alloc, &setting.file.body, place)?;
-    let Some(step) = path.last() else {
-        return Ok(());
-    };
-    let Statement::Choice { at, branches, .. } = step.statement else {
-        return Ok(());
-    };
-    let Some(branch) = branch_at(branches, place) else {
-        return Ok(());
-    };
     let seat = Seat {
         setting: *setting,
         role,
         index,
     };
-    let mut loops = loops_on(alloc, path.as_slice(), &seat)?;
-    let here = found_in(alloc, branch, &seat, &mut loops)?;
-    match rule {
-        10 => tell_ten(
-            alloc,
-            page,
-            &seat,
-            place,
-            at,
-            branches,
-            here.as_slice(),
-            &mut loops,
-        ),
-        11 => tell_eleven(alloc, page, &seat, place, branches, branch, &mut loops),
-        12 => {
-            let before = found_before(alloc, branches, place, &seat, &mut loops)?;
-            tell_labels(page, &seat, place, before.as_slice(), here.as_slice())
-        }
-        _ => Ok(()),
-    }
+    let path = path_to(alloc, &setting.file.body, place)?;
+    tell_choice_on(alloc, page, &seat, rule, place, path.as_slice())
 }

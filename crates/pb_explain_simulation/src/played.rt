@@ -10,7 +10,7 @@ use pb_cli_words::{Options, Shown};
 use pb_ctree::CTree;
 use pb_explain_runs::{help_no_step, tell_no_rank, tell_no_step};
 use pb_explain_source::{NoMemory, Page};
-use pb_explain_waits::{Heard, Standstill, causes_of, seats_of, tell_standstill, value};
+use pb_explain_waits::{Heard, Seat, Standstill, causes_of, seats_of, tell_standstill, value};
 use pb_sim::{Answers, Cause, Sim};
 use pb_sim_play::{Ending, simulate_by_schedule, simulate_by_seed};
 use pb_text::MOST_EVENTS;
@@ -48,27 +48,102 @@ fn tell_refused(
     help_no_step(page)
 }
 
-/// A simulation of a tree for an N, in which nothing was done. None where there is none.
-#[tactic(auto, using(crate::proofs::Begun::as_it_stands))]
-fn start<A: Fn(u64, u32, u64) -> u32 + Drop>(
-    alloc: Global,
-    tree: CTree,
+/// A simulation that was played, and what is told of it.
+#[derive(Drop)]
+struct Played<'a, A> {
+    file: &'a str,
     n: i64,
-    answers: A,
-    seed: u64,
-) -> Option<Sim<A>>
-    requires callable { A.IsAlwaysCallable answers }
-    requires tree { IsTree tree }
-    ensures callable { IfSome result (λ s. A.IsAlwaysCallable s.answers.answer) }
-    ensures begun { IfSome result (λ s. IsBegun s.held.state.tree s.held.state.n s.held) }
+    sim: &'a Sim<A>,
+    heard: &'a Heard,
+}
+
+/// Writes why nobody can go on where a simulation ended, or why an event of its schedule has no step.
+fn tell_ending(
+    alloc: Global,
+    page: &mut Page,
+    schedule: Option<&Schedule>,
+    n: i64,
+    it: &Standstill,
+    ending: Ending,
+) -> Result<(), NoMemory> {
+    match ending {
+        Ending::Stuck { rank, cause } => tell_standstill(alloc, page, it, rank, cause),
+        Ending::Refused(at) => match schedule {
+            Some(schedule) => tell_refused(page, schedule, n, at, it),
+            None => Ok(()),
+        },
+        Ending::Ended | Ending::Turns | Ending::Full | Ending::NoMemory | Ending::WriteFault => Ok(
+            (),
+        ),
+    }
+}
+
+/// Writes how a simulation with these seats ended.
+fn tell_seats<A: Fn(u64, u32, u64) -> u32 + Drop>(
+    alloc: Global,
+    page: &mut Page,
+    played: &Played<A>,
+    seats: &[Seat],
+    schedule: Option<&Schedule>,
+    ending: Ending,
+) -> Result<(), NoMemory> {
+    let causes = causes_in(alloc, played.sim, played.n)?;
+    let it = Standstill {
+        file: played.file,
+        local: &played.sim.tree().local,
+        heard: played.heard,
+        seats,
+        causes: causes.as_slice(),
+    };
+    tell_ending(alloc, page, schedule, played.n, &it, ending)
+}
+
+/// Writes how a simulation ended.
+fn tell_played<A: Fn(u64, u32, u64) -> u32 + Drop>(
+    alloc: Global,
+    page: &mut Page,
+    played: &Played<A>,
+    schedule: Option<&Schedule>,
+    ending: Ending,
+) -> Result<(), NoMemory> {
+    let seats = seats_of(alloc, played.sim.tree(), played.n)?;
+    tell_seats(alloc, page, played, seats.as_slice(), schedule, ending)
+}
+
+/// Plays a fresh simulation by a seed, and writes why nobody can go on at its end.
+fn play_by_seed<A: Fn(u64, u32, u64) -> u32 + Drop>(
+    alloc: Global,
+    page: &mut Page,
+    file: &str,
+    sim: &mut Sim<A>,
+    options: Options,
+) -> Result<(), NoMemory>
+    requires callable { A.IsAlwaysCallable sim.old.answers.answer }
+    requires begun { IsBegun sim.old.held.state.tree sim.old.held.state.n sim.old.held }
 {
-    match Sim::new(alloc, tree, n, Answers::new(answers, seed)) {
-        Ok(sim) => Some(sim),
-        Err(_) => None,
+    let asked = Options {
+        n: options.n,
+        seed: options.seed,
+        turns: options.turns.min(MOST_EVENTS),
+        modes: options.modes,
+        shown: Shown::Log,
+    };
+    let mut heard = Heard::new(alloc);
+    let ending = simulate_by_seed(alloc, sim, asked, &mut heard);
+    let played = Played {
+        file,
+        n: i64::from(options.n),
+        sim,
+        heard: &heard,
+    };
+    match ending {
+        Ending::Stuck { .. } => tell_played(alloc, page, &played, None, ending),
+        _ => Ok(()),
     }
 }
 
 /// Plays a simulation by a seed, and writes why nobody can go on at its end.
+#[tactic(auto, using(crate::proofs::Begun::as_it_stands))]
 pub fn tell_by_seed<A: Fn(u64, u32, u64) -> u32 + Drop>(
     alloc: Global,
     page: &mut Page,
@@ -81,34 +156,38 @@ pub fn tell_by_seed<A: Fn(u64, u32, u64) -> u32 + Drop>(
     requires tree { IsTree tree }
 {
     let n = i64::from(options.n);
-    let asked = Options {
-        n: options.n,
-        seed: options.seed,
-        turns: options.turns.min(MOST_EVENTS),
-        modes: options.modes,
-        shown: Shown::Log,
-    };
-    let Some(mut sim) = start(alloc, tree, n, answers, options.seed) else {
-        return Ok(());
-    };
+    match Sim::new(alloc, tree, n, Answers::new(answers, options.seed)) {
+        Ok(mut sim) => play_by_seed(alloc, page, file, &mut sim, options),
+        Err(_) => Ok(()),
+    }
+}
+
+/// Plays a fresh simulation by a schedule, and writes why nobody can go on at its end, or why an event has no step.
+fn play_by_schedule<A: Fn(u64, u32, u64) -> u32 + Drop>(
+    alloc: Global,
+    page: &mut Page,
+    file: &str,
+    n: i64,
+    sim: &mut Sim<A>,
+    schedule: &Schedule,
+) -> Result<(), NoMemory>
+    requires callable { A.IsAlwaysCallable sim.old.answers.answer }
+    requires begun { IsBegun sim.old.held.state.tree sim.old.held.state.n sim.old.held }
+    requires few { length schedule.now.turns.items ≤ MOST_EVENTS }
+{
     let mut heard = Heard::new(alloc);
-    let ending = simulate_by_seed(alloc, &mut sim, asked, &mut heard);
-    let Ending::Stuck { rank, cause } = ending else {
-        return Ok(());
-    };
-    let seats = seats_of(alloc, sim.tree(), n)?;
-    let causes = causes_in(alloc, &sim, n)?;
-    let it = Standstill {
+    let ending = simulate_by_schedule(alloc, sim, schedule.turns.as_slice(), &mut heard);
+    let played = Played {
         file,
-        local: &sim.tree().local,
+        n,
+        sim,
         heard: &heard,
-        seats: seats.as_slice(),
-        causes: causes.as_slice(),
     };
-    tell_standstill(alloc, page, &it, rank, cause)
+    tell_played(alloc, page, &played, Some(schedule), ending)
 }
 
 /// Plays a simulation by the schedule of a source, and writes why nobody can go on at its end, or why an event has no step.
+#[tactic(auto, using(crate::proofs::Begun::as_it_stands))]
 pub fn tell_by_schedule<A: Fn(u64, u32, u64) -> u32 + Drop>(
     alloc: Global,
     page: &mut Page,
@@ -122,25 +201,8 @@ pub fn tell_by_schedule<A: Fn(u64, u32, u64) -> u32 + Drop>(
     requires tree { IsTree tree }
     requires few { length schedule.now.turns.items ≤ MOST_EVENTS }
 {
-    let Some(mut sim) = start(alloc, tree, n, answers, schedule.seed) else {
-        return Ok(());
-    };
-    let mut heard = Heard::new(alloc);
-    let ending = simulate_by_schedule(alloc, &mut sim, schedule.turns.as_slice(), &mut heard);
-    let seats = seats_of(alloc, sim.tree(), n)?;
-    let causes = causes_in(alloc, &sim, n)?;
-    let it = Standstill {
-        file,
-        local: &sim.tree().local,
-        heard: &heard,
-        seats: seats.as_slice(),
-        causes: causes.as_slice(),
-    };
-    match ending {
-        Ending::Stuck { rank, cause } => tell_standstill(alloc, page, &it, rank, cause),
-        Ending::Refused(at) => tell_refused(page, schedule, n, at, &it),
-        Ending::Ended | Ending::Turns | Ending::Full | Ending::NoMemory | Ending::WriteFault => Ok(
-            (),
-        ),
+    match Sim::new(alloc, tree, n, Answers::new(answers, schedule.seed)) {
+        Ok(mut sim) => play_by_schedule(alloc, page, file, n, &mut sim, schedule),
+        Err(_) => Ok(()),
     }
 }

@@ -113,8 +113,12 @@ fn text_of_bounds(
     page.text(alloc, text)
 }
 
+/// Whether bytes are a schedule.
+fn is_schedule(alloc: Global, bytes: &[u8]) -> bool {
+    read_turns(alloc, bytes).is_ok()
+}
+
 /// What is told of a tree and a schedule.
-#[tactic(auto, using(pb_explain_again::proofs::Pages::of_file, pb_explain_again::proofs::Pages::of_words, pb_explain_again::proofs::Pages::of_same))]
 fn text_of_tree<F: Folder, A: Fn(u64, u32, u64) -> u32 + Drop>(
     alloc: Global,
     folder: &mut F,
@@ -137,7 +141,7 @@ fn text_of_tree<F: Folder, A: Fn(u64, u32, u64) -> u32 + Drop>(
         Again::Bytes(bytes) => bytes,
         Again::Lost(loss) => return text_of_loss(alloc, asked.schedule, loss, status),
     };
-    if status == Status::Limit && read_turns(alloc, &bytes).is_ok() {
+    if status == Status::Limit && is_schedule(alloc, &bytes) {
         return text_of_bounds(alloc, text, &tree, n, status);
     }
     let source = Source {

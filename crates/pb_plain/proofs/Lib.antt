@@ -3,3 +3,4 @@ mod Ranges
 mod Plains
 mod Smalls
 mod BranchSteps
+mod Adding

@@ -19,7 +19,6 @@ use std::alloc::Global;
 
 /// The statements of the block before the rest, inside these loops and with i for the variable.
 #[cycle(flat)]
-#[tactic(auto, using(crate::proofs::Smalls::all_small))]
 pub fn flat_block(
     alloc: Global,
     block: &CoreBlock,
@@ -45,7 +44,7 @@ pub fn flat_block(
 
 /// The statement before the rest.
 #[cycle(flat)]
-#[tactic(auto, using(pb_core_language::proofs::Plains::plain_choice, crate::proofs::Smalls::small_low, crate::proofs::Smalls::small_high, crate::proofs::Smalls::small_items, crate::proofs::Smalls::small_body, crate::proofs::Smalls::few_loops, crate::proofs::Smalls::all_small_branches))]
+#[tactic(auto, using(crate::proofs::Smalls::small_items, crate::proofs::Smalls::small_body))]
 pub fn flat_stmt(
     alloc: Global,
     stmt: &CoreStmt,

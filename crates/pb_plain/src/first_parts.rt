@@ -16,7 +16,6 @@ use std::alloc::Global;
 
 /// Adds what the rank finds first in the block with this number, which stands inside this block and these loops.
 #[cycle(first_parts)]
-#[tactic(auto, using(crate::proofs::Smalls::small_at))]
 pub fn add_firsts_within(
     alloc: Global,
     block: &CoreBlock,
@@ -40,7 +39,7 @@ pub fn add_firsts_within(
 
 /// Adds it where the block stands inside this statement.
 #[cycle(first_parts)]
-#[tactic(auto, using(crate::proofs::Smalls::small_loop, crate::proofs::Smalls::small_body, crate::proofs::Smalls::small_branch_at))]
+#[tactic(auto, using(crate::proofs::Smalls::small_loop, crate::proofs::Smalls::small_body))]
 fn add_firsts_below(
     alloc: Global,
     stmt: &CoreStmt,

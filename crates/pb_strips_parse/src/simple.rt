@@ -1,6 +1,6 @@
 ghost use Rattle.pb_parse.specs.Gives.{GivesTo};
 ghost use Rattle.pb_strips_syntax.specs.Plain.{plain_statement};
-ghost use Rattle.pb_strips_grammar.specs.Readers.{and_semicolon_at, message_text_at, compute_text_at, continue_text_at, broadcast_text_at, reduce_text_at, allreduce_text_at, collective_at, item_at};
+ghost use Rattle.pb_strips_grammar.specs.Readers.{and_semicolon_at, message_text_at, item_message_at, compute_text_at, continue_text_at, broadcast_text_at, reduce_text_at, allreduce_text_at, collective_at, item_at};
 
 use crate::ends::{any_end, end_beside, plain_end};
 use pb_parse::{Cursor, Numeral, Stop};
@@ -131,30 +131,33 @@ pub(crate) fn collective(cursor: &mut Cursor) -> Result<StripStatement, Stop>
     allreduce(cursor)
 }
 
-// An item of a `foreach` and its `;`. No end binds.
-#[tactic(auto, unfolding(pb_strips_grammar::specs::Readers::item_at, pb_strips_grammar::specs::Readers::and_semicolon_at, pb_strips_grammar::specs::Readers::item_message_at, pb_strips_grammar::specs::Readers::compute_text_at))]
+// A message of a `foreach` and its `;`. No end binds.
+#[tactic(auto, unfolding(pb_strips_grammar::specs::Readers::and_semicolon_at, pb_strips_grammar::specs::Readers::item_message_at))]
+fn item_message(cursor: &mut Cursor) -> Result<StripStatement, Stop>
+    ensures { GivesTo plain_statement result cursor.new.rest.now (and_semicolon_at item_message_at cursor.old.rest.now) }
+{
+    let label = cursor.name()?;
+    let payload = cursor.payload()?;
+    cursor.key(Key::From)?;
+    let from = plain_end(cursor)?;
+    cursor.key(Key::To)?;
+    let to = plain_end(cursor)?;
+    cursor.mark(Mark::Semicolon)?;
+    Ok(StripStatement::Message {
+        label,
+        payload,
+        from,
+        to,
+    })
+}
+
+// An item of a `foreach` and its `;`.
+#[tactic(auto, unfolding(pb_strips_grammar::specs::Readers::item_at))]
 pub(crate) fn item(cursor: &mut Cursor) -> Result<StripStatement, Stop>
     ensures { GivesTo plain_statement result cursor.new.rest.now (item_at cursor.old.rest.now) }
 {
     if cursor.at_word() {
-        let label = cursor.name()?;
-        let payload = cursor.payload()?;
-        cursor.key(Key::From)?;
-        let from = plain_end(cursor)?;
-        cursor.key(Key::To)?;
-        let to = plain_end(cursor)?;
-        cursor.mark(Mark::Semicolon)?;
-        return Ok(StripStatement::Message {
-            label,
-            payload,
-            from,
-            to,
-        });
+        return item_message(cursor);
     }
-    let place = cursor.key(Key::Compute)?;
-    let kernel = cursor.name()?;
-    cursor.key(Key::At)?;
-    let at = plain_end(cursor)?;
-    cursor.mark(Mark::Semicolon)?;
-    Ok(StripStatement::Compute { place, kernel, at })
+    compute(cursor)
 }

@@ -3,9 +3,9 @@ use Rattle.pb_core_language.specs.declared.tree.CoreBlock.{out-CoreBlock}
 use Rattle.pb_core_language.specs.Plain.{plain_block, plain_stmt}
 use Rattle.pb_plain.specs.Loops.{ids_of}
 use Rattle.pb_plain.specs.View.{view, view_branches}
-use Rattle.pb_plain.proofs.BranchSteps.{branch_step, block_start, branch_start}
+use Rattle.pb_plain.proofs.BranchSteps.{branch_step, block_step, block_start, branch_start}
 use Rattle.pb_plain.proofs.Plains.{choice_done}
-use Rattle.pb_plain.proofs.Smalls.{all_small, all_small_branches}
+use Rattle.pb_plain.proofs.Smalls.{small_low, small_high, few_loops, all_small, all_small_branches}
 use Rattle.pb_plain.proofs.build.+flat.Goals as goal
 
 pub flat_stmt-returns-after-loop-left-2 : goal.flat_stmt-returns-after-loop-left-2
@@ -44,3 +44,24 @@ flat_stmt-loop-left-2-init t c = record {
       branch_start c.args.site.now.roles.now c.args.site.now.n (ids_of c.args.opens.now) c.args.i.now c.in-Choice.branches.items c.len-left-in-Choice.result
       (view_branches c.no_branches-built.result) (omega (arith, c.len-left-in-Choice.ensures)) c.no_branches-built.ensures;
 }
+
+pub flat_block-loop-left-preserved : goal.flat_block-loop-left-preserved
+flat_block-loop-left-preserved t c = record {
+  size = omega (arith, c.loop-left.invariant.size);
+  small = c.loop-left.invariant.small;
+  built =
+      block_step c.args.site.now.roles.now c.args.site.now.n (ids_of c.args.opens.now) c.args.i.now (out-CoreBlock c.args.block.now).list.items c.loop-left.left c.index.result.now
+      (view c.args.rest) (view c.loop-left.built) (view c.in_ok-built.built)
+      c.loop-left-test.true c.loop-left.invariant.size c.index.ensures c.loop-left.invariant.built c.in_ok-built.ensures;
+}
+
+pub flat_stmt-turns-requires-clause-low : goal.flat_stmt-turns-requires-clause-low
+flat_stmt-turns-requires-clause-low t c =
+    small_low c.args.stmt.now c.in-Foreach.low c.in-Foreach.high c.in-Foreach.items (length (ids_of c.args.opens.now)) c.in-Foreach.is c.requires.small
+
+pub flat_stmt-turns-requires-clause-high : goal.flat_stmt-turns-requires-clause-high
+flat_stmt-turns-requires-clause-high t c =
+    small_high c.args.stmt.now c.in-Foreach.low c.in-Foreach.high c.in-Foreach.items (length (ids_of c.args.opens.now)) c.in-Foreach.is c.requires.small
+
+pub flat_stmt-between-requires : goal.flat_stmt-between-requires
+flat_stmt-between-requires t c = few_loops c.args.stmt.now c.in-Again.id (length (ids_of c.args.opens.now)) c.in-Again.is c.requires.small
