@@ -1,6 +1,6 @@
 //! Simulations of a text that are played once more, to tell how they stand at their end.
 
-ghost use Rattle.std.specs.Prelude.{◌≤◌, length, IfSome};
+ghost use Rattle.std.specs.Prelude.{◌≤◌, length};
 ghost use Rattle.pb_text.specs.declared.limits.TheConstants.{MOST_EVENTS};
 ghost use Rattle.pb_ctree.specs.Trees.{IsTree};
 ghost use Rattle.pb_sim.specs.Made.{IsBegun};
