@@ -14,6 +14,7 @@ LANES (4) is how many are proved at a time. It is run at the top of a checkout, 
 """
 import contextlib
 import copy
+import functools
 import importlib.machinery
 import importlib.util
 import json
@@ -33,6 +34,8 @@ def toolchain():
     module = importlib.util.module_from_spec(importlib.util.spec_from_loader("rt_command", loader))
     sys.modules["rt_command"] = module
     loader.exec_module(module)
+    # once for each crate, and not for each way that leads down to it
+    module.rtlib.Crate.stamp = functools.lru_cache(maxsize=None)(module.rtlib.Crate.stamp)
     return module
 
 

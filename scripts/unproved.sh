@@ -23,6 +23,8 @@ ln -s "$kit"/toolchain/lib "$room/kit/toolchain/"
 ln -s "$kit"/toolchain/bin/* "$room/kit/toolchain/bin/"
 ln -s "$kit"/bin/rattle-* "$room/kit/bin/"
 cp "$kit"/bin/rt* "$room/kit/bin/"
+# a toolchain may compute the stamp of a crate once for each way that leads down to it, which takes minutes
+printf '\n\nCrate.stamp = functools.lru_cache(maxsize=None)(Crate.stamp)\n' >> "$room/kit/bin/rtlib.py"
 rm "$room/kit/toolchain/bin/clang"
 cat > "$room/kit/toolchain/bin/clang" <<END
 #!/usr/bin/env bash
