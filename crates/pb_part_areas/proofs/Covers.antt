@@ -10,14 +10,14 @@ use Rattle.pb_part_areas.specs.Joins.{blank}
 
 -- ---- what an area that holds says
 
-record Holds (a : Area) (n : ℤ) (role : ℕ) (x : ℤ) : Type 0 where
-  here : nat_eq role a.role ≡ true
-  low : int_le (at a.low n) x ≡ true
-  end : int_lt x (at a.end n) ≡ true
-  from : int_le (pos a.from) n ≡ true
-  until : is_before n a.until ≡ true
+pub record Holds (a : Area) (n : ℤ) (role : ℕ) (x : ℤ) : Type 0 where
+  pub here : nat_eq role a.role ≡ true
+  pub low : int_le (at a.low n) x ≡ true
+  pub end : int_lt x (at a.end n) ≡ true
+  pub from : int_le (pos a.from) n ≡ true
+  pub until : is_before n a.until ≡ true
 
-holds : (a : Area) (n : ℤ) (role : ℕ) (x : ℤ) → has a n role x ≡ true → Holds a n role x
+pub holds : (a : Area) (n : ℤ) (role : ℕ) (x : ℤ) → has a n role x ≡ true → Holds a n role x
 holds a n role x h =
     let p = and_parts (nat_eq role a.role && int_le (at a.low n) x && int_lt x (at a.end n) && int_le (pos a.from) n) (is_before n a.until) h in
     let q = and_parts (nat_eq role a.role && int_le (at a.low n) x && int_lt x (at a.end n)) (int_le (pos a.from) n) p.0 in
@@ -83,6 +83,10 @@ pub apart_roles : (a b : Area) → (a.role ≡ b.role → ⊥) → (n : ℤ) (ro
 apart_roles a b h n role x = both_false (has a n role x) (has b n role x) (λ j k.
     h (sym (eqb-true role a.role (holds a n role x j).here) ∙ eqb-true role b.role (holds b n role x k).here))
 
+or_true : (a : Bool) → a || true ≡ true
+or_true true = refl
+or_true false = refl
+
 -- ---- lists
 
 pub have_at : (xs : List Area) (i : ℕ) (n : ℤ) (role : ℕ) (x : ℤ) → i < length xs → has (get_or xs i blank) n role x ≡ true → have xs n role x ≡ true
@@ -136,6 +140,16 @@ kept_end_bools false a l h = h
 pub kept_end : (xs : List Area) (i : ℕ) (o a l : Bool) (n : ℤ) (role : ℕ) (x : ℤ) → length xs ≤ i → (o || have (drop i xs) n role x) || a ≡ l → o || a ≡ l
 kept_end xs i o a l n role x le h = kept_end_bools o a l (sym (ap (λ z. (o || have z n role x) || a) (drop_of_length-le xs le)) ∙ h)
 
--- the list without those within an area, and what the area holds of beside them
-pub with_missing : (k l a v o : Bool) → k || a ≡ l || a → v ≡ a && not k → o ≡ k || v → o ≡ l || a
+-- the list without those within an area, and what the area adds to it
+pub with_missing : (k l a v o : Bool) → k || a ≡ l || a → v || k ≡ a || k → o ≡ k || v → o ≡ l || a
 with_missing k l a v o e f g = grind (arith, nat_tests)
+
+missing_bools : (o o2 b l a : Bool) → o2 ≡ o && not b → (b ≡ true → l ≡ true) → o || l ≡ a || l → o2 || l ≡ a || l
+missing_bools o o2 true l a e h k = let t = h refl in (ap (λ z. o2 || z) t ∙ or_true o2) ∙ sym (ap (λ z. a || z) t ∙ or_true a)
+missing_bools true o2 false l a e h k = ap (λ z. z || l) e ∙ k
+missing_bools false o2 false l a e h k = ap (λ z. z || l) e ∙ k
+
+-- what is left of an area, without one more of the list
+pub missing_step : (xs : List Area) (i : ℕ) (o o2 a : Bool) (n : ℤ) (role : ℕ) (x : ℤ) → i < length xs → o2 ≡ o && not (has (get_or xs i blank) n role x)
+    → o || have xs n role x ≡ a || have xs n role x → o2 || have xs n role x ≡ a || have xs n role x
+missing_step xs i o o2 a n role x lt e h = missing_bools o o2 (has (get_or xs i blank) n role x) (have xs n role x) a e (have_at xs i n role x lt) h

@@ -9,3 +9,4 @@ pub mod Neighbours
 pub mod Lists
 pub mod Guarded
 pub mod Firsts
+pub mod Clips

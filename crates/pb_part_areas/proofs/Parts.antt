@@ -64,6 +64,9 @@ distant a b p q h e = omega (arith, ints)
 pub upright_same : (a : Area) → is_param a.low.base ≡ is_param a.end.base → int_le a.low.off a.end.off ≡ true → IsUpright a
 upright_same a e h = record { upright = λ n k. distant a.low.off a.end.off (at a.low n) (at a.end n) (omega (arith, ints)) (apart a.low a.end n e) }
 
+pub below_same : (l h : Lin) → is_param l.base ≡ is_param h.base → int_le l.off h.off ≡ true → (n : ℤ) → at l n ≤ℤ at h n
+below_same l h e k n = distant l.off h.off (at l n) (at h n) (omega (arith, ints)) (apart l h n e)
+
 from_on : (l e low end n : ℤ) (from : ℕ) (u : Bool) → low ≡ l → end ≡ e +ℤ n → (l +ℤ pos 0) ≤ℤ (e +ℤ pos from) → int_le (pos from) n && u ≡ true → low ≤ℤ end
 from_on l e low end n from u hl he h k = grind (arith, ints, nat_tests)
 

@@ -1,6 +1,6 @@
 -- Areas that hold of something, and areas whose end is below their low end.
 use Rattle.std.proofs.Common.{◌≡◌, ◌<◌, ◌+◌, ℕ, suc, ℤ, pos, negsuc, ◌+ℤ◌, ◌-ℤ◌, ◌≤ℤ◌, ◌<ℤ◌, Bool, true, false, ◌&&◌, ◌||◌, int_le, int_lt, nat_eq, refl, arith, ap, sym, subst, ◌∙◌, List, Option, Some, None, take, drop}
-use Rattle.std.specs.List.{All, remove}
+use Rattle.std.specs.List.{remove}
 use Rattle.std.specs.Option.{IfSome}
 use Rattle.std.proofs.lemmas.Int.{ints}
 use Rattle.std.proofs.lemmas.Bool.Decides.{nat_tests}

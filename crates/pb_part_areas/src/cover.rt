@@ -7,7 +7,7 @@ ghost use Rattle.pb_part_areas.specs.Areas.{at, has, have, is_before, is_when};
 
 use crate::area::Area;
 use crate::empty::is_upright;
-use crate::numbers::later;
+use crate::numbers::{is_param, later};
 use pb_affine::Lin;
 
 /// True only where the first end of numbers N isn't after the second.
@@ -41,7 +41,19 @@ fn sooner_end(until: Option<u32>, other: Option<u32>) -> Option<u32>
 }
 
 /// True only where the first lin isn't above the second, for each N that both areas speak of.
+#[tactic(auto, using(crate::proofs::Parts::below_same))]
 fn is_below(low: Lin, high: Lin, a: Area, b: Area) -> bool
+    ensures { result ≡ true → (n : ℤ) → is_when n a ≡ true → is_when n b ≡ true → at low n ≤ℤ at high n }
+{
+    if is_param(low.base) == is_param(high.base) {
+        low.off <= high.off
+    } else {
+        is_below_during(low, high, a, b)
+    }
+}
+
+/// The same, by the numbers N of both.
+fn is_below_during(low: Lin, high: Lin, a: Area, b: Area) -> bool
     ensures { result ≡ true → (n : ℤ) → is_when n a ≡ true → is_when n b ≡ true → at low n ≤ℤ at high n }
 {
     is_upright(Area {
@@ -65,9 +77,9 @@ pub(crate) fn covers(b: Area, a: Area) -> bool
         && is_below(a.end, b.end, a, a)
 }
 
-/// True only where nothing is of both areas.
+/// True only where nothing is of both areas. Takes no memory.
 #[tactic(auto, using(crate::proofs::Covers::apart_roles, crate::proofs::Covers::apart_first, crate::proofs::Covers::apart_second))]
-pub(crate) fn is_apart(a: Area, b: Area) -> bool
+pub fn is_apart(a: Area, b: Area) -> bool
     ensures { result ≡ true → (n : ℤ) (role : ℕ) (x : ℤ) → has a n role x && not (has b n role x) ≡ has a n role x }
 {
     if a.role == b.role {

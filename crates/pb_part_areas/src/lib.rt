@@ -3,6 +3,7 @@
 #![tactic(auto)]
 
 mod area;
+mod clip;
 mod cover;
 mod cut;
 mod empty;
@@ -14,6 +15,8 @@ mod pair;
 mod sets;
 
 pub use area::{Area, nowhere, since, until};
+pub use clip::clipped;
+pub use cover::is_apart;
 pub use cut::Two;
 pub use first::first_of;
 pub use guard::{guard_of, guards_of};

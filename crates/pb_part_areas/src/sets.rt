@@ -124,14 +124,24 @@ fn beside(alloc: Global, list: &[Area], a: Area) -> Result<Vec<Area>, NoMemory>
     Ok(out)
 }
 
-/// What the area holds of and none of the list.
+/// In how many pieces an area may be cut that is added to a list. Where there would be more, it is added whole.
+const PIECES: usize = 8;
+
+/// What the area holds of and none of the list, or the whole area, where that would be many pieces.
 fn missing(alloc: Global, a: Area, list: &[Area]) -> Result<Vec<Area>, NoMemory>
-    ensures is { IfOk result (λ v. (n : ℤ) (role : ℕ) (x : ℤ) → have v.items n role x ≡ has a n role x && not (have list.now n role x)) }
+    ensures is { IfOk result (λ v. (n : ℤ) (role : ℕ) (x : ℤ) → have v.items n role x || have list.now n role x ≡ has a n role x || have list.now n role x) }
     ensures fits { IfOk result (λ v. (range : NRange) (cuts : List Lin) → Fits range cuts a → All (Fits range cuts) list.now → All (Fits range cuts) v.items) }
     ensures some { IfOk result (λ v. AreSomewhere v.items) }
 {
-    let alone = one(alloc, a)?;
-    let left = without(alloc, alone, list)?;
+    let all = one(alloc, a)?;
+    let mut left = all;
+    for b in list {
+        left = lessened(alloc, left, *b)?;
+        if left.len() > PIECES {
+            let uncut = one(alloc, a)?;
+            return Ok(uncut);
+        }
+    }
     Ok(left)
 }
 
@@ -155,6 +165,10 @@ pub fn add_new(alloc: Global, out: &mut Vec<Area>, a: Area) -> Result<(), NoMemo
     ensures some { OnOk result (AreSomewhere out.old.items → AreSomewhere out.new.items) }
 {
     if is_covered(out, a) {
+        return Ok(());
+    }
+    if are_apart(out, a) {
+        push(out, a)?;
         return Ok(());
     }
     let list = with_area(alloc, out, a)?;

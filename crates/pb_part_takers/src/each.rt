@@ -16,7 +16,7 @@ ghost use Rattle.pb_part_takers.specs.Pieces.{IsAdded, met_piece, item_piece, it
 use crate::ends::{end_area, moved_by, next_to};
 use pb_affine::Base;
 use pb_core_language::{Bounds, CoreBlock, CoreEnd, CoreKind, CoreStmt};
-use pb_part_areas::{Area, add_new, is_param, meet, nowhere, since, until};
+use pb_part_areas::{Area, add_new, clipped, is_param, meet, nowhere, since, until};
 use pb_text::NoMemory;
 use std::alloc::Global;
 
@@ -87,25 +87,32 @@ pub fn met_area(end: CoreEnd, over: Bounds) -> Area
     }
 }
 
-fn add_met(alloc: Global, out: &mut Vec<Area>, end: CoreEnd, over: Bounds) -> Result<(), NoMemory>
-    ensures { OnOk result ((whole : List Area) (held : List Held) → IsAdded whole held (met_piece over end) out.old.items out.new.items) }
+fn add_met(
+    alloc: Global,
+    whole: &[Area],
+    out: &mut Vec<Area>,
+    end: CoreEnd,
+    over: Bounds,
+) -> Result<(), NoMemory>
+    ensures { OnOk result ((held : List Held) → IsAdded whole.now held (met_piece over end) out.old.items out.new.items) }
 {
-    let area = met_area(end, over);
+    let area = clipped(met_area(end, over), whole);
     add_new(alloc, out, area)?;
     Ok(())
 }
 
 fn add_two_met(
     alloc: Global,
+    whole: &[Area],
     out: &mut Vec<Area>,
     from: CoreEnd,
     to: CoreEnd,
     over: Bounds,
 ) -> Result<(), NoMemory>
-    ensures { OnOk result ((whole : List Area) (held : List Held) (label : ℕ) (ids : List ℕ) → IsAdded whole held (item_piece over ids (message label from to)) out.old.items out.new.items) }
+    ensures { OnOk result ((held : List Held) (label : ℕ) (ids : List ℕ) → IsAdded whole.now held (item_piece over ids (message label from to)) out.old.items out.new.items) }
 {
-    add_met(alloc, out, from, over)?;
-    add_met(alloc, out, to, over)?;
+    add_met(alloc, whole, out, from, over)?;
+    add_met(alloc, whole, out, to, over)?;
     Ok(())
 }
 
@@ -113,14 +120,15 @@ fn add_two_met(
 fn takers_of_item(
     stmt: &CoreStmt,
     alloc: Global,
+    whole: &[Area],
     over: Bounds,
     out: &mut Vec<Area>,
 ) -> Result<(), NoMemory>
-    ensures { OnOk result ((whole : List Area) (held : List Held) (ids : List ℕ) → IsAdded whole held (item_piece over ids (plain_stmt stmt.now).stmt) out.old.items out.new.items) }
+    ensures { OnOk result ((held : List Held) (ids : List ℕ) → IsAdded whole.now held (item_piece over ids (plain_stmt stmt.now).stmt) out.old.items out.new.items) }
 {
     match &stmt.what {
-        CoreKind::Message { from, to, .. } => add_two_met(alloc, out, *from, *to, over),
-        CoreKind::Run { at, .. } => add_met(alloc, out, *at, over),
+        CoreKind::Message { from, to, .. } => add_two_met(alloc, whole, out, *from, *to, over),
+        CoreKind::Run { at, .. } => add_met(alloc, whole, out, *at, over),
         CoreKind::Foreach { .. }
         | CoreKind::Loop { .. }
         | CoreKind::Again { .. }
@@ -136,13 +144,14 @@ fn takers_of_item(
 pub fn takers_each(
     items: &CoreBlock,
     alloc: Global,
+    whole: &[Area],
     over: Bounds,
     out: &mut Vec<Area>,
 ) -> Result<(), NoMemory>
-    ensures { OnOk result ((whole : List Area) (held : List Held) (ids : List ℕ) → IsAdded whole held (items_piece over ids (plain_block items.now).block) out.old.items out.new.items) }
+    ensures { OnOk result ((held : List Held) (ids : List ℕ) → IsAdded whole.now held (items_piece over ids (plain_block items.now).block) out.old.items out.new.items) }
 {
     for stmt in &items.list {
-        takers_of_item(stmt, alloc, over, out)?;
+        takers_of_item(stmt, alloc, whole, over, out)?;
     }
     Ok(())
 }

@@ -7,7 +7,7 @@ ghost use Rattle.pb_part_takers.specs.Sums.{IsSum};
 
 use pb_affine::Lin;
 use pb_core_language::CoreEnd;
-use pb_part_areas::{Area, add_new};
+use pb_part_areas::{Area, add_new, clipped};
 use pb_text::NoMemory;
 use std::alloc::Global;
 
@@ -45,10 +45,15 @@ pub fn end_area(end: CoreEnd) -> Area
 }
 
 /// Adds the rank at an end.
-pub fn add_end(alloc: Global, out: &mut Vec<Area>, end: CoreEnd) -> Result<(), NoMemory>
-    ensures { OnOk result ((whole : List Area) (held : List Held) → IsAdded whole held (end_piece end) out.old.items out.new.items) }
+pub fn add_end(
+    alloc: Global,
+    whole: &[Area],
+    out: &mut Vec<Area>,
+    end: CoreEnd,
+) -> Result<(), NoMemory>
+    ensures { OnOk result ((held : List Held) → IsAdded whole.now held (end_piece end) out.old.items out.new.items) }
 {
-    let area = end_area(end);
+    let area = clipped(end_area(end), whole);
     add_new(alloc, out, area)?;
     Ok(())
 }

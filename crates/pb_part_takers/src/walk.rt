@@ -15,14 +15,15 @@ use std::alloc::Global;
 
 fn takers_of_message(
     alloc: Global,
+    whole: &[Area],
     from: CoreEnd,
     to: CoreEnd,
     out: &mut Vec<Area>,
 ) -> Result<(), NoMemory>
-    ensures { OnOk result ((whole : List Area) (held : List Held) (label : ℕ) (mark : Mark) → IsAdded whole held (stmt_piece held (stmt_of mark (message label from to))) out.old.items out.new.items) }
+    ensures { OnOk result ((held : List Held) (label : ℕ) (mark : Mark) → IsAdded whole.now held (stmt_piece held (stmt_of mark (message label from to))) out.old.items out.new.items) }
 {
-    add_end(alloc, out, from)?;
-    add_end(alloc, out, to)?;
+    add_end(alloc, whole, out, from)?;
+    add_end(alloc, whole, out, to)?;
     Ok(())
 }
 
@@ -30,11 +31,12 @@ fn takers_of_each(
     items: &CoreBlock,
     over: Bounds,
     alloc: Global,
+    whole: &[Area],
     out: &mut Vec<Area>,
 ) -> Result<(), NoMemory>
-    ensures { OnOk result ((whole : List Area) (held : List Held) (mark : Mark) → IsAdded whole held (stmt_piece held (stmt_of mark (foreach over (plain_block items.now).mark (plain_block items.now).block))) out.old.items out.new.items) }
+    ensures { OnOk result ((held : List Held) (mark : Mark) → IsAdded whole.now held (stmt_piece held (stmt_of mark (foreach over (plain_block items.now).mark (plain_block items.now).block))) out.old.items out.new.items) }
 {
-    takers_each(items, alloc, over, out)?;
+    takers_each(items, alloc, whole, over, out)?;
     Ok(())
 }
 
@@ -124,7 +126,7 @@ fn takers_of_choice(
 ) -> Result<(), NoMemory>
     ensures { OnOk result ((kernel : ℕ) (mark : Mark) → IsAdded whole.now held.now (stmt_piece held.now (stmt_of mark (choice kernel at (branches_of (map plain_block branches.now))))) out.old.items out.new.items) }
 {
-    add_end(alloc, out, at)?;
+    add_end(alloc, whole, out, at)?;
     takers_among(branches, alloc, whole, held, out)?;
     Ok(())
 }
@@ -141,20 +143,20 @@ pub fn takers_at(
     ensures { OnOk result (IsAdded whole.now held.now (stmt_piece held.now (plain_stmt stmt.now)) out.old.items out.new.items) }
 {
     match &stmt.what {
-        CoreKind::Message { from, to, .. } => takers_of_message(alloc, *from, *to, out),
+        CoreKind::Message { from, to, .. } => takers_of_message(alloc, whole, *from, *to, out),
         CoreKind::Foreach { low, high, items } => {
             let over = Bounds {
                 low: *low,
                 high: *high,
             };
-            takers_of_each(items, over, alloc, out)
+            takers_of_each(items, over, alloc, whole, out)
         }
         CoreKind::Loop { id, body } => takers_of_loop(body, *id, alloc, whole, held, out),
         CoreKind::Again { id } => takers_of_continue(*id, alloc, held, out),
         CoreKind::Choice { at, branches, .. } => {
             takers_of_choice(branches, *at, alloc, whole, held, out)
         }
-        CoreKind::Run { at, .. } => add_end(alloc, out, *at),
+        CoreKind::Run { at, .. } => add_end(alloc, whole, out, *at),
         CoreKind::Barrier => takers_of_all(alloc, whole, out),
         CoreKind::Broadcast { .. } => takers_of_all(alloc, whole, out),
         CoreKind::Reduce { .. } => takers_of_all(alloc, whole, out),
