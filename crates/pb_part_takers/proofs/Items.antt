@@ -38,17 +38,19 @@ with_bounds : (h : Bounds) (rest : Bool) → is_bound h.low ≡ true → is_boun
 with_bounds h rest a b c = ap (λ z. z && (is_bound h.high && rest)) a ∙ ap (λ z. z && rest) b ∙ c
 
 module _ (whole : List Area) (held : List Held) (h : Bounds) where
-  pub met_added : (e : CoreEnd) (a : Area) (old new : List Area) → IsMetArea h e a → ((n : ℤ) (role : ℕ) (x : ℤ) → have new n role x ≡ have old n role x || has a n role x) →
-      ((range : NRange) (cuts : List Lin) → All (Fits range cuts) old → Fits range cuts a → All (Fits range cuts) new) → IsAdded whole held (met_piece h e) old new
-  met_added e a old new ea is fits = record {
+  -- `b` is the end's area, for the numbers N of the ranks
+  pub met_added : (e : CoreEnd) (a b : Area) (old new : List Area) → IsMetArea h e a → ((n : ℤ) (role : ℕ) (x : ℤ) → have whole n role x ≡ true → has b n role x ≡ has a n role x) →
+      ((range : NRange) (cuts : List Lin) → All (Fits range cuts) whole → Fits range cuts a → Fits range cuts b) → ((n : ℤ) (role : ℕ) (x : ℤ) → have new n role x ≡ have old n role x || has b n role x) →
+      ((range : NRange) (cuts : List Lin) → All (Fits range cuts) old → Fits range cuts b → All (Fits range cuts) new) → IsAdded whole held (met_piece h e) old new
+  met_added e a b old new ea same clip is fits = record {
     is = λ rows roles n role x s r w.
         let i = inside h (is_end rows true e) s in
         let small = and_parts (nat_lt e.role rows.roles) (is_small e.at.off) i.rest_is in
-        is n role x ∙ ap (λ z. have old n role x || z) (ea.is n role x (have_from_zero whole n role x w) i.low i.high small.1);
+        is n role x ∙ ap (λ z. have old n role x || z) (same n role x w ∙ ea.is n role x (have_from_zero whole n role x w) i.low i.high small.1);
     fits = λ rows range cuts s k fw fh f.
         let i = inside h (is_end rows true e) s in
         let small = and_parts (nat_lt e.role rows.roles) (is_small e.at.off) i.rest_is in
-        fits range cuts f (ea.fits range cuts i.low i.high small.1 k);
+        fits range cuts f (clip range cuts fw (ea.fits range cuts i.low i.high small.1 k));
   }
 
   pub message_item : (label : ℕ) (ids : List ℕ) (f t : CoreEnd) (old mid new : List Area) → IsAdded whole held (met_piece h f) old mid → IsAdded whole held (met_piece h t) mid new →

@@ -90,17 +90,19 @@ module _ (whole : List Area) (held : List Held) where
 
   -- ---- ends
 
-  pub end_added : (e : CoreEnd) (a : Area) (old new : List Area) → IsEndArea e a → ((n : ℤ) (role : ℕ) (x : ℤ) → have new n role x ≡ have old n role x || has a n role x) →
-      ((range : NRange) (cuts : List Lin) → All (Fits range cuts) old → Fits range cuts a → All (Fits range cuts) new) → IsAdded whole held (end_piece e) old new
-  end_added e a old new ea is fits = record {
+  -- `b` is the end's area, for the numbers N of the ranks
+  pub end_added : (e : CoreEnd) (a b : Area) (old new : List Area) → IsEndArea e a → ((n : ℤ) (role : ℕ) (x : ℤ) → have whole n role x ≡ true → has b n role x ≡ has a n role x) →
+      ((range : NRange) (cuts : List Lin) → All (Fits range cuts) whole → Fits range cuts a → Fits range cuts b) → ((n : ℤ) (role : ℕ) (x : ℤ) → have new n role x ≡ have old n role x || has b n role x) →
+      ((range : NRange) (cuts : List Lin) → All (Fits range cuts) old → Fits range cuts b → All (Fits range cuts) new) → IsAdded whole held (end_piece e) old new
+  end_added e a b old new ea same clip is fits = record {
     is = λ rows roles n role x s r w.
         let ss = and_parts (nat_lt e.role rows.roles) (is_over_n e.at.base && is_small e.at.off) s in
         let small = and_parts (is_over_n e.at.base) (is_small e.at.off) ss.1 in
-        is n role x ∙ ap (λ z. have old n role x || z) (ea.is n role x (have_from_zero whole n role x w) small.1 ∙ sym (end_is_at roles n (pos 0) e role x r));
+        is n role x ∙ ap (λ z. have old n role x || z) (same n role x w ∙ ea.is n role x (have_from_zero whole n role x w) small.1 ∙ sym (end_is_at roles n (pos 0) e role x r));
     fits = λ rows range cuts s k fw fh f.
         let ss = and_parts (nat_lt e.role rows.roles) (is_over_n e.at.base && is_small e.at.off) s in
         let small = and_parts (is_over_n e.at.base) (is_small e.at.off) ss.1 in
-        fits range cuts f (ea.fits range cuts small.1 small.0 k);
+        fits range cuts f (clip range cuts fw (ea.fits range cuts small.1 small.0 k));
   }
 
   -- ---- statements

@@ -7,20 +7,22 @@ use Rattle.pb_core_language.proofs.Plains.{plain_list}
 use Rattle.pb_part_takers.proofs.each.takers_each.Goals as goal
 
 pub loop-stmt-preserved : goal.loop-stmt-preserved
-loop-stmt-preserved c = λ whole held ids new rest.
+loop-stmt-preserved c = λ held ids new rest.
+    let whole = c.args.whole.now in
     let items = c.deref-stmt-items.result.now in
     let over = c.args.over in
-    c.loop-stmt.invariant whole held ids new
+    c.loop-stmt.invariant held ids new
     (subst (λ z. IsAdded whole held (items_piece over ids (block_of (map plain_stmt z))) c.loop-stmt.out.items new) (sym (from_place items c.loop-stmt.stmt-index c.stmt-item.result c.loop-stmt-test.true c.stmt-item.is))
     (items_more whole held over ids (plain_stmt c.stmt-item.result) (block_of (map plain_stmt (drop (c.loop-stmt.stmt-index + 1) items))) c.loop-stmt.out.items c.takers_of_item.new.out.items new
-    (c.in_ok-takers_of_item.ensures whole held ids) rest))
+    (c.in_ok-takers_of_item.ensures held ids) rest))
 
 pub returns : goal.returns
-returns c = λ whole held ids.
+returns c = λ held ids.
+    let whole = c.args.whole.now in
     let items = c.deref-stmt-items.result.now in
     let over = c.args.over in
     let same : block_of (map plain_stmt items) ≡ (plain_block c.args.items.now).block = ap (λ z. block_of (map plain_stmt z)) c.deref-stmt-items.ensures.value ∙ sym (plain_list c.args.items.now) in
     subst (λ z. IsAdded whole held (items_piece over ids z) c.args.out.now.items c.loop-stmt.out.items) same
-    (c.loop-stmt.invariant whole held ids c.loop-stmt.out.items
+    (c.loop-stmt.invariant held ids c.loop-stmt.out.items
     (subst (λ z. IsAdded whole held (items_piece over ids (block_of (map plain_stmt z))) c.loop-stmt.out.items c.loop-stmt.out.items) (sym (drop_of_length-le items c.loop-stmt-test.false))
     (items_done whole held over ids c.loop-stmt.out.items)))

@@ -70,17 +70,17 @@ takers_among-returns t c =
 pub takers_of_choice-returns : goal.takers_of_choice-returns
 takers_of_choice-returns t c = λ kernel mark.
     choice_added c.args.whole.now c.args.held.now kernel mark c.args.at (branches_of (map plain_block c.args.branches.now)) c.args.out.now.items c.add_end.new.out.items c.takers_among.new.out.items
-    (c.in_ok-add_end.ensures c.args.whole.now c.args.held.now) c.in_ok-takers_among.ensures
+    (c.in_ok-add_end.ensures c.args.held.now) c.in_ok-takers_among.ensures
 
 pub takers_at-returns-in-Message : goal.takers_at-returns-in-Message
 takers_at-returns-in-Message t c = on_ok_weaker c.takers_of_message.result (λ d.
     of_kind c.args.whole.now c.args.held.now c.args.stmt.now (message c.in-Message.label c.in-Message.from c.in-Message.to) c.args.out.now.items c.takers_of_message.new.out.items
-    (plain_message c.args.stmt.now c.in-Message.label c.in-Message.from c.in-Message.to c.in-Message.is) (d c.args.whole.now c.args.held.now c.in-Message.label (plain_stmt c.args.stmt.now).mark)) c.takers_of_message.ensures
+    (plain_message c.args.stmt.now c.in-Message.label c.in-Message.from c.in-Message.to c.in-Message.is) (d c.args.held.now c.in-Message.label (plain_stmt c.args.stmt.now).mark)) c.takers_of_message.ensures
 
 pub takers_at-returns-in-Foreach : goal.takers_at-returns-in-Foreach
 takers_at-returns-in-Foreach t c = on_ok_weaker c.takers_of_each.result (λ d.
     of_kind c.args.whole.now c.args.held.now c.args.stmt.now (foreach (record { low = c.in-Foreach.low; high = c.in-Foreach.high }) (plain_block c.in-Foreach.items).mark (plain_block c.in-Foreach.items).block) c.args.out.now.items c.takers_of_each.new.out.items
-    (plain_foreach c.args.stmt.now c.in-Foreach.low c.in-Foreach.high c.in-Foreach.items c.in-Foreach.is) (d c.args.whole.now c.args.held.now (plain_stmt c.args.stmt.now).mark)) c.takers_of_each.ensures
+    (plain_foreach c.args.stmt.now c.in-Foreach.low c.in-Foreach.high c.in-Foreach.items c.in-Foreach.is) (d c.args.held.now (plain_stmt c.args.stmt.now).mark)) c.takers_of_each.ensures
 
 pub takers_at-returns-in-Loop : goal.takers_at-returns-in-Loop
 takers_at-returns-in-Loop t c = on_ok_weaker c.takers_of_loop.result (λ d.
@@ -102,7 +102,7 @@ pub takers_at-returns-in-Run : goal.takers_at-returns-in-Run
 takers_at-returns-in-Run t c = on_ok_weaker c.add_end.result (λ d.
     of_kind c.args.whole.now c.args.held.now c.args.stmt.now (run c.in-Run.kernel c.in-Run.at) c.args.out.now.items c.add_end.new.out.items
     (plain_run c.args.stmt.now c.in-Run.kernel c.in-Run.at c.in-Run.is)
-    (run_added c.args.whole.now c.args.held.now c.in-Run.kernel (plain_stmt c.args.stmt.now).mark c.in-Run.at c.args.out.now.items c.add_end.new.out.items (d c.args.whole.now c.args.held.now))) c.add_end.ensures
+    (run_added c.args.whole.now c.args.held.now c.in-Run.kernel (plain_stmt c.args.stmt.now).mark c.in-Run.at c.args.out.now.items c.add_end.new.out.items (d c.args.held.now))) c.add_end.ensures
 
 pub takers_at-returns-in-Barrier : goal.takers_at-returns-in-Barrier
 takers_at-returns-in-Barrier t c = on_ok_weaker c.takers_of_all.result (λ d.

@@ -4,5 +4,5 @@ use Rattle.pb_part_takers.proofs.Steps.{each_added}
 use Rattle.pb_part_takers.proofs.walk.takers_of_each.Goals as goal
 
 pub returns : goal.returns
-returns c = λ whole held mark.
-    each_added whole held c.args.over (plain_block c.args.items.now).mark mark (plain_block c.args.items.now).block c.args.out.now.items c.takers_each.new.out.items (c.in_ok-takers_each.ensures whole held (ids_of held))
+returns c = λ held mark.
+    each_added c.args.whole.now held c.args.over (plain_block c.args.items.now).mark mark (plain_block c.args.items.now).block c.args.out.now.items c.takers_each.new.out.items (c.in_ok-takers_each.ensures held (ids_of held))
