@@ -106,6 +106,17 @@ same_values r s a b v w h k e = grind (arith, ints, nat_tests)
 nothing_new : (w t g : Bool) → g ≡ true → w ≡ w || (t && not g)
 nothing_new w t g e = grind (arith, nat_tests)
 
+none_common : (o a b d : Bool) → a && not b ≡ a → o ≡ o || ((a && b) && d)
+none_common true a b d e = refl
+none_common false true true d e = absurd (false≢true e)
+none_common false true false d e = refl
+none_common false false b d e = refl
+
+-- areas that have nothing in common add nothing
+pub adds_none : (a b : Area) (from second : Source) (old : List Area) → ((n : ℤ) (role : ℕ) (x : ℤ) → has a n role x && not (has b n role x) ≡ has a n role x)
+    → AddsWhere old old (λ n role x. (has a n role x && has b n role x) && not (agrees from second n x))
+adds_none a b from second old h = record { is = λ n role x _. none_common (have old n role x) (has a n role x) (has b n role x) (not (agrees from second n x)) (h n role x) }
+
 pub adds_same : (a b : Area) (s t : Source) (old : List Area) (r : Bool) → r ≡ (nat_eq s.role t.role && same_base s.at.base t.at.base && int_eq s.at.off t.at.off) → r ≡ true →
     AddsWhere old old (λ n role x. (has a n role x && has b n role x) && not (agrees s t n x))
 adds_same a b s t old r e y =

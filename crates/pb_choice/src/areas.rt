@@ -6,7 +6,7 @@ ghost use Rattle.pb_choice.specs.Clashes.{AddsWhere, agrees, clash, clash_any, c
 use crate::agree::agreement;
 use crate::alike::{have_one_source, is_label, is_same, share_no_label};
 use crate::told::copy_of;
-use pb_part_areas::{Area, add_all, common, one, push, without};
+use pb_part_areas::{Area, add_all, common, is_apart, one, push, without};
 use pb_part_firsts::{Entry, Kind, Source};
 use pb_text::NoMemory;
 use std::alloc::Global;
@@ -93,6 +93,9 @@ fn is_same_label(a: Kind, b: Kind) -> bool
 fn add_common(alloc: Global, out: &mut Vec<Area>, a: Area, b: Area) -> Result<(), NoMemory>
     ensures { OnOk result ((n : ℤ) (role : ℕ) (x : ℤ) → have out.new.items n role x ≡ have out.old.items n role x || (has a n role x && has b n role x)) }
 {
+    if is_apart(a, b) {
+        return Ok(());
+    }
     let both = overlap(alloc, a, b)?;
     add_all(out, &both)?;
     Ok(())
@@ -179,7 +182,7 @@ fn add_from(
     }
 }
 
-// The same sender by both needs no look at the areas.
+// The same sender by both needs no look at the areas, and areas with nothing in common none at the senders.
 fn add_unless_same(
     alloc: Global,
     out: &mut Vec<Area>,
@@ -192,6 +195,8 @@ fn add_unless_same(
         AddsWhere out.old.items out.new.items (λ n role x. (has a n role x && has b n role x) && not (agrees from second n x))) }
 {
     if is_same(from, second) {
+        Ok(())
+    } else if is_apart(a, b) {
         Ok(())
     } else {
         add_apart(alloc, out, a, from, b, second)
