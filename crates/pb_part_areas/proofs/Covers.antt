@@ -87,6 +87,16 @@ or_true : (a : Bool) → a || true ≡ true
 or_true true = refl
 or_true false = refl
 
+common_bools : (o a b : Bool) → a && not b ≡ a → o ≡ o || (a && b)
+common_bools true a b h = refl
+common_bools false true true h = h
+common_bools false true false h = refl
+common_bools false false b h = refl
+
+pub nothing_common : (a b : Area) (list : List Area) → ((n : ℤ) (role : ℕ) (x : ℤ) → has a n role x && not (has b n role x) ≡ has a n role x)
+    → (n : ℤ) (role : ℕ) (x : ℤ) → have list n role x ≡ have list n role x || (has a n role x && has b n role x)
+nothing_common a b list h n role x = common_bools (have list n role x) (has a n role x) (has b n role x) (h n role x)
+
 -- ---- lists
 
 pub have_at : (xs : List Area) (i : ℕ) (n : ℤ) (role : ℕ) (x : ℤ) → i < length xs → has (get_or xs i blank) n role x ≡ true → have xs n role x ≡ true

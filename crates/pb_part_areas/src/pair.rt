@@ -53,7 +53,21 @@ fn cut_out(out: &mut Vec<Area>, a: Area, b: Area) -> Result<(), NoMemory>
 }
 
 /// Adds what both `a` and `b` hold of.
+#[tactic(auto, using(crate::proofs::Covers::nothing_common))]
 pub(crate) fn overlap(out: &mut Vec<Area>, a: Area, b: Area) -> Result<(), NoMemory>
+    ensures is { OnOk result ((n : ℤ) (role : ℕ) (x : ℤ) → have out.new.items n role x ≡ have out.old.items n role x || (has a n role x && has b n role x)) }
+    ensures fits { OnOk result ((range : NRange) (cuts : List Lin) → All (Fits range cuts) out.old.items → Fits range cuts a → Fits range cuts b → All (Fits range cuts) out.new.items) }
+    ensures some { OnOk result (AreSomewhere out.old.items → AreSomewhere out.new.items) }
+{
+    if is_apart(a, b) {
+        Ok(())
+    } else {
+        add_overlap(out, a, b)
+    }
+}
+
+/// The same, where something may be of both.
+fn add_overlap(out: &mut Vec<Area>, a: Area, b: Area) -> Result<(), NoMemory>
     ensures is { OnOk result ((n : ℤ) (role : ℕ) (x : ℤ) → have out.new.items n role x ≡ have out.old.items n role x || (has a n role x && has b n role x)) }
     ensures fits { OnOk result ((range : NRange) (cuts : List Lin) → All (Fits range cuts) out.old.items → Fits range cuts a → Fits range cuts b → All (Fits range cuts) out.new.items) }
     ensures some { OnOk result (AreSomewhere out.old.items → AreSomewhere out.new.items) }

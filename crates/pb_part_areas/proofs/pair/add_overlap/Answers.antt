@@ -1,7 +1,7 @@
 use Rattle.std.proofs.Common.{ap, sym, ◌∙◌, nat_eq}
 use Rattle.pb_part_areas.proofs.Bools.{overlap_chain, first_true}
 use Rattle.pb_part_areas.proofs.Lists.{apart}
-use Rattle.pb_part_areas.proofs.pair.overlap.Goals as goal
+use Rattle.pb_part_areas.proofs.pair.add_overlap.Goals as goal
 
 pub returns-in_ok-push_two-2-clause-is : goal.returns-in_ok-push_two-2-clause-is
 returns-in_ok-push_two-2-clause-is c = λ n role x.
