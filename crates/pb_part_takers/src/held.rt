@@ -8,7 +8,7 @@ ghost use Rattle.pb_core_language.specs.Lists.{nth};
 ghost use Rattle.pb_core_language.specs.FlatOf.{between};
 ghost use Rattle.pb_part_takers.specs.Loops.{ids_of, held_of, HeldFit, IsInside};
 
-use pb_part_areas::{Area, absorb, copied};
+use pb_part_areas::{Area, absorb, cloned};
 use pb_text::NoMemory;
 use std::alloc::Global;
 
@@ -44,7 +44,7 @@ pub fn with_loop(
     let mut list = Vec::new(alloc);
     list.push(Held { id, areas })?;
     for h in held {
-        let areas = copied(alloc, &h.areas)?;
+        let areas = cloned(alloc, &h.areas)?;
         list.push(Held { id: h.id, areas })?;
     }
     Ok(list)

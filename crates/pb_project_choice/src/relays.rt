@@ -23,7 +23,7 @@ use pb_affine::{Base, Lin};
 use pb_choice::agreement;
 use pb_core_language::CoreEnd;
 use pb_local::{Peer, Relay, Test};
-use pb_part_areas::{Area, absorb, one, without};
+use pb_part_areas::{Area, gather_all, one, without};
 use pb_part_firsts::{Entry, Kind, Source};
 use pb_part_takers::end_area;
 use pb_project_piece::{Setting, is_somebody};
@@ -212,7 +212,7 @@ fn add_heard(
 {
     if is_of(entry.kind, source) {
         let new = others(alloc, chooser, entry.area, source)?;
-        absorb(alloc, areas, &new)?;
+        gather_all(alloc, areas, &new)?;
     }
     Ok(())
 }
@@ -261,7 +261,7 @@ fn strangers(
     let mut list = Vec::new(alloc);
     for area in areas {
         let more = strangers_of(alloc, chooser, *area, source)?;
-        absorb(alloc, &mut list, &more)?;
+        gather_all(alloc, &mut list, &more)?;
     }
     Ok(list)
 }

@@ -22,7 +22,7 @@ ghost use Rattle.pb_project_choice.specs.Tested.{is_under, HaveHolders, IsTested
 use crate::entries::Branch;
 use crate::guards::guards_in;
 use pb_local::Test;
-use pb_part_areas::{Area, add_new};
+use pb_part_areas::{Area, gather};
 use pb_part_firsts::{Entry, Kind};
 use pb_project_piece::{Setting, is_somebody};
 use pb_text::NoMemory;
@@ -89,7 +89,7 @@ fn add_area(alloc: Global, areas: &mut Vec<Area>, entry: Entry, label: u32) -> R
     ensures fits { OnOk result ((range : NRange) (cuts : List Lin) → All (Fits range cuts) areas.old.items → Fits range cuts entry.area → All (Fits range cuts) areas.new.items) }
 {
     if is_of(entry.kind, label) {
-        add_new(alloc, areas, entry.area)?;
+        gather(alloc, areas, entry.area)?;
     }
     Ok(())
 }
