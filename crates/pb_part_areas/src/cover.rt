@@ -67,6 +67,7 @@ fn is_below_during(low: Lin, high: Lin, a: Area, b: Area) -> bool
 
 /// True only where `b` holds of all that `a` holds of.
 #[tactic(auto, using(crate::proofs::Covers::cover))]
+#[inline(always)]
 pub(crate) fn covers(b: Area, a: Area) -> bool
     ensures { result ≡ true → (n : ℤ) (role : ℕ) (x : ℤ) → has a n role x ≡ true → has b n role x ≡ true }
 {
@@ -79,6 +80,7 @@ pub(crate) fn covers(b: Area, a: Area) -> bool
 
 /// True only where nothing is of both areas. Takes no memory.
 #[tactic(auto, using(crate::proofs::Covers::apart_roles, crate::proofs::Covers::apart_first, crate::proofs::Covers::apart_second))]
+#[inline(always)]
 pub fn is_apart(a: Area, b: Area) -> bool
     ensures { result ≡ true → (n : ℤ) (role : ℕ) (x : ℤ) → has a n role x && not (has b n role x) ≡ has a n role x }
 {
