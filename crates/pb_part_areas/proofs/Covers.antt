@@ -25,7 +25,7 @@ holds a n role x h =
     let s = and_parts (nat_eq role a.role) (int_le (at a.low n) x) r.0 in
     record { here = s.0; low = s.1; end = r.1; from = q.1; until = p.1 }
 
-has_it : (a : Area) (n : ℤ) (role : ℕ) (x : ℤ) → Holds a n role x → has a n role x ≡ true
+pub has_it : (a : Area) (n : ℤ) (role : ℕ) (x : ℤ) → Holds a n role x → has a n role x ≡ true
 has_it a n role x h =
     and_from _ (is_before n a.until) (and_from _ (int_le (pos a.from) n) (and_from _ (int_lt x (at a.end n)) (and_from (nat_eq role a.role) (int_le (at a.low n) x) h.here h.low) h.end) h.from) h.until
 

@@ -8,5 +8,6 @@ pub mod Joins
 pub mod Neighbours
 pub mod Lists
 pub mod Guarded
-pub mod Firsts
 pub mod Clips
+pub mod Around
+pub mod Chains

@@ -1,5 +1,4 @@
 pub mod Areas
 pub mod Fits
-pub mod First
 pub mod Joins
 pub mod Small

@@ -10,7 +10,7 @@ ghost use Rattle.pb_part_areas.specs.Fits.{Fits, IsEdgeOf, IsEdgeOfIf};
 use crate::area::{Area, ahead, since};
 
 /// The lesser of two numbers N.
-fn least(from: u32, other: u32) -> u32
+pub(crate) fn least(from: u32, other: u32) -> u32
     ensures is { (n : ℤ) → int_le (pos result) n ≡ int_le (pos from) n || int_le (pos other) n }
     ensures edge { (range : NRange) (cuts : List Lin) → IsEdgeOf range cuts (pos from) → IsEdgeOf range cuts (pos other) → IsEdgeOf range cuts (pos result) }
 {
@@ -47,7 +47,7 @@ fn later_than(t: u32, until: Option<u32>) -> Option<u32>
 }
 
 /// The later of two ends of numbers N.
-fn later_end(until: Option<u32>, other: Option<u32>) -> Option<u32>
+pub(crate) fn later_end(until: Option<u32>, other: Option<u32>) -> Option<u32>
     ensures is { (n : ℤ) → is_before n result ≡ is_before n until || is_before n other }
     ensures edge { (range : NRange) (cuts : List Lin) → IsEdgeOfIf range cuts until → IsEdgeOfIf range cuts other → IsEdgeOfIf range cuts result }
 {

@@ -42,7 +42,7 @@ fn sooner_end(until: Option<u32>, other: Option<u32>) -> Option<u32>
 
 /// True only where the first lin isn't above the second, for each N that both areas speak of.
 #[tactic(auto, using(crate::proofs::Parts::below_same))]
-fn is_below(low: Lin, high: Lin, a: Area, b: Area) -> bool
+pub(crate) fn is_below(low: Lin, high: Lin, a: Area, b: Area) -> bool
     ensures { result ≡ true → (n : ℤ) → is_when n a ≡ true → is_when n b ≡ true → at low n ≤ℤ at high n }
 {
     if is_param(low.base) == is_param(high.base) {

@@ -17,7 +17,7 @@ pub struct Two {
 
 /// The lower of two cuts with the same base.
 #[tactic(auto, using(crate::proofs::Meets::lower_first, crate::proofs::Meets::lower_second))]
-fn lower(a: Lin, b: Lin) -> Lin
+pub(crate) fn lower(a: Lin, b: Lin) -> Lin
     requires { is_param a.base ≡ is_param b.base }
     ensures is { (n x : ℤ) → int_lt x (at result n) ≡ int_lt x (at a n) && int_lt x (at b n) }
     ensures cut { (cuts : List Lin) → IsCutOf cuts a → IsCutOf cuts b → IsCutOf cuts result }
@@ -27,7 +27,7 @@ fn lower(a: Lin, b: Lin) -> Lin
 
 /// The higher of two cuts with the same base.
 #[tactic(auto, using(crate::proofs::Meets::higher_first, crate::proofs::Meets::higher_second))]
-fn higher(a: Lin, b: Lin) -> Lin
+pub(crate) fn higher(a: Lin, b: Lin) -> Lin
     requires { is_param a.base ≡ is_param b.base }
     ensures is { (n x : ℤ) → int_le (at result n) x ≡ int_le (at a n) x && int_le (at b n) x }
     ensures cut { (cuts : List Lin) → IsCutOf cuts a → IsCutOf cuts b → IsCutOf cuts result }

@@ -1,14 +1,13 @@
-ghost use Rattle.std.specs.Prelude.{◌≡◌, ◌<◌, ◌≤◌, ◌+◌, ℕ, ℤ, ◌||◌, true, false, List, length, OnOk, MatchOption, get_or};
+ghost use Rattle.std.specs.Prelude.{◌≡◌, ◌<◌, ◌≤◌, ◌+◌, ℕ, ℤ, ◌||◌, List, length, OnOk, MatchOption};
 ghost use Rattle.std.specs.List.{All};
 ghost use Rattle.pb_affine.specs.declared.lin.Lin.{Lin};
 ghost use Rattle.pb_affine.specs.declared.range.NRange.{NRange};
 ghost use Rattle.pb_part_areas.specs.declared.area.Area.{Area};
-ghost use Rattle.pb_part_areas.specs.Areas.{has, have, have_two, AreSomewhere};
-ghost use Rattle.pb_part_areas.specs.Fits.{Fits, FitTwo};
+ghost use Rattle.pb_part_areas.specs.Areas.{has, have, AreSomewhere};
+ghost use Rattle.pb_part_areas.specs.Fits.{Fits};
 ghost use Rattle.pb_part_areas.specs.Joins.{IsUnion, IsBeside, IsFollowed, AreInOrder, AreNeighbours, HasNoNeighbour, IsJoinedFrom, IsJoinedLast, IsJoin, tried};
 
 use crate::area::Area;
-use crate::cut::Two;
 use crate::empty::{is_empty, is_open, is_upright, tightened};
 use pb_text::NoMemory;
 
@@ -111,17 +110,5 @@ pub fn push(out: &mut Vec<Area>, a: Area) -> Result<(), NoMemory>
         last = join.area;
     }
     out.push(last)?;
-    Ok(())
-}
-
-/// Adds both areas.
-pub(crate) fn push_two(out: &mut Vec<Area>, two: Two) -> Result<(), NoMemory>
-    ensures is { OnOk result ((n : ℤ) (role : ℕ) (x : ℤ) → have out.new.items n role x ≡ have out.old.items n role x || have_two two n role x) }
-    ensures fits { OnOk result ((range : NRange) (cuts : List Lin) → All (Fits range cuts) out.old.items → FitTwo range cuts two → All (Fits range cuts) out.new.items) }
-    ensures some { OnOk result (AreSomewhere out.old.items → AreSomewhere out.new.items) }
-    ensures joined { OnOk result ((from : ℕ) → length out.old.items + 1 ≤ from + tried → IsJoinedFrom from out.old.items → IsJoinedFrom from out.new.items) }
-{
-    push(out, two.first)?;
-    push(out, two.second)?;
     Ok(())
 }

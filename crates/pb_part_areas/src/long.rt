@@ -8,17 +8,14 @@ ghost use Rattle.pb_part_areas.specs.Areas.{has, have, AreSomewhere};
 ghost use Rattle.pb_part_areas.specs.Fits.{Fits};
 
 use crate::area::Area;
-use crate::join::push;
 use crate::pair::keep;
 use crate::sets::add_new;
+use crate::tidy::{SHORT, attach};
 use pb_text::NoMemory;
 use std::alloc::Global;
 
-/// How long a list is at most to which an area is added only as far as it isn't there.
-const SHORT: usize = 64;
-
-/// Adds what the area holds of, as far as it isn't there, where the list is short, and the whole area where it is long: so
-/// many areas are added in time that grows with their number.
+/// Adds what the area holds of: to a short list as far as it isn't there, and to a long one the whole area, as `attach` does.
+/// So many areas are added in time that grows with their number.
 pub fn gather(alloc: Global, out: &mut Vec<Area>, a: Area) -> Result<(), NoMemory>
     ensures is { OnOk result ((n : ℤ) (role : ℕ) (x : ℤ) → have out.new.items n role x ≡ have out.old.items n role x || has a n role x) }
     ensures fits { OnOk result ((range : NRange) (cuts : List Lin) → All (Fits range cuts) out.old.items → Fits range cuts a → All (Fits range cuts) out.new.items) }
@@ -27,7 +24,7 @@ pub fn gather(alloc: Global, out: &mut Vec<Area>, a: Area) -> Result<(), NoMemor
     if out.len() <= SHORT {
         add_new(alloc, out, a)?;
     } else {
-        push(out, a)?;
+        attach(out, a)?;
     }
     Ok(())
 }

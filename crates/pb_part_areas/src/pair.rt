@@ -8,7 +8,7 @@ ghost use Rattle.pb_part_areas.specs.Fits.{Fits};
 use crate::area::{Area, ahead, behind, since, until};
 use crate::cover::is_apart;
 use crate::cut::{above, below};
-use crate::join::{push, push_two};
+use crate::tidy::{attach, attach_two};
 use pb_text::NoMemory;
 
 /// Adds what `a` holds of and `b` doesn't.
@@ -41,14 +41,14 @@ fn cut_out(out: &mut Vec<Area>, a: Area, b: Area) -> Result<(), NoMemory>
     ensures some { OnOk result (AreSomewhere out.old.items → AreSomewhere out.new.items) }
 {
     if a.role == b.role {
-        push(out, until(a, b.from))?;
-        push(out, behind(a, b.until))?;
+        attach(out, until(a, b.from))?;
+        attach(out, behind(a, b.until))?;
         let part = ahead(since(a, b.from), b.until);
-        push_two(out, below(part, b.low))?;
-        push_two(out, above(part, b.end))?;
+        attach_two(out, below(part, b.low))?;
+        attach_two(out, above(part, b.end))?;
         Ok(())
     } else {
-        push(out, a)
+        attach(out, a)
     }
 }
 
@@ -75,8 +75,8 @@ fn add_overlap(out: &mut Vec<Area>, a: Area, b: Area) -> Result<(), NoMemory>
     if a.role == b.role {
         let part = ahead(since(a, b.from), b.until);
         let two = above(part, b.low);
-        push_two(out, below(two.first, b.end))?;
-        push_two(out, below(two.second, b.end))?;
+        attach_two(out, below(two.first, b.end))?;
+        attach_two(out, below(two.second, b.end))?;
         Ok(())
     } else {
         Ok(())

@@ -10,6 +10,7 @@ use crate::area::Area;
 use crate::cover::{are_apart, covers, is_covered};
 use crate::join::push;
 use crate::pair::{keep, minus, overlap};
+use crate::tidy::{SHORT, attach_all};
 use pb_text::NoMemory;
 use std::alloc::Global;
 
@@ -188,7 +189,8 @@ pub fn absorb(alloc: Global, out: &mut Vec<Area>, more: &[Area]) -> Result<(), N
     Ok(())
 }
 
-/// The same ranks once more. No two areas are neighbours, where the list has up to 64.
+/// The same ranks once more. No two areas are neighbours, where the list has up to 64. The areas of a longer one are added as
+/// `attach` does.
 pub fn copied(alloc: Global, list: &[Area]) -> Result<Vec<Area>, NoMemory>
     ensures is { IfOk result (λ v. (n : ℤ) (role : ℕ) (x : ℤ) → have v.items n role x ≡ have list.now n role x) }
     ensures fits { IfOk result (λ v. (range : NRange) (cuts : List Lin) → All (Fits range cuts) list.now → All (Fits range cuts) v.items) }
@@ -196,6 +198,10 @@ pub fn copied(alloc: Global, list: &[Area]) -> Result<Vec<Area>, NoMemory>
     ensures joined { IfOk result (λ v. length list.now ≤ tried → IsJoinedFrom 0 v.items) }
 {
     let mut copy = Vec::new(alloc);
-    add_all(&mut copy, list)?;
+    if list.len() <= SHORT {
+        add_all(&mut copy, list)?;
+    } else {
+        attach_all(&mut copy, list)?;
+    }
     Ok(copy)
 }

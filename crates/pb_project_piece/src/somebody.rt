@@ -2,7 +2,8 @@ ghost use Rattle.std.specs.Prelude.{IfOk};
 ghost use Rattle.pb_project_piece.specs.Ranked.{IsThere};
 
 use crate::setting::Setting;
-use pb_part_areas::{Area, common, first_of};
+use pb_part_areas::{Area, common};
+use pb_part_first::first_of;
 use pb_text::NoMemory;
 use std::alloc::Global;
 

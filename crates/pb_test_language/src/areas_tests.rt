@@ -1,8 +1,7 @@
 use pb_affine::{Base, Guard, Lin, NRange};
 use pb_cases::Bad;
-use pb_part_areas::{
-    Area, NoMemory, absorb, add_all, common, first_of, guard_of, one, push, without,
-};
+use pb_part_areas::{Area, NoMemory, absorb, add_all, common, guard_of, one, push, without};
+use pb_part_first::first_of;
 use std::alloc::Global;
 
 fn fixed(off: i32) -> Lin {

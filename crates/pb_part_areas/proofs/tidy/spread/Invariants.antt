@@ -1,0 +1,14 @@
+use Rattle.std.proofs.Common.{◌≡◌, ℕ, ℤ, ◌||◌, true, List, drop}
+use Rattle.std.specs.List.{All}
+use Rattle.pb_affine.specs.declared.lin.Lin.{Lin}
+use Rattle.pb_affine.specs.declared.range.NRange.{NRange}
+use Rattle.pb_part_areas.specs.Areas.{have}
+use Rattle.pb_part_areas.specs.Fits.{Fits}
+use Rattle.pb_part_areas.proofs.tidy.spread.Given as goal
+
+abbrev pub invariant-loop-a : goal.invariant-loop-a
+invariant-loop-a l = record {
+  is : (n : ℤ) (role : ℕ) (x : ℤ) → (have l.out.items n role x || have (drop l.a-index l.list) n role x) || have l.wide.items n role x ≡ have l.list n role x || have l.wide.items n role x;
+  kept : (n : ℤ) (role : ℕ) (x : ℤ) → have l.wide.items n role x ≡ true → have l.out.items n role x ≡ true;
+  fits : (range : NRange) (cuts : List Lin) → All (Fits range cuts) l.list → All (Fits range cuts) l.out.items;
+}
