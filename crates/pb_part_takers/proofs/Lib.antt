@@ -3,6 +3,7 @@ pub mod EndAreas
 pub mod Steps
 pub mod Items
 pub mod HeldLoops
+pub mod Pushed
 pub mod RoleAreas
 pub mod Finds
 pub mod Quiet

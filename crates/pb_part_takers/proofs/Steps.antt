@@ -88,6 +88,15 @@ module _ (whole : List Area) (held : List Held) where
     fits = λ rows range lins s k. a.fits rows range lins (sound rows s) (cuts lins k);
   }
 
+  -- the piece is added to a copy, and the same ranks are then said by other areas
+  pub copy_added : (piece : Piece) (old copy mid new : List Area) → ((n : ℤ) (role : ℕ) (x : ℤ) → have copy n role x ≡ have old n role x) → ((range : NRange) (cuts : List Lin) → All (Fits range cuts) old → All (Fits range cuts) copy) →
+      IsAdded whole held piece copy mid → ((n : ℤ) (role : ℕ) (x : ℤ) → have new n role x ≡ have mid n role x) → ((range : NRange) (cuts : List Lin) → All (Fits range cuts) mid → All (Fits range cuts) new) →
+      IsAdded whole held piece old new
+  copy_added piece old copy mid new copy_is copy_fits a new_is new_fits = record {
+    is = λ rows roles n role x s r w. new_is n role x ∙ a.is rows roles n role x s r w ∙ ap (λ z. z || piece.part roles n role x) (copy_is n role x);
+    fits = λ rows range cuts s k fw fh f. new_fits range cuts (a.fits rows range cuts s k fw fh (copy_fits range cuts f));
+  }
+
   -- ---- ends
 
   -- `b` is the end's area, for the numbers N of the ranks

@@ -16,9 +16,8 @@ ghost use Rattle.pb_part_takers.specs.Pieces.{IsAdded, met_piece, item_piece, it
 use crate::ends::{end_area, moved_by, next_to};
 use pb_affine::Base;
 use pb_core_language::{Bounds, CoreBlock, CoreEnd, CoreKind, CoreStmt};
-use pb_part_areas::{Area, add_new, clipped, is_param, meet, nowhere, since, until};
+use pb_part_areas::{Area, clipped, is_param, meet, nowhere, since, until};
 use pb_text::NoMemory;
-use std::alloc::Global;
 
 fn is_var(base: Base) -> bool
     ensures { result ≡ is_var base }
@@ -87,22 +86,15 @@ pub fn met_area(end: CoreEnd, over: Bounds) -> Area
     }
 }
 
-fn add_met(
-    alloc: Global,
-    whole: &[Area],
-    out: &mut Vec<Area>,
-    end: CoreEnd,
-    over: Bounds,
-) -> Result<(), NoMemory>
+fn add_met(whole: &[Area], out: &mut Vec<Area>, end: CoreEnd, over: Bounds) -> Result<(), NoMemory>
     ensures { OnOk result ((held : List Held) → IsAdded whole.now held (met_piece over end) out.old.items out.new.items) }
 {
     let area = clipped(met_area(end, over), whole);
-    add_new(alloc, out, area)?;
+    out.push(area)?;
     Ok(())
 }
 
 fn add_two_met(
-    alloc: Global,
     whole: &[Area],
     out: &mut Vec<Area>,
     from: CoreEnd,
@@ -111,15 +103,14 @@ fn add_two_met(
 ) -> Result<(), NoMemory>
     ensures { OnOk result ((held : List Held) (label : ℕ) (ids : List ℕ) → IsAdded whole.now held (item_piece over ids (message label from to)) out.old.items out.new.items) }
 {
-    add_met(alloc, whole, out, from, over)?;
-    add_met(alloc, whole, out, to, over)?;
+    add_met(whole, out, from, over)?;
+    add_met(whole, out, to, over)?;
     Ok(())
 }
 
 /// Adds the ranks at the ends of an item.
 fn takers_of_item(
     stmt: &CoreStmt,
-    alloc: Global,
     whole: &[Area],
     over: Bounds,
     out: &mut Vec<Area>,
@@ -127,8 +118,8 @@ fn takers_of_item(
     ensures { OnOk result ((held : List Held) (ids : List ℕ) → IsAdded whole.now held (item_piece over ids (plain_stmt stmt.now).stmt) out.old.items out.new.items) }
 {
     match &stmt.what {
-        CoreKind::Message { from, to, .. } => add_two_met(alloc, whole, out, *from, *to, over),
-        CoreKind::Run { at, .. } => add_met(alloc, whole, out, *at, over),
+        CoreKind::Message { from, to, .. } => add_two_met(whole, out, *from, *to, over),
+        CoreKind::Run { at, .. } => add_met(whole, out, *at, over),
         CoreKind::Foreach { .. }
         | CoreKind::Loop { .. }
         | CoreKind::Again { .. }
@@ -143,7 +134,6 @@ fn takers_of_item(
 /// Adds the ranks that take part in some item at some value of the variable.
 pub fn takers_each(
     items: &CoreBlock,
-    alloc: Global,
     whole: &[Area],
     over: Bounds,
     out: &mut Vec<Area>,
@@ -151,7 +141,7 @@ pub fn takers_each(
     ensures { OnOk result ((held : List Held) (ids : List ℕ) → IsAdded whole.now held (items_piece over ids (plain_block items.now).block) out.old.items out.new.items) }
 {
     for stmt in &items.list {
-        takers_of_item(stmt, alloc, whole, over, out)?;
+        takers_of_item(stmt, whole, over, out)?;
     }
     Ok(())
 }

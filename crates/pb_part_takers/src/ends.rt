@@ -7,9 +7,8 @@ ghost use Rattle.pb_part_takers.specs.Sums.{IsSum};
 
 use pb_affine::Lin;
 use pb_core_language::CoreEnd;
-use pb_part_areas::{Area, add_new, clipped};
+use pb_part_areas::{Area, clipped};
 use pb_text::NoMemory;
-use std::alloc::Global;
 
 /// The lin with another's offset added, which is exact as long as it is in bounds.
 pub(crate) fn moved_by(lin: Lin, by: Lin) -> Lin
@@ -45,15 +44,10 @@ pub fn end_area(end: CoreEnd) -> Area
 }
 
 /// Adds the rank at an end.
-pub fn add_end(
-    alloc: Global,
-    whole: &[Area],
-    out: &mut Vec<Area>,
-    end: CoreEnd,
-) -> Result<(), NoMemory>
+pub fn add_end(whole: &[Area], out: &mut Vec<Area>, end: CoreEnd) -> Result<(), NoMemory>
     ensures { OnOk result ((held : List Held) → IsAdded whole.now held (end_piece end) out.old.items out.new.items) }
 {
     let area = clipped(end_area(end), whole);
-    add_new(alloc, out, area)?;
+    out.push(area)?;
     Ok(())
 }

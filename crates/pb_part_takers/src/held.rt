@@ -8,7 +8,7 @@ ghost use Rattle.pb_core_language.specs.Lists.{nth};
 ghost use Rattle.pb_core_language.specs.FlatOf.{between};
 ghost use Rattle.pb_part_takers.specs.Loops.{ids_of, held_of, HeldFit, IsInside};
 
-use pb_part_areas::{Area, absorb, cloned};
+use pb_part_areas::{Area, cloned, tidied};
 use pb_text::NoMemory;
 use std::alloc::Global;
 
@@ -19,6 +19,24 @@ pub struct Held {
     pub areas: Vec<Area>,
 }
 
+/// How long a list is at most that holds some ranks more than once.
+const MOST: usize = 4096;
+
+/// Adds the areas as they are. What is long then is made shorter, since many continues may add the same areas.
+fn gather_held(alloc: Global, out: &mut Vec<Area>, areas: &[Area]) -> Result<(), NoMemory>
+    ensures is { OnOk result ((n : ℤ) (role : ℕ) (x : ℤ) → have out.new.items n role x ≡ have out.old.items n role x || have areas.now n role x) }
+    ensures fits { OnOk result ((range : NRange) (cuts : List Lin) → All (Fits range cuts) out.old.items → All (Fits range cuts) areas.now → All (Fits range cuts) out.new.items) }
+{
+    for a in areas {
+        out.push(*a)?;
+    }
+    if out.len() > MOST {
+        let list = cloned(alloc, out)?;
+        *out = tidied(alloc, list)?;
+    }
+    Ok(())
+}
+
 /// Adds the ranks that the innermost loop with this id holds. None where there is no such loop.
 pub fn add_held(alloc: Global, out: &mut Vec<Area>, id: u32, held: &[Held]) -> Result<(), NoMemory>
     ensures is { OnOk result ((n : ℤ) (role : ℕ) (x : ℤ) → have out.new.items n role x ≡ have out.old.items n role x || nth (held_of held.now n role x) (between id (ids_of held.now))) }
@@ -26,7 +44,7 @@ pub fn add_held(alloc: Global, out: &mut Vec<Area>, id: u32, held: &[Held]) -> R
 {
     for h in held {
         if id == h.id {
-            return absorb(alloc, out, &h.areas);
+            return gather_held(alloc, out, &h.areas);
         }
     }
     Ok(())

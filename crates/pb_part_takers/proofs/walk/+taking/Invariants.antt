@@ -4,8 +4,8 @@ use Rattle.pb_core_language.specs.Plain.{plain_block, plain_stmt, block_of, bran
 use Rattle.pb_part_takers.specs.Pieces.{IsAdded, block_piece, branches_piece}
 use Rattle.pb_part_takers.proofs.walk.+taking.Given as goal
 
-abbrev pub invariant-takers_in-loop-stmt : goal.invariant-takers_in-loop-stmt
-invariant-takers_in-loop-stmt l = (new : List Area) →
+abbrev pub invariant-gather_in-loop-stmt : goal.invariant-gather_in-loop-stmt
+invariant-gather_in-loop-stmt l = (new : List Area) →
     IsAdded l.whole l.held (block_piece l.held (block_of (map plain_stmt (drop l.stmt-index l.stmt-items)))) l.out.items new →
     IsAdded l.whole l.held (block_piece l.held (block_of (map plain_stmt l.stmt-items))) l.initial.out.items new
 
