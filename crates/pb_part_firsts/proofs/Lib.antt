@@ -5,6 +5,7 @@ pub mod VisitLists
 pub mod EndAreas
 pub mod Singles
 pub mod EachSteps
+pub mod Flats
 pub mod Steps
 pub mod TakersAs
 pub mod EndFits

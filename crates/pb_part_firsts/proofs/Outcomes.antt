@@ -91,6 +91,15 @@ given_set {roles = roles} {reach = reach} {old = old} outs outs2 same g = record
   rest = λ n role x w r. g.rest n role x w r ∙ ap (λ z. have reach n role x && z) (same n role x nothing_first w r);
 }
 
+-- the same outcomes of lists that hold of the same ranks
+pub given_of : {range : NRange} {roles : List CoreRole} {reach reach2 left left2 : List Area} {old new : List Entry} (outs : ℤ → ℕ → ℤ → List Outcome) →
+    ((n : ℤ) (role : ℕ) (x : ℤ) → have reach2 n role x ≡ have reach n role x) → ((n : ℤ) (role : ℕ) (x : ℤ) → have left2 n role x ≡ have left n role x) →
+    Gives range roles reach left old new outs → Gives range roles reach2 left2 old new outs
+given_of {roles = roles} {old = old} outs comes stays g = record {
+  out = λ n role x o w r e. g.out n role x o w r e ∙ ap (λ z. finds roles old n role x o || (z && is_outcome o (outs n role x))) (sym (comes n role x));
+  rest = λ n role x w r. stays n role x ∙ g.rest n role x w r ∙ ap (λ z. z && is_outcome nothing_first (outs n role x)) (sym (comes n role x));
+}
+
 none_out : (w r e : Bool) → e ≡ false → w ≡ w || (r && (e || false))
 none_out w r e h = grind (arith, nat_tests)
 

@@ -19,10 +19,12 @@ ghost use Rattle.pb_part_takers.specs.Loops.{ids_of};
 ghost use Rattle.pb_part_firsts.specs.Firsts.{Gives, outcome_of, is_small_kind, are_small};
 ghost use Rattle.pb_part_firsts.specs.Stopping.{first_at};
 ghost use Rattle.pb_part_firsts.specs.Visits.{visit_of, finding_of, is_narrow_finding, are_narrow, IsBounded, VisitsAmong, MoversAmong};
+ghost use Rattle.pb_part_firsts.specs.Parts.{flat, AreAround};
 
 use crate::ends::{first_areas, passed_area};
 use crate::firsts::{Entry, Kind, Source};
 use crate::lins::{back, put};
+use crate::parts::{Part, areas_of, parts_of};
 use crate::stop::{is_nobody, stop};
 use crate::visit::{Finding, Visit, moving_in, visits_in};
 use pb_affine::Lin;
@@ -100,7 +102,7 @@ fn moving_stops(
 }
 
 /// The first outcomes of a foreach.
-pub(crate) fn each_firsts(
+fn each_firsts(
     items: &CoreBlock,
     alloc: Global,
     over: Bounds,
@@ -123,4 +125,30 @@ pub(crate) fn each_firsts(
     let others = first_stops(alloc, &visits, over, reach, out)?;
     let left = moving_stops(alloc, &sorted, over, others, out)?;
     Ok(left)
+}
+
+/// The same of areas in parts.
+pub(crate) fn foreach_firsts(
+    items: &CoreBlock,
+    alloc: Global,
+    over: Bounds,
+    reach: Vec<Part>,
+    out: &mut Vec<Entry>,
+) -> Result<Vec<Part>, NoMemory>
+    ensures gives { IfOk result (λ left. (range : NRange) (roles : List CoreRole) (rows : Rows) (held : List Held) (m k : Mark) →
+        is_stmt rows false (ids_of held) (foreach (record { low = over.low; high = over.high }) k (plain_block items.now).block) ≡ true →
+        AreAround reach.items → Gives range roles (flat reach.items) (flat left.items) out.old.items out.new.items (first_at roles held m (foreach (record { low = over.low; high = over.high }) k (plain_block items.now).block))) }
+    ensures around { IfOk result (λ left. AreAround reach.items → AreAround left.items) }
+    ensures small { IfOk result (λ left. (rows : Rows) (ids : List ℕ) (k : Mark) →
+        is_stmt rows false ids (foreach (record { low = over.low; high = over.high }) k (plain_block items.now).block) ≡ true →
+        are_small out.old.items ≡ true → are_small out.new.items ≡ true) }
+    ensures fits { IfOk result (λ left. (range : NRange) (cuts : List Lin) (rows : Rows) (ids : List ℕ) (k : Mark) →
+        is_stmt rows false ids (foreach over k (plain_block items.now).block) ≡ true →
+        AreAmong (stmt_cuts None (foreach over k (plain_block items.now).block)) cuts →
+        All (Fits range cuts) (flat reach.items) → EntriesFit range cuts out.old.items → AllFit range cuts (flat left.items) out.new.items) }
+{
+    let areas = areas_of(alloc, &reach)?;
+    let left = each_firsts(items, alloc, over, areas, out)?;
+    let parts = parts_of(alloc, &left)?;
+    Ok(parts)
 }

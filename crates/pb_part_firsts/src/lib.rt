@@ -11,6 +11,7 @@ mod ends;
 mod firsts;
 mod lins;
 mod meet;
+mod parts;
 mod search;
 mod single;
 mod stop;

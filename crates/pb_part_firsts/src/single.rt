@@ -17,9 +17,10 @@ ghost use Rattle.pb_part_takers.specs.Pieces.{AreAmong};
 ghost use Rattle.pb_part_firsts.specs.Takers.{IsWhole};
 ghost use Rattle.pb_part_firsts.specs.Firsts.{Gives, outcome_of, is_small_kind, are_small};
 ghost use Rattle.pb_part_firsts.specs.Stopping.{first_at, is_held};
+ghost use Rattle.pb_part_firsts.specs.Parts.{flat, AreAround};
 
 use crate::firsts::{Entry, Kind, Source};
-use crate::stop::stop;
+use crate::parts::{Part, stop_parts};
 use pb_core_language::CoreEnd;
 use pb_part_areas::{Area, NoMemory, one};
 use pb_part_takers::{Held, end_area};
@@ -28,18 +29,19 @@ use std::alloc::Global;
 /// The ranks at an end that stays stop with an outcome.
 fn stop_at(
     alloc: Global,
-    reach: Vec<Area>,
+    reach: Vec<Part>,
     end: CoreEnd,
     kind: Kind,
     out: &mut Vec<Entry>,
-) -> Result<Vec<Area>, NoMemory>
+) -> Result<Vec<Part>, NoMemory>
     ensures gives { IfOk result (λ left. (range : NRange) (roles : List CoreRole) → is_small end.at.off ≡ true →
-        Gives range roles reach.items left.items out.old.items out.new.items (λ n role x. if is_at end n (pos 0) role x then outcome_of roles kind n x ∷ [] else nothing_first ∷ [])) }
+        AreAround reach.items → Gives range roles (flat reach.items) (flat left.items) out.old.items out.new.items (λ n role x. if is_at end n (pos 0) role x then outcome_of roles kind n x ∷ [] else nothing_first ∷ [])) }
+    ensures around { IfOk result (λ left. AreAround reach.items → AreAround left.items) }
     ensures small { IfOk result (λ left. is_small_kind kind ≡ true → are_small out.old.items ≡ true → are_small out.new.items ≡ true) }
-    ensures fits { IfOk result (λ left. (range : NRange) (cuts : List Lin) → is_small end.at.off ≡ true → is_over_n end.at.base ≡ true → AreAmong (end_cuts None end) cuts → All (Fits range cuts) reach.items → EntriesFit range cuts out.old.items → AllFit range cuts left.items out.new.items) }
+    ensures fits { IfOk result (λ left. (range : NRange) (cuts : List Lin) → is_small end.at.off ≡ true → is_over_n end.at.base ≡ true → AreAmong (end_cuts None end) cuts → All (Fits range cuts) (flat reach.items) → EntriesFit range cuts out.old.items → AllFit range cuts (flat left.items) out.new.items) }
 {
     let here = one(alloc, end_area(end))?;
-    let left = stop(alloc, reach, &here, kind, out)?;
+    let left = stop_parts(alloc, reach, &here, kind, out)?;
     Ok(left)
 }
 
@@ -49,13 +51,14 @@ pub(crate) fn message_firsts(
     label: u32,
     from: CoreEnd,
     to: CoreEnd,
-    reach: Vec<Area>,
+    reach: Vec<Part>,
     out: &mut Vec<Entry>,
-) -> Result<Vec<Area>, NoMemory>
+) -> Result<Vec<Part>, NoMemory>
     ensures gives { IfOk result (λ left. (range : NRange) (roles : List CoreRole) (rows : Rows) (held : List Held) (m : Mark) → is_stmt rows false (ids_of held) (message label from to) ≡ true →
-        Gives range roles reach.items left.items out.old.items out.new.items (first_at roles held m (message label from to))) }
+        AreAround reach.items → Gives range roles (flat reach.items) (flat left.items) out.old.items out.new.items (first_at roles held m (message label from to))) }
+    ensures around { IfOk result (λ left. AreAround reach.items → AreAround left.items) }
     ensures small { IfOk result (λ left. (rows : Rows) (ids : List ℕ) → is_stmt rows false ids (message label from to) ≡ true → are_small out.old.items ≡ true → are_small out.new.items ≡ true) }
-    ensures fits { IfOk result (λ left. (range : NRange) (cuts : List Lin) (rows : Rows) (ids : List ℕ) → is_stmt rows false ids (message label from to) ≡ true → AreAmong (stmt_cuts None (message label from to)) cuts → All (Fits range cuts) reach.items → EntriesFit range cuts out.old.items → AllFit range cuts left.items out.new.items) }
+    ensures fits { IfOk result (λ left. (range : NRange) (cuts : List Lin) (rows : Rows) (ids : List ℕ) → is_stmt rows false ids (message label from to) ≡ true → AreAmong (stmt_cuts None (message label from to)) cuts → All (Fits range cuts) (flat reach.items) → EntriesFit range cuts out.old.items → AllFit range cuts (flat left.items) out.new.items) }
 {
     let others = stop_at(alloc, reach, from, Kind::Other, out)?;
     let source = Source {
@@ -74,13 +77,14 @@ pub(crate) fn message_firsts(
 pub(crate) fn run_firsts(
     alloc: Global,
     at: CoreEnd,
-    reach: Vec<Area>,
+    reach: Vec<Part>,
     out: &mut Vec<Entry>,
-) -> Result<Vec<Area>, NoMemory>
+) -> Result<Vec<Part>, NoMemory>
     ensures gives { IfOk result (λ left. (range : NRange) (roles : List CoreRole) → is_small at.at.off ≡ true →
-        Gives range roles reach.items left.items out.old.items out.new.items (λ n role x. if is_at at n (pos 0) role x then other_first ∷ [] else nothing_first ∷ [])) }
+        AreAround reach.items → Gives range roles (flat reach.items) (flat left.items) out.old.items out.new.items (λ n role x. if is_at at n (pos 0) role x then other_first ∷ [] else nothing_first ∷ [])) }
+    ensures around { IfOk result (λ left. AreAround reach.items → AreAround left.items) }
     ensures small { IfOk result (λ left. are_small out.old.items ≡ true → are_small out.new.items ≡ true) }
-    ensures fits { IfOk result (λ left. (range : NRange) (cuts : List Lin) (rows : Rows) → is_end rows false at ≡ true → AreAmong (end_cuts None at) cuts → All (Fits range cuts) reach.items → EntriesFit range cuts out.old.items → AllFit range cuts left.items out.new.items) }
+    ensures fits { IfOk result (λ left. (range : NRange) (cuts : List Lin) (rows : Rows) → is_end rows false at ≡ true → AreAmong (end_cuts None at) cuts → All (Fits range cuts) (flat reach.items) → EntriesFit range cuts out.old.items → AllFit range cuts (flat left.items) out.new.items) }
 {
     let left = stop_at(alloc, reach, at, Kind::Other, out)?;
     Ok(left)
@@ -90,15 +94,16 @@ pub(crate) fn run_firsts(
 pub(crate) fn all_firsts(
     alloc: Global,
     whole: &[Area],
-    reach: Vec<Area>,
+    reach: Vec<Part>,
     out: &mut Vec<Entry>,
-) -> Result<Vec<Area>, NoMemory>
+) -> Result<Vec<Part>, NoMemory>
     ensures gives { IfOk result (λ left. (range : NRange) (roles : List CoreRole) → IsWhole range roles whole.now →
-        Gives range roles reach.items left.items out.old.items out.new.items (λ n role x. other_first ∷ [])) }
+        AreAround reach.items → Gives range roles (flat reach.items) (flat left.items) out.old.items out.new.items (λ n role x. other_first ∷ [])) }
+    ensures around { IfOk result (λ left. AreAround reach.items → AreAround left.items) }
     ensures small { IfOk result (λ left. are_small out.old.items ≡ true → are_small out.new.items ≡ true) }
-    ensures fits { IfOk result (λ left. (range : NRange) (cuts : List Lin) → All (Fits range cuts) whole.now → All (Fits range cuts) reach.items → EntriesFit range cuts out.old.items → AllFit range cuts left.items out.new.items) }
+    ensures fits { IfOk result (λ left. (range : NRange) (cuts : List Lin) → All (Fits range cuts) whole.now → All (Fits range cuts) (flat reach.items) → EntriesFit range cuts out.old.items → AllFit range cuts (flat left.items) out.new.items) }
 {
-    let left = stop(alloc, reach, whole, Kind::Other, out)?;
+    let left = stop_parts(alloc, reach, whole, Kind::Other, out)?;
     Ok(left)
 }
 
@@ -120,17 +125,18 @@ pub(crate) fn again_firsts(
     alloc: Global,
     id: u32,
     held: &[Held],
-    reach: Vec<Area>,
+    reach: Vec<Part>,
     out: &mut Vec<Entry>,
-) -> Result<Vec<Area>, NoMemory>
-    ensures gives { IfOk result (λ left. (range : NRange) (roles : List CoreRole) (m : Mark) → Gives range roles reach.items left.items out.old.items out.new.items (first_at roles held.now m (again id))) }
+) -> Result<Vec<Part>, NoMemory>
+    ensures gives { IfOk result (λ left. (range : NRange) (roles : List CoreRole) (m : Mark) → AreAround reach.items → Gives range roles (flat reach.items) (flat left.items) out.old.items out.new.items (first_at roles held.now m (again id))) }
+    ensures around { IfOk result (λ left. AreAround reach.items → AreAround left.items) }
     ensures small { IfOk result (λ left. are_small out.old.items ≡ true → are_small out.new.items ≡ true) }
-    ensures fits { IfOk result (λ left. (range : NRange) (cuts : List Lin) → HeldFit range cuts held.now → All (Fits range cuts) reach.items → EntriesFit range cuts out.old.items → AllFit range cuts left.items out.new.items) }
+    ensures fits { IfOk result (λ left. (range : NRange) (cuts : List Lin) → HeldFit range cuts held.now → All (Fits range cuts) (flat reach.items) → EntriesFit range cuts out.old.items → AllFit range cuts (flat left.items) out.new.items) }
 {
     match find_loop(id, held) {
         None => Ok(reach),
         Some(inner) => {
-            let left = stop(alloc, reach, &inner.areas, Kind::Again, out)?;
+            let left = stop_parts(alloc, reach, &inner.areas, Kind::Again, out)?;
             Ok(left)
         }
     }

@@ -3,7 +3,7 @@ use Rattle.pb_part_firsts.proofs.Singles.{all_stop}
 use Rattle.pb_part_firsts.proofs.single.all_firsts.Goals as goal
 
 pub returns-clause-gives : goal.returns-clause-gives
-returns-clause-gives c = λ range roles k. all_stop k (c.in_ok-left.ensures.gives roles)
+returns-clause-gives c = λ range roles k around. all_stop k (c.in_ok-left.ensures.gives roles around)
 
 pub returns-clause-small : goal.returns-clause-small
 returns-clause-small c = λ h. c.in_ok-left.ensures.small refl h

@@ -8,11 +8,11 @@ use Rattle.pb_part_firsts.proofs.Singles.{message_gives, end_small, end_over}
 use Rattle.pb_part_firsts.proofs.single.message_firsts.Goals as goal
 
 pub returns-clause-gives : goal.returns-clause-gives
-returns-clause-gives c = λ range roles rows held m h.
+returns-clause-gives c = λ range roles rows held m h around.
     let ends = (and_parts _ (is_end rows false c.args.from && is_end rows false c.args.to) h).1 in
     let both = and_parts (is_end rows false c.args.from) (is_end rows false c.args.to) ends in
     message_gives held m c.args.label c.args.from c.args.to (end_over rows c.args.from both.0)
-    (c.in_ok-others.ensures.gives range roles (end_small rows c.args.from both.0)) (c.in_ok-left.ensures.gives range roles (end_small rows c.args.to both.1))
+    (c.in_ok-others.ensures.gives range roles (end_small rows c.args.from both.0) around) (c.in_ok-left.ensures.gives range roles (end_small rows c.args.to both.1) (c.in_ok-others.ensures.around around))
 
 pub returns-clause-small : goal.returns-clause-small
 returns-clause-small c = λ rows ids h k.

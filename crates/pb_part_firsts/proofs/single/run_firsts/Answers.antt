@@ -3,7 +3,7 @@ use Rattle.pb_part_firsts.proofs.Singles.{end_small, end_over}
 use Rattle.pb_part_firsts.proofs.single.run_firsts.Goals as goal
 
 pub returns-clause-gives : goal.returns-clause-gives
-returns-clause-gives c = λ range roles h. c.in_ok-left.ensures.gives range roles h
+returns-clause-gives c = λ range roles h around. c.in_ok-left.ensures.gives range roles h around
 
 pub returns-clause-small : goal.returns-clause-small
 returns-clause-small c = λ h. c.in_ok-left.ensures.small refl h

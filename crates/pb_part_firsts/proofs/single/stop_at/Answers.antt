@@ -9,10 +9,10 @@ use Rattle.pb_part_firsts.proofs.Singles.{from_zero}
 use Rattle.pb_part_firsts.proofs.single.stop_at.Goals as goal
 
 pub returns-clause-gives : goal.returns-clause-gives
-returns-clause-gives c = λ range roles h.
+returns-clause-gives c = λ range roles h around.
     stopped c.args.kind (λ n role x. is_at c.args.end n (pos 0) role x) (λ n role x. outcome_of roles c.args.kind n x)
     (λ n role x w r. ap (λ z. have z n role x) c.deref.ensures.value ∙ c.in_ok-here.ensures.is n role x ∙ c.end_area.ensures.is n role x (from_zero range n w) h)
-    (λ n role x w. refl) (c.in_ok-left.ensures.gives roles)
+    (λ n role x w. refl) (c.in_ok-left.ensures.gives roles around)
 
 pub returns-clause-fits : goal.returns-clause-fits
 returns-clause-fits c = λ range cuts h o a r s.

@@ -1,13 +1,14 @@
-use Rattle.std.proofs.Common.{None, subst, ◌||◌, drop, ap, sym, ◌∙◌}
+use Rattle.std.proofs.Common.{rules, ◌≡◌, [], None, subst, drop, ap, sym, ◌∙◌}
 use Rattle.std.proofs.lemmas.Result.{IfOk-weaker}
 use Rattle.pb_core_language.specs.Plain.{plain_block, plain_stmt}
-use Rattle.pb_part_areas.specs.Areas.{have}
 use Rattle.pb_part_firsts.specs.Firsts.{first_in}
+use Rattle.pb_part_firsts.specs.Parts.{flat, IsAround}
 use Rattle.pb_part_takers.specs.Loops.{ids_of}
 use Rattle.pb_core_language.proofs.Plains.{plain_message, plain_foreach, plain_loop, plain_choice, plain_run}
 use Rattle.pb_part_firsts.proofs.Outcomes.{nobody_comes}
 use Rattle.pb_part_firsts.proofs.Singles.{run_gives}
 use Rattle.std.specs.List.{All}
+use Rattle.std.proofs.lemmas.List.{nil_from_length}
 use Rattle.std.proofs.lemmas.List.Elements.{All-nil}
 use Rattle.pb_part_areas.specs.Fits.{Fits}
 use Rattle.pb_core_language.specs.Cuts.{end_cuts, branches_cuts}
@@ -16,45 +17,50 @@ use Rattle.pb_part_firsts.proofs.TakersAs.{takers_as}
 use Rattle.pb_part_firsts.proofs.Steps.{tree_of, trees_of, stmt_sound, rest_sound, tree_sound, branch_sound, others_sound, block_step, block_cut, block_done, of_tree, of_stmt, turned_sound, body_sound, loop_gives, choice_gives, choice_end, run_end, choice_some, choice_sound, branch_step, branches_done, stmt_among, rest_among, tree_among, branch_among, others_among, turned_among, choice_is_end, run_is_end}
 use Rattle.pb_part_firsts.proofs.walk.+firsts.Goals as goal
 
-pub firsts_in-loop-stmt-init : goal.firsts_in-loop-stmt-init
-firsts_in-loop-stmt-init t c = record { sound = λ rows h. h; gives = λ range roles rows w h left new g. g; fits = λ range cuts rows h a w d r s. record { areas = r; entries = s }; among = λ cuts a. a; small = λ rows h s. s }
+pub firsts_of-loop-stmt-init : goal.firsts_of-loop-stmt-init
+firsts_of-loop-stmt-init t c = record { sound = λ rows h. h; gives = λ range roles rows w h around left new g. g; fits = λ range cuts rows h a w d r s. record { areas = r; entries = s }; around = λ h. h; among = λ cuts a. a; small = λ rows h s. s }
 
-pub firsts_in-loop-stmt-preserved : goal.firsts_in-loop-stmt-preserved
-firsts_in-loop-stmt-preserved t c =
+pub firsts_of-loop-stmt-preserved : goal.firsts_of-loop-stmt-preserved
+firsts_of-loop-stmt-preserved t c =
     let items = c.deref-stmt-items.result.now in
     let i = c.loop-stmt.stmt-index in
     let s = c.stmt-item.result in
     let held = c.args.held.now in
     record {
       sound = λ rows h. rest_sound rows (ids_of held) items i s c.loop-stmt-test.true c.stmt-item.is (c.loop-stmt.invariant.sound rows h);
-      gives = λ range roles rows w h left new g.
+      gives = λ range roles rows w h around left new g.
           let now = c.loop-stmt.invariant.sound rows h in
-          c.loop-stmt.invariant.gives range roles rows w h left new (block_step rows held items i s c.loop-stmt-test.true c.stmt-item.is now (sym c.is_again.ensures ∙ c.if-is_again.false)
-          (c.in_ok-left.ensures.gives range roles rows w (stmt_sound rows (ids_of held) items i s c.loop-stmt-test.true c.stmt-item.is now)) g);
+          c.loop-stmt.invariant.gives range roles rows w h around left new (block_step rows held items i s c.loop-stmt-test.true c.stmt-item.is now (sym c.is_again.ensures ∙ c.if-is_again.false)
+          (c.in_ok-left.ensures.gives range roles rows w (stmt_sound rows (ids_of held) items i s c.loop-stmt-test.true c.stmt-item.is now) (c.loop-stmt.invariant.around around)) g);
       fits = λ range cuts rows h a w d r q.
           let now = c.loop-stmt.invariant.fits range cuts rows h a w d r q in
           c.in_ok-left.ensures.fits range cuts rows (stmt_sound rows (ids_of held) items i s c.loop-stmt-test.true c.stmt-item.is (c.loop-stmt.invariant.sound rows h))
           (stmt_among cuts items i s c.loop-stmt-test.true c.stmt-item.is (c.loop-stmt.invariant.among cuts a)) w d now.areas now.entries;
+      around = λ h. c.in_ok-left.ensures.around (c.loop-stmt.invariant.around h);
       among = λ cuts a. rest_among cuts items i s c.loop-stmt-test.true c.stmt-item.is (c.loop-stmt.invariant.among cuts a);
       small = λ rows h k.
           c.in_ok-left.ensures.small rows (stmt_sound rows (ids_of held) items i s c.loop-stmt-test.true c.stmt-item.is (c.loop-stmt.invariant.sound rows h)) (c.loop-stmt.invariant.small rows h k);
     }
 
-pub firsts_in-returns-then-is_nobody-clause-gives : goal.firsts_in-returns-then-is_nobody-clause-gives
-firsts_in-returns-then-is_nobody-clause-gives t c = λ range roles rows w h.
+pub firsts_of-returns-then-is_empty-clause-gives : goal.firsts_of-returns-then-is_empty-clause-gives
+firsts_of-returns-then-is_empty-clause-gives t c = λ range roles rows w h around.
     let items = c.deref-stmt-items.result.now in
     let held = c.args.held.now in
     let same = c.deref-stmt-items.ensures.value in
+    let none : c.loop-stmt.left.items ≡ [] = nil_from_length c.loop-stmt.left.items (search rules) in
     of_tree held c.args.block.now items same
-    (c.loop-stmt.invariant.gives range roles rows w (tree_sound rows (ids_of held) c.args.block.now items same h) _ _
-    (nobody_comes (first_in roles held (tree_of (drop c.loop-stmt.stmt-index items))) (sym c.deref.ensures.value ∙ c.is_nobody.ensures c.if-is_nobody.true)))
+    (c.loop-stmt.invariant.gives range roles rows w (tree_sound rows (ids_of held) c.args.block.now items same h) around _ _
+    (nobody_comes (first_in roles held (tree_of (drop c.loop-stmt.stmt-index items))) (ap flat none)))
 
-pub firsts_in-returns-then-is_nobody-clause-small : goal.firsts_in-returns-then-is_nobody-clause-small
-firsts_in-returns-then-is_nobody-clause-small t c = λ rows h k.
+pub firsts_of-returns-then-is_empty-clause-around : goal.firsts_of-returns-then-is_empty-clause-around
+firsts_of-returns-then-is_empty-clause-around t c = λ h. c.loop-stmt.invariant.around h
+
+pub firsts_of-returns-then-is_empty-clause-small : goal.firsts_of-returns-then-is_empty-clause-small
+firsts_of-returns-then-is_empty-clause-small t c = λ rows h k.
     c.loop-stmt.invariant.small rows (tree_sound rows (ids_of c.args.held.now) c.args.block.now c.deref-stmt-items.result.now c.deref-stmt-items.ensures.value h) k
 
-pub firsts_in-returns-then-is_again-clause-gives : goal.firsts_in-returns-then-is_again-clause-gives
-firsts_in-returns-then-is_again-clause-gives t c = λ range roles rows w h.
+pub firsts_of-returns-then-is_again-clause-gives : goal.firsts_of-returns-then-is_again-clause-gives
+firsts_of-returns-then-is_again-clause-gives t c = λ range roles rows w h around.
     let items = c.deref-stmt-items.result.now in
     let i = c.loop-stmt.stmt-index in
     let s = c.stmt-item.result in
@@ -63,12 +69,15 @@ firsts_in-returns-then-is_again-clause-gives t c = λ range roles rows w h.
     let all = tree_sound rows (ids_of held) c.args.block.now items same h in
     let now = c.loop-stmt.invariant.sound rows all in
     of_tree held c.args.block.now items same
-    (c.loop-stmt.invariant.gives range roles rows w all _ _
+    (c.loop-stmt.invariant.gives range roles rows w all around _ _
     (block_cut rows held items i s c.loop-stmt-test.true c.stmt-item.is now (sym c.is_again.ensures ∙ c.if-is_again.true)
-    (c.in_ok-left.ensures.gives range roles rows w (stmt_sound rows (ids_of held) items i s c.loop-stmt-test.true c.stmt-item.is now))))
+    (c.in_ok-left.ensures.gives range roles rows w (stmt_sound rows (ids_of held) items i s c.loop-stmt-test.true c.stmt-item.is now) (c.loop-stmt.invariant.around around))))
 
-pub firsts_in-returns-then-is_again-clause-small : goal.firsts_in-returns-then-is_again-clause-small
-firsts_in-returns-then-is_again-clause-small t c = λ rows h k.
+pub firsts_of-returns-then-is_again-clause-around : goal.firsts_of-returns-then-is_again-clause-around
+firsts_of-returns-then-is_again-clause-around t c = λ h. c.in_ok-left.ensures.around (c.loop-stmt.invariant.around h)
+
+pub firsts_of-returns-then-is_again-clause-small : goal.firsts_of-returns-then-is_again-clause-small
+firsts_of-returns-then-is_again-clause-small t c = λ rows h k.
     let items = c.deref-stmt-items.result.now in
     let i = c.loop-stmt.stmt-index in
     let s = c.stmt-item.result in
@@ -76,47 +85,56 @@ firsts_in-returns-then-is_again-clause-small t c = λ rows h k.
     let all = tree_sound rows (ids_of held) c.args.block.now items c.deref-stmt-items.ensures.value h in
     c.in_ok-left.ensures.small rows (stmt_sound rows (ids_of held) items i s c.loop-stmt-test.true c.stmt-item.is (c.loop-stmt.invariant.sound rows all)) (c.loop-stmt.invariant.small rows all k)
 
-pub firsts_in-returns-clause-gives : goal.firsts_in-returns-clause-gives
-firsts_in-returns-clause-gives t c = λ range roles rows w h.
+pub firsts_of-returns-clause-gives : goal.firsts_of-returns-clause-gives
+firsts_of-returns-clause-gives t c = λ range roles rows w h around.
     let items = c.deref-stmt-items.result.now in
     let held = c.args.held.now in
     let same = c.deref-stmt-items.ensures.value in
     of_tree held c.args.block.now items same
-    (block_done held items c.loop-stmt.stmt-index c.loop-stmt-test.false (c.loop-stmt.invariant.gives range roles rows w (tree_sound rows (ids_of held) c.args.block.now items same h)))
+    (block_done held items c.loop-stmt.stmt-index c.loop-stmt-test.false (c.loop-stmt.invariant.gives range roles rows w (tree_sound rows (ids_of held) c.args.block.now items same h) around))
 
-pub firsts_in-returns-clause-small : goal.firsts_in-returns-clause-small
-firsts_in-returns-clause-small t c = λ rows h k.
+pub firsts_of-returns-clause-around : goal.firsts_of-returns-clause-around
+firsts_of-returns-clause-around t c = λ h. c.loop-stmt.invariant.around h
+
+pub firsts_of-returns-clause-small : goal.firsts_of-returns-clause-small
+firsts_of-returns-clause-small t c = λ rows h k.
     c.loop-stmt.invariant.small rows (tree_sound rows (ids_of c.args.held.now) c.args.block.now c.deref-stmt-items.result.now c.deref-stmt-items.ensures.value h) k
 
 pub loop_firsts-returns-clause-gives : goal.loop_firsts-returns-clause-gives
-loop_firsts-returns-clause-gives t c = λ range roles rows m k w h.
+loop_firsts-returns-clause-gives t c = λ range roles rows m k w h around.
     let held = c.args.held.now in
     let body = (plain_block c.args.body.now).block in
     let none = body_sound rows (ids_of held) _ c.args.id k body h c.in_ok-none.ensures.ids in
-    loop_gives held c.in_ok-none.none.items c.in_ok-inner.inner.items c.new.result.items c.new-areas.result.items _ m k c.args.id body
-    c.new.ensures.items c.new-areas.ensures.items c.in_ok-none.ensures.ids c.in_ok-inner.ensures.ids c.in_ok-none.ensures.held c.in_ok-inner.ensures.held
+    loop_gives held c.in_ok-none.none.items c.in_ok-inner.inner.items c.new.result.items c.new-takers.result.items _ m k c.args.id body
+    c.new.ensures.items c.new-takers.ensures.items c.in_ok-none.ensures.ids c.in_ok-inner.ensures.ids c.in_ok-none.ensures.held c.in_ok-inner.ensures.held
     (takers_as body rows w none (rw c.deref.ensures.value at c.in_ok-takers_in.ensures))
-    ((rw c.deref-2.ensures.value at (c.in_ok-left.ensures.gives range roles rows)) w (body_sound rows (ids_of held) _ c.args.id k body h c.in_ok-inner.ensures.ids))
+    ((rw c.deref-2.ensures.value at (c.in_ok-left.ensures.gives range roles rows)) w (body_sound rows (ids_of held) _ c.args.id k body h c.in_ok-inner.ensures.ids) around)
+
+pub loop_firsts-returns-clause-around : goal.loop_firsts-returns-clause-around
+loop_firsts-returns-clause-around t c = λ h. c.in_ok-left.ensures.around h
 
 pub loop_firsts-returns-clause-small : goal.loop_firsts-returns-clause-small
 loop_firsts-returns-clause-small t c = λ rows k h s.
     (rw c.deref-2.ensures.value at (c.in_ok-left.ensures.small rows)) (body_sound rows (ids_of c.args.held.now) _ c.args.id k (plain_block c.args.body.now).block h c.in_ok-inner.ensures.ids) s
 
 pub choice_firsts-returns-clause-gives : goal.choice_firsts-returns-clause-gives
-choice_firsts-returns-clause-gives t c = λ range roles rows m kernel w h.
+choice_firsts-returns-clause-gives t c = λ range roles rows m kernel w h around.
     let held = c.args.held.now in
     let bs = trees_of c.args.branches.now in
-    choice_gives held m kernel c.args.at bs (choice_some rows (ids_of held) kernel c.args.at bs h) c.deref.ensures.value
-    (c.in_ok-told.ensures.gives range roles (choice_end rows (ids_of held) kernel c.args.at bs h))
-    (c.in_ok-left.ensures.gives range roles rows w (choice_sound rows (ids_of held) kernel c.args.at bs h))
+    choice_gives held m kernel c.args.at bs (choice_some rows (ids_of held) kernel c.args.at bs h) (ap flat c.deref.ensures.value)
+    (c.in_ok-others.ensures.gives range roles (choice_end rows (ids_of held) kernel c.args.at bs h) around)
+    (c.in_ok-left.ensures.gives range roles rows w (choice_sound rows (ids_of held) kernel c.args.at bs h) (subst (All IsAround) (sym c.deref.ensures.value) (c.in_ok-others.ensures.around around)))
+
+pub choice_firsts-returns-clause-around : goal.choice_firsts-returns-clause-around
+choice_firsts-returns-clause-around t c = λ h. c.in_ok-left.ensures.around (subst (All IsAround) (sym c.deref.ensures.value) (c.in_ok-others.ensures.around h))
 
 pub choice_firsts-returns-clause-small : goal.choice_firsts-returns-clause-small
 choice_firsts-returns-clause-small t c = λ rows kernel h s.
     let held = c.args.held.now in
-    c.in_ok-left.ensures.small rows (choice_sound rows (ids_of held) kernel c.args.at (trees_of c.args.branches.now) h) (c.in_ok-told.ensures.small s)
+    c.in_ok-left.ensures.small rows (choice_sound rows (ids_of held) kernel c.args.at (trees_of c.args.branches.now) h) (c.in_ok-others.ensures.small s)
 
 pub firsts_among-loop-branch-init : goal.firsts_among-loop-branch-init
-firsts_among-loop-branch-init t c = record { sound = λ rows h. h; gives = λ range roles rows w h left new g. g; fits = λ range cuts rows h a w d r s. record { areas = subst (All (Fits range cuts)) (sym c.new-passed.ensures.items) (All-nil (Fits range cuts)); entries = s }; among = λ cuts a. a; small = λ rows h s. s }
+firsts_among-loop-branch-init t c = record { sound = λ rows h. h; gives = λ range roles rows w h around left new g. g; fits = λ range cuts rows h a w d r s. record { areas = subst (λ z. All (Fits range cuts) (flat z)) (sym c.new-passed.ensures.items) (All-nil (Fits range cuts)); entries = s }; around = λ h. subst (All IsAround) (sym c.new-passed.ensures.items) (All-nil IsAround); among = λ cuts a. a; small = λ rows h s. s }
 
 pub firsts_among-loop-branch-preserved : goal.firsts_among-loop-branch-preserved
 firsts_among-loop-branch-preserved t c =
@@ -126,24 +144,28 @@ firsts_among-loop-branch-preserved t c =
     let held = c.args.held.now in
     record {
       sound = λ rows h. others_sound rows (ids_of held) items i b c.loop-branch-test.true c.branch-item.is (c.loop-branch.invariant.sound rows h);
-      gives = λ range roles rows w h left new g.
-          c.loop-branch.invariant.gives range roles rows w h left new
+      gives = λ range roles rows w h around left new g.
+          c.loop-branch.invariant.gives range roles rows w h around left new
           (branch_step held items i b c.loop-branch-test.true c.branch-item.is c.in_ok-told.ensures.is
-          (c.in_ok-left.ensures.gives range roles rows w (branch_sound rows (ids_of held) items i b c.loop-branch-test.true c.branch-item.is (c.loop-branch.invariant.sound rows h)))
-          (λ n role x. c.in_ok-absorb.ensures.is n role x ∙ ap (λ z. have c.loop-branch.passed.items n role x || have z n role x) c.deref.ensures.value) g);
+          (c.in_ok-left.ensures.gives range roles rows w (branch_sound rows (ids_of held) items i b c.loop-branch-test.true c.branch-item.is (c.loop-branch.invariant.sound rows h)) (c.in_ok-told.ensures.around around))
+          c.in_ok-passed.ensures.is g);
       fits = λ range cuts rows h a w d r q.
           let now = c.loop-branch.invariant.fits range cuts rows h a w d r q in
           let here = c.in_ok-left.ensures.fits range cuts rows (branch_sound rows (ids_of held) items i b c.loop-branch-test.true c.branch-item.is (c.loop-branch.invariant.sound rows h))
           (branch_among cuts items i b c.loop-branch-test.true c.branch-item.is (c.loop-branch.invariant.among cuts a)) w d (c.in_ok-told.ensures.fits range cuts r) now.entries in
-          record { areas = c.in_ok-absorb.ensures.fits range cuts now.areas (subst (All (Fits range cuts)) (sym c.deref.ensures.value) here.areas); entries = here.entries };
+          record { areas = c.in_ok-passed.ensures.fits range cuts now.areas here.areas; entries = here.entries };
+      around = λ h. c.in_ok-passed.ensures.around (c.loop-branch.invariant.around h) (c.in_ok-left.ensures.around (c.in_ok-told.ensures.around h));
       among = λ cuts a. others_among cuts items i b c.loop-branch-test.true c.branch-item.is (c.loop-branch.invariant.among cuts a);
       small = λ rows h k.
           c.in_ok-left.ensures.small rows (branch_sound rows (ids_of held) items i b c.loop-branch-test.true c.branch-item.is (c.loop-branch.invariant.sound rows h)) (c.loop-branch.invariant.small rows h k);
     }
 
 pub firsts_among-returns-clause-gives : goal.firsts_among-returns-clause-gives
-firsts_among-returns-clause-gives t c = λ range roles rows w h.
-    branches_done c.args.held.now c.args.branches.now c.loop-branch.branch-index c.loop-branch-test.false c.new-passed.ensures.items (c.loop-branch.invariant.gives range roles rows w h)
+firsts_among-returns-clause-gives t c = λ range roles rows w h around.
+    branches_done c.args.held.now c.args.branches.now c.loop-branch.branch-index c.loop-branch-test.false (ap flat c.new-passed.ensures.items) (c.loop-branch.invariant.gives range roles rows w h around)
+
+pub firsts_among-returns-clause-around : goal.firsts_among-returns-clause-around
+firsts_among-returns-clause-around t c = λ h. c.loop-branch.invariant.around h
 
 pub firsts_among-returns-clause-small : goal.firsts_among-returns-clause-small
 firsts_among-returns-clause-small t c = λ rows h k. c.loop-branch.invariant.small rows h k
@@ -156,9 +178,9 @@ firsts_at-returns-in-Message-clause-small t c =
 
 pub firsts_at-returns-in-Foreach-clause-small : goal.firsts_at-returns-in-Foreach-clause-small
 firsts_at-returns-in-Foreach-clause-small t c =
-    IfOk-weaker c.each_firsts.result _ _ (λ left f rows h k.
+    IfOk-weaker c.foreach_firsts.result _ _ (λ left f rows h k.
     f rows (ids_of c.args.held.now) (plain_block c.in-Foreach.items).mark (turned_sound rows (ids_of c.args.held.now) _ _ (plain_foreach c.args.stmt.now c.in-Foreach.low c.in-Foreach.high c.in-Foreach.items c.in-Foreach.is) h) k)
-    c.each_firsts.ensures.small
+    c.foreach_firsts.ensures.small
 
 pub firsts_at-returns-in-Loop-clause-small : goal.firsts_at-returns-in-Loop-clause-small
 firsts_at-returns-in-Loop-clause-small t c =
@@ -171,18 +193,18 @@ firsts_at-returns-in-Run-clause-gives t c =
     let held = c.args.held.now in
     let m = (plain_stmt c.args.stmt.now).mark in
     let is = plain_run c.args.stmt.now c.in-Run.kernel c.in-Run.at c.in-Run.is in
-    IfOk-weaker c.run_firsts.result _ _ (λ left f range roles rows w h.
-    of_stmt held m _ _ is (run_gives held m c.in-Run.kernel c.in-Run.at (f range roles (run_end rows (ids_of held) c.in-Run.kernel c.in-Run.at (turned_sound rows (ids_of held) _ _ is h)))))
+    IfOk-weaker c.run_firsts.result _ _ (λ left f range roles rows w h around.
+    of_stmt held m _ _ is (run_gives held m c.in-Run.kernel c.in-Run.at (f range roles (run_end rows (ids_of held) c.in-Run.kernel c.in-Run.at (turned_sound rows (ids_of held) _ _ is h)) around)))
     c.run_firsts.ensures.gives
 
-pub firsts_in-returns-then-is_nobody-clause-fits : goal.firsts_in-returns-then-is_nobody-clause-fits
-firsts_in-returns-then-is_nobody-clause-fits t c = λ range cuts rows h a w d r q.
+pub firsts_of-returns-then-is_empty-clause-fits : goal.firsts_of-returns-then-is_empty-clause-fits
+firsts_of-returns-then-is_empty-clause-fits t c = λ range cuts rows h a w d r q.
     let items = c.deref-stmt-items.result.now in
     let same = c.deref-stmt-items.ensures.value in
     c.loop-stmt.invariant.fits range cuts rows (tree_sound rows (ids_of c.args.held.now) c.args.block.now items same h) (tree_among cuts c.args.block.now items same a) w d r q
 
-pub firsts_in-returns-then-is_again-clause-fits : goal.firsts_in-returns-then-is_again-clause-fits
-firsts_in-returns-then-is_again-clause-fits t c = λ range cuts rows h a w d r q.
+pub firsts_of-returns-then-is_again-clause-fits : goal.firsts_of-returns-then-is_again-clause-fits
+firsts_of-returns-then-is_again-clause-fits t c = λ range cuts rows h a w d r q.
     let items = c.deref-stmt-items.result.now in
     let i = c.loop-stmt.stmt-index in
     let s = c.stmt-item.result in
@@ -194,8 +216,8 @@ firsts_in-returns-then-is_again-clause-fits t c = λ range cuts rows h a w d r q
     c.in_ok-left.ensures.fits range cuts rows (stmt_sound rows (ids_of held) items i s c.loop-stmt-test.true c.stmt-item.is (c.loop-stmt.invariant.sound rows all))
     (stmt_among cuts items i s c.loop-stmt-test.true c.stmt-item.is (c.loop-stmt.invariant.among cuts among)) w d now.areas now.entries
 
-pub firsts_in-returns-clause-fits : goal.firsts_in-returns-clause-fits
-firsts_in-returns-clause-fits t c = λ range cuts rows h a w d r q.
+pub firsts_of-returns-clause-fits : goal.firsts_of-returns-clause-fits
+firsts_of-returns-clause-fits t c = λ range cuts rows h a w d r q.
     let items = c.deref-stmt-items.result.now in
     let same = c.deref-stmt-items.ensures.value in
     c.loop-stmt.invariant.fits range cuts rows (tree_sound rows (ids_of c.args.held.now) c.args.block.now items same h) (tree_among cuts c.args.block.now items same a) w d r q
@@ -206,16 +228,16 @@ loop_firsts-returns-clause-fits t c = λ range cuts rows k h a w d r q.
     let body = (plain_block c.args.body.now).block in
     let nil = All-nil (Fits range cuts) in
     let none = c.in_ok-none.ensures.fits range cuts (subst (All (Fits range cuts)) (sym c.new.ensures.items) nil) d in
-    let areas = (rw c.deref.ensures.value at c.in_ok-takers_in.ensures.fits) rows range cuts (body_sound rows (ids_of held) _ c.args.id k body h c.in_ok-none.ensures.ids) a w none (subst (All (Fits range cuts)) (sym c.new-areas.ensures.items) nil) in
-    (rw c.deref-2.ensures.value at (c.in_ok-left.ensures.fits range cuts rows)) (body_sound rows (ids_of held) _ c.args.id k body h c.in_ok-inner.ensures.ids) a w (c.in_ok-inner.ensures.fits range cuts areas d) r q
+    let takers = (rw c.deref.ensures.value at c.in_ok-takers_in.ensures.fits) rows range cuts (body_sound rows (ids_of held) _ c.args.id k body h c.in_ok-none.ensures.ids) a w none (subst (All (Fits range cuts)) (sym c.new-takers.ensures.items) nil) in
+    (rw c.deref-2.ensures.value at (c.in_ok-left.ensures.fits range cuts rows)) (body_sound rows (ids_of held) _ c.args.id k body h c.in_ok-inner.ensures.ids) a w (c.in_ok-inner.ensures.fits range cuts takers d) r q
 
 pub choice_firsts-returns-clause-fits : goal.choice_firsts-returns-clause-fits
 choice_firsts-returns-clause-fits t c = λ range cuts rows kernel h a w d r q.
     let held = c.args.held.now in
     let bs = trees_of c.args.branches.now in
-    let told = c.in_ok-told.ensures.fits range cuts rows (choice_is_end rows (ids_of held) kernel c.args.at bs h) (among_left (end_cuts None c.args.at) (branches_cuts None bs) cuts a) r q in
+    let told = c.in_ok-others.ensures.fits range cuts rows (choice_is_end rows (ids_of held) kernel c.args.at bs h) (among_left (end_cuts None c.args.at) (branches_cuts None bs) cuts a) r q in
     c.in_ok-left.ensures.fits range cuts rows (choice_sound rows (ids_of held) kernel c.args.at bs h) (among_right (end_cuts None c.args.at) (branches_cuts None bs) cuts a) w d
-    (subst (All (Fits range cuts)) (sym c.deref.ensures.value) told.areas) told.entries
+    (subst (λ z. All (Fits range cuts) (flat z)) (sym c.deref.ensures.value) told.areas) told.entries
 
 pub firsts_among-returns-clause-fits : goal.firsts_among-returns-clause-fits
 firsts_among-returns-clause-fits t c = λ range cuts rows h a w d r q. c.loop-branch.invariant.fits range cuts rows h a w d r q
@@ -229,8 +251,8 @@ firsts_at-returns-in-Message-clause-fits t c =
 pub firsts_at-returns-in-Foreach-clause-fits : goal.firsts_at-returns-in-Foreach-clause-fits
 firsts_at-returns-in-Foreach-clause-fits t c =
     let is = plain_foreach c.args.stmt.now c.in-Foreach.low c.in-Foreach.high c.in-Foreach.items c.in-Foreach.is in
-    IfOk-weaker c.each_firsts.result _ _ (λ left f range cuts rows h a w d r q.
-    f range cuts rows (ids_of c.args.held.now) (plain_block c.in-Foreach.items).mark (turned_sound rows (ids_of c.args.held.now) _ _ is h) (turned_among cuts _ _ is a) r q) c.each_firsts.ensures.fits
+    IfOk-weaker c.foreach_firsts.result _ _ (λ left f range cuts rows h a w d r q.
+    f range cuts rows (ids_of c.args.held.now) (plain_block c.in-Foreach.items).mark (turned_sound rows (ids_of c.args.held.now) _ _ is h) (turned_among cuts _ _ is a) r q) c.foreach_firsts.ensures.fits
 
 pub firsts_at-returns-in-Loop-clause-fits : goal.firsts_at-returns-in-Loop-clause-fits
 firsts_at-returns-in-Loop-clause-fits t c =
