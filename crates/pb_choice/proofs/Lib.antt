@@ -20,3 +20,4 @@ pub mod EmptySteps
 pub mod Lones
 pub mod Circles
 pub mod Alikes
+pub mod Closes

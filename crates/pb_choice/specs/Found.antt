@@ -1,5 +1,5 @@
 -- The first breach so far.
-use Rattle.std.specs.Prelude.{◌≡◌, ◌⊎◌, ℕ, ℤ, false, Option, Some, None, if◌then◌else◌}
+use Rattle.std.specs.Prelude.{◌≡◌, ◌⊎◌, ℤ, false, Option, Some, None, if◌then◌else◌}
 use Rattle.pb_core_language.specs.Tree.{Mark}
 use Rattle.pb_core_language.specs.Rules.{Breach}
 use Rattle.pb_core_language.specs.Verdict.{Broken, is_before}

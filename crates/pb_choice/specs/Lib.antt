@@ -6,5 +6,6 @@ pub mod Told
 pub mod Plainly
 pub mod Verdict
 pub mod Clashes
+pub mod Close
 pub mod Empties
 pub mod Rounds

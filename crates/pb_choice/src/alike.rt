@@ -1,12 +1,15 @@
 //! Whether entries have one label or one source.
 
-ghost use Rattle.std.specs.Prelude.{◌≡◌, ℕ, ℤ, ◌&&◌, nat_eq, true, false, List, Some, IfSome};
+ghost use Rattle.std.specs.Prelude.{◌≡◌, ℕ, ℤ, ◌&&◌, nat_eq, true, false, List, Some, IfOk, IfSome};
 ghost use Rattle.pb_part_firsts.specs.declared.firsts.Entry.{Entry};
 ghost use Rattle.std.specs.Ordering.{int_eq};
-ghost use Rattle.pb_choice.specs.Clashes.{are_sent_by, clashes, forks, is_label, is_sent_by, lacks, lacks_label, same_base};
+ghost use Rattle.pb_part_firsts.specs.Firsts.{are_small};
+ghost use Rattle.pb_choice.specs.Clashes.{are_sent_by, clashes, forks, is_label, is_receive, is_sent_by, lacks, lacks_label, same_base};
 
 use pb_affine::Base;
 use pb_part_firsts::{Entry, Kind, Source};
+use pb_text::NoMemory;
+use std::alloc::Global;
 
 /// Whether it is a receive of the label.
 pub(crate) fn is_label(kind: Kind, wanted: u32) -> bool
@@ -75,6 +78,30 @@ pub(crate) fn have_one_source(here: &[Entry], others: &[Entry]) -> bool
     match first_source(here) {
         None => false,
         Some(source) => are_sent_by(here, source) && are_sent_by(others, source),
+    }
+}
+
+/// The receives among the entries.
+pub(crate) fn receives(alloc: Global, entries: &[Entry]) -> Result<Vec<Entry>, NoMemory>
+    ensures first { IfOk result (λ v. (others : List Entry) (n : ℤ) (role : ℕ) (x : ℤ) → forks v.items others n role x ≡ forks entries.now others n role x) }
+    ensures second { IfOk result (λ v. (here : List Entry) (n : ℤ) (role : ℕ) (x : ℤ) → forks here v.items n role x ≡ forks here entries.now n role x) }
+    ensures small { IfOk result (λ v. are_small entries.now ≡ true → are_small v.items ≡ true) }
+{
+    let mut out = Vec::new(alloc);
+    for entry in entries {
+        if is_receive(entry.kind) {
+            out.push(*entry)?;
+        }
+    }
+    Ok(out)
+}
+
+fn is_receive(kind: Kind) -> bool
+    ensures { result ≡ is_receive kind }
+{
+    match kind {
+        Kind::Receive { .. } => true,
+        Kind::Other | Kind::Again => false,
     }
 }
 

@@ -4,9 +4,9 @@ ghost use Rattle.pb_part_firsts.specs.Firsts.{is_small_kind, is_small_off, are_s
 ghost use Rattle.pb_choice.specs.Clashes.{AddsWhere, agrees, clash, clash_any, clashes, fork, fork_any, forks, is_strange, same_label, strange};
 
 use crate::agree::agreement;
-use crate::alike::{have_one_source, is_label, is_same, share_no_label};
-use crate::told::copy_of;
-use pb_part_areas::{Area, add_all, common, is_apart, one, push, without};
+use crate::alike::{have_one_source, is_label, is_same, receives, share_no_label};
+use crate::close::{around, close_to};
+use pb_part_areas::{Area, attach, attach_all, cloned, common, is_apart, one, without};
 use pb_part_firsts::{Entry, Kind, Source};
 use pb_text::NoMemory;
 use std::alloc::Global;
@@ -15,7 +15,7 @@ use std::alloc::Global;
 pub fn strangers(alloc: Global, here: &[Entry], left: &[Area]) -> Result<Vec<Area>, NoMemory>
     ensures { IfOk result (λ v. (n : ℤ) (role : ℕ) (x : ℤ) → have v.items n role x ≡ have left.now n role x || strange here.now n role x) }
 {
-    let mut out = copy_of(alloc, left)?;
+    let mut out = cloned(alloc, left)?;
     for entry in here {
         add_strange(&mut out, *entry)?;
     }
@@ -27,7 +27,7 @@ fn add_strange(out: &mut Vec<Area>, entry: Entry) -> Result<(), NoMemory>
 {
     match entry.kind {
         Kind::Receive { .. } => Ok(()),
-        Kind::Other | Kind::Again => push(out, entry.area),
+        Kind::Other | Kind::Again => attach(out, entry.area),
     }
 }
 
@@ -97,7 +97,7 @@ fn add_common(alloc: Global, out: &mut Vec<Area>, a: Area, b: Area) -> Result<()
         return Ok(());
     }
     let both = overlap(alloc, a, b)?;
-    add_all(out, &both)?;
+    attach_all(out, &both)?;
     Ok(())
 }
 
@@ -134,10 +134,83 @@ fn add_all_forks(
     if have_one_source(here, others) {
         return Ok(());
     }
+    let mine = receives(alloc, here)?;
+    let theirs = receives(alloc, others)?;
+    add_forks_among(alloc, out, &mine, &theirs)
+}
+
+/// How many entries are compared one by one with others.
+const FEW: usize = 4;
+
+// Halves of many entries are compared with what is close to them alone.
+#[cycle(halving)]
+fn add_forks_among(
+    alloc: Global,
+    out: &mut Vec<Area>,
+    here: &[Entry],
+    others: &[Entry],
+) -> Result<(), NoMemory>
+    ensures { OnOk result (are_small here.now ≡ true → are_small others.now ≡ true → AddsWhere out.old.items out.new.items (forks here.now others.now)) }
+{
+    if here.len() <= FEW {
+        return add_forks_each(alloc, out, here, others);
+    }
+    let (first, second) = here.split_at(here.len() / 2);
+    add_forks_close(alloc, out, first, others)?;
+    add_forks_close(alloc, out, second, others)
+}
+
+#[cycle(halving)]
+fn add_forks_close(
+    alloc: Global,
+    out: &mut Vec<Area>,
+    here: &[Entry],
+    others: &[Entry],
+) -> Result<(), NoMemory>
+    ensures { OnOk result (are_small here.now ≡ true → are_small others.now ≡ true → AddsWhere out.old.items out.new.items (forks here.now others.now)) }
+{
+    match around(here) {
+        None => add_forks_among(alloc, out, here, others),
+        Some(area) => {
+            let close = close_to(alloc, others, area)?;
+            add_forks_among(alloc, out, here, &close)
+        }
+    }
+}
+
+fn add_forks_each(
+    alloc: Global,
+    out: &mut Vec<Area>,
+    here: &[Entry],
+    others: &[Entry],
+) -> Result<(), NoMemory>
+    ensures { OnOk result (are_small here.now ≡ true → are_small others.now ≡ true → AddsWhere out.old.items out.new.items (forks here.now others.now)) }
+{
     for entry in here {
-        add_forks(alloc, out, *entry, others)?;
+        if !ends_with(out, entry.area) {
+            add_forks(alloc, out, *entry, others)?;
+        }
     }
     Ok(())
+}
+
+// Whether the last area of the list is this one.
+fn ends_with(list: &[Area], a: Area) -> bool
+    ensures { result ≡ true → (n : ℤ) (role : ℕ) (x : ℤ) → has a n role x ≡ true → have list.now n role x ≡ true }
+{
+    if list.is_empty() {
+        return false;
+    }
+    let last = list[list.len() - 1];
+    if last.role == a.role
+        && last.low == a.low
+        && last.end == a.end
+        && last.from == a.from
+        && last.until == a.until
+    {
+        return true;
+    }
+    false
 }
 
 fn add_forks(
@@ -217,6 +290,6 @@ fn add_apart(
     let both = overlap(alloc, a, b)?;
     let met = one(alloc, agreement(a, from, second))?;
     let apart = without(alloc, both, &met)?;
-    add_all(out, &apart)?;
+    attach_all(out, &apart)?;
     Ok(())
 }

@@ -11,7 +11,7 @@ use crate::least::told_kept;
 use crate::past::Past;
 use crate::rule::ChoiceRule;
 use crate::setting::Setting;
-use pb_part_areas::{Area, add_all, without};
+use pb_part_areas::{Area, attach_all, without};
 use pb_part_firsts::Entry;
 use pb_text::NoMemory;
 use std::alloc::Global;
@@ -43,7 +43,7 @@ pub fn rules_kept(
     let second = told_kept(alloc, setting, ChoiceRule::OneSource, mark, &split, first)?;
     let third = told_kept(alloc, setting, ChoiceRule::OwnLabels, mark, &shared, second)?;
     add_entries(&mut past.entries, here)?;
-    add_all(&mut past.mixed, &split)?;
+    attach_all(&mut past.mixed, &split)?;
     Ok(third)
 }
 

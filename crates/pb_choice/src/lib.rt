@@ -6,6 +6,7 @@ mod agree;
 mod alike;
 mod areas;
 mod branch;
+mod close;
 mod empty;
 mod flow;
 mod found;

@@ -5,7 +5,7 @@ ghost use Rattle.pb_choice.specs.Told.{AreTold, AreAmong};
 
 use crate::setting::Setting;
 use pb_core_language::{CoreBlock, CoreEnd};
-use pb_part_areas::{Area, add_all, common, one, without};
+use pb_part_areas::{Area, common, one, without};
 use pb_part_takers::{Held, end_area, takers_in};
 use pb_text::NoMemory;
 use std::alloc::Global;
@@ -56,13 +56,4 @@ fn takers_among(
         takers_in(branch, alloc, setting.whole, held, &mut areas)?;
     }
     Ok(areas)
-}
-
-/// A copy of the areas.
-pub fn copy_of(alloc: Global, areas: &[Area]) -> Result<Vec<Area>, NoMemory>
-    ensures { IfOk result (λ v. (n : ℤ) (role : ℕ) (x : ℤ) → have v.items n role x ≡ have areas.now n role x) }
-{
-    let mut copy = Vec::new(alloc);
-    add_all(&mut copy, areas)?;
-    Ok(copy)
 }

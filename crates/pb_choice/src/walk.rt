@@ -12,9 +12,9 @@ use crate::found::{Found, Mark};
 use crate::lone::{body_takers, lone_kept};
 use crate::past::Past;
 use crate::setting::Setting;
-use crate::told::{copy_of, told_of};
+use crate::told::told_of;
 use pb_core_language::{CoreBlock, CoreKind, CoreStmt};
-use pb_part_areas::Area;
+use pb_part_areas::{Area, cloned};
 use pb_part_firsts::firsts_in;
 use pb_part_takers::{Held, with_loop};
 use pb_text::NoMemory;
@@ -126,7 +126,7 @@ fn branch_kept(
         number: branch.number,
         place: branch.place,
     };
-    let reach = copy_of(alloc, told)?;
+    let reach = cloned(alloc, told)?;
     let mut here = Vec::new(alloc);
     let left = firsts_in(branch, alloc, setting.whole, held, reach, &mut here)?;
     let first = rules_kept(alloc, setting, mark, &here, &left, past, best)?;
