@@ -368,14 +368,26 @@ def told_by_many(rng):
     return inner + 2 * ranks + 9, choice_of(blocks)
 
 
+def one_rank(rng):
+    """Choices one in another, of which each branch tells the same rank from a sender of its own (rule 11)."""
+    depth = large(rng, OPEN - 1, 2)
+    width = large(rng, min(BRANCHES, (STATEMENTS - 1) // depth - 1), 3)
+    body, sender = [f"choice K{d} at W[0] {{" for d in range(depth)] + ["A() from W[0] to W[1];"], 1
+    for _ in range(depth):
+        for _ in range(1, width):
+            sender += 1
+            body += ["} or {", f"L{sender}() from W[{sender}] to W[1];"]
+        body.append("}")
+    return sender + 2, body
+
+
 def by_name(*shapes):
     return {it.__name__: it for it in shapes}
 
 
 SHAPES = by_name(choice, own_ranks, offsets, offsets_to_one, cuts, told_in_turn, loops, tree, gaps, gaps_from_both, two_sources, cross_loop,
-                 loops_joint, each_stays, low_ranges, wide_ranges)
-HARD = by_name(loops_gaps, loops_choices, choices_split, choices_gaps, continues, cross_told, loops_cross, choices_cross, cross_each, each_holes,
-               each_met, told_by_many)
+                 loops_joint, each_stays, low_ranges, wide_ranges, loops_choices, choices_split, told_by_many)
+HARD = by_name(loops_gaps, choices_gaps, one_rank, continues, cross_told, loops_cross, choices_cross, cross_each, each_holes, each_met)
 
 
 def made(shape, seed):
