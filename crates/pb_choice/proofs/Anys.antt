@@ -1,32 +1,20 @@
 -- Some entry of a list, an entry at a time.
-use Rattle.std.proofs.Common.{◌≡◌, ◌<◌, ◌≤◌, ◌+◌, ℕ, ℤ, pos, ◌≤ℤ◌, Bool, true, false, not, ◌&&◌, ◌||◌, nat_eq, ◌+ℤ◌, List, [], drop, get_or, length, refl, sym, ap, ◌∙◌, drop_of_length-le, arith}
+use Rattle.std.proofs.Common.{◌≡◌, ◌<◌, ◌≤◌, ◌+◌, ℕ, ℤ, pos, ◌≤ℤ◌, Bool, true, false, not, ◌&&◌, ◌||◌, nat_eq, ◌+ℤ◌, List, [], drop, get_or, length, refl, sym, ap, ◌∙◌, arith}
 use Rattle.std.specs.List.{list_any}
 use Rattle.std.proofs.lemmas.Bool.{and_parts, false≢true}
 use Rattle.std.proofs.lemmas.Int.{ints}
 use Rattle.std.specs.Ordering.{int_eq}
-use Rattle.pb_affine.specs.declared.lin.Base.{Base}
-use Rattle.pb_affine.specs.declared.lin.Base.TheVariants.{Fixed, Param, Var}
 use Rattle.pb_affine.specs.Values.{base_value}
 use Rattle.std.proofs.lemmas.Bool.Decides.{nat_tests}
 use Rattle.std.proofs.lemmas.List.{at_drop_more}
-use Rattle.std.proofs.Math.Bool.{or-false}
 use Rattle.pb_part_areas.specs.declared.area.Area.{Area}
 use Rattle.pb_part_areas.specs.Areas.{has, have}
 use Rattle.pb_part_firsts.specs.declared.firsts.Entry.{Entry}
 use Rattle.pb_part_firsts.specs.declared.firsts.Source.{Source}
-use Rattle.pb_part_firsts.specs.Firsts.{is_small_kind, is_small_off, are_small}
-use Rattle.pb_choice.specs.Clashes.{AddsWhere, AreWhere, agrees, forks, same_base, IsAgreement}
-
-or_step : (w1 w t q all : Bool) → w1 ≡ w || t → w || (t || q) ≡ all → w1 || q ≡ all
-or_step w1 w t q all e h = grind (arith, nat_tests)
-
-pub any_step : (t : Entry → Bool) (xs : List Entry) (i : ℕ) (d : Entry) (w w1 all : Bool) → i < length xs → w1 ≡ w || t (get_or xs i d) →
-    w || list_any t (drop i xs) ≡ all → w1 || list_any t (drop (i + 1) xs) ≡ all
-any_step t xs i d w w1 all lt e h =
-    or_step w1 w (t (get_or xs i d)) (list_any t (drop (i + 1) xs)) all e (ap (λ z. w || z) (sym (at_drop_more (λ l. list_any t l) xs i d lt)) ∙ h)
-
-pub any_done : (t : Entry → Bool) (xs : List Entry) (i : ℕ) (w all : Bool) → length xs ≤ i → w || list_any t (drop i xs) ≡ all → w ≡ all
-any_done t xs i w all le h = sym (or-false w) ∙ ap (λ l. w || list_any t l) (sym (drop_of_length-le xs le)) ∙ h
+use Rattle.pb_part_firsts.specs.Firsts.{is_small_kind, are_small}
+use Rattle.pb_part_visits.specs.Visits.{is_small_off}
+use Rattle.pb_choice_entries.proofs.Anys.{any_step, any_done, base_is}
+use Rattle.pb_choice_entries.specs.Clashes.{AddsWhere, AreWhere, agrees, forks, same_base, IsAgreement}
 
 -- ---- small offsets
 
@@ -88,17 +76,6 @@ all_forks here before none mid new is_none a b sh sb = record {
 }
 
 -- ---- one source
-
-pub base_is : (a b : Base) (n x : ℤ) → same_base a b ≡ true → base_value a n x ≡ base_value b n x
-base_is Fixed Fixed n x h = refl
-base_is Param Param n x h = refl
-base_is Var Var n x h = refl
-base_is Fixed Param n x h = absurd (false≢true h)
-base_is Fixed Var n x h = absurd (false≢true h)
-base_is Param Fixed n x h = absurd (false≢true h)
-base_is Param Var n x h = absurd (false≢true h)
-base_is Var Fixed n x h = absurd (false≢true h)
-base_is Var Param n x h = absurd (false≢true h)
 
 same_values : (r s : ℕ) (a b v w : ℤ) → nat_eq r s ≡ true → int_eq a b ≡ true → v ≡ w → nat_eq r s && int_eq (a +ℤ v) (b +ℤ w) ≡ true
 same_values r s a b v w h k e = grind (arith, ints, nat_tests)

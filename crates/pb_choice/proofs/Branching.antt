@@ -18,6 +18,7 @@ use Rattle.pb_choice.specs.declared.found.Found.{Found}
 use Rattle.pb_choice.specs.Flaws.{IsFlaw, no_flaws, both, of_rules, of_block, of_stmt, of_branches, is_told, found_in, misses}
 use Rattle.pb_choice.specs.Found.{Improves}
 use Rattle.pb_choice.specs.Scenes.{Stands, IsFair, AreFair, Are}
+use Rattle.pb_choice.specs.Settled.{FirstChoice}
 use Rattle.pb_choice.specs.Told.{AreTold}
 use Rattle.pb_choice.specs.Walks.{FirstAt, FirstAmong, FirstWithin, IsPast}
 use Rattle.pb_choice.proofs.FlawSteps.{SameFlaws, same_back, improves_both, improves_same, improves_empty}
@@ -94,17 +95,20 @@ among_done range whole held told items i entries mixed old best le so_far = reco
       (subst (λ l. SameFlaws (of_branches roles env (ids_of held) test t.before (branches_of (map plain_block l))) no_flaws) (sym (drop_of_length-le items le)) (record { lone = λ n. refl; told = λ k n role x. refl })));
 }
 
-pub choice_first : (range : NRange) (whole : List Area) (held : List Held) (m : Mark) (k : ℕ) (at : CoreEnd) (items branches : List CoreBlock) (told seen : List Area) (old new : Option Found) (s : StmtTree) →
-    s ≡ choice k at (branches_of (map plain_block items)) → branches ≡ items → seen ≡ told →
-    AreTold range whole held at (branches_of (map plain_block branches)) told → FirstAmong range whole held seen (branches_of (map plain_block branches)) old new → FirstAt range whole held m s old new
-choice_first range whole held m k at items branches told seen old new s is same seen_is told_is among =
-    subst (λ z. FirstAt range whole held m z old new) (ap (λ l. choice k at (branches_of (map plain_block l))) same ∙ sym is) (record {
-      is = λ roles rows env stands fair.
-          let bs_fair : AreFair range roles rows (ids_of held) (branches_of (map plain_block branches)) = fair_branches range roles rows (ids_of held) m k at (branches_of (map plain_block branches)) fair in
-          let are : Are range roles told (is_told roles env (ids_of held) at (branches_of (map plain_block branches))) = told_is.is roles rows env m k stands fair in
-          improves_same range roles (of_branches roles env (ids_of held) (is_told roles env (ids_of held) at (branches_of (map plain_block branches))) (λ n role x. []) (branches_of (map plain_block branches)))
-          (of_stmt roles env (ids_of held) m (choice k at (branches_of (map plain_block branches)))) old new
-          (same_back (of_stmt roles env (ids_of held) m (choice k at (branches_of (map plain_block branches)))) _ (choice_parts roles env (ids_of held) m k at (branches_of (map plain_block branches))))
-          (among.is roles rows env (is_told roles env (ids_of held) at (branches_of (map plain_block branches))) stands bs_fair
-          (subst (λ l. Are range roles l (is_told roles env (ids_of held) at (branches_of (map plain_block branches)))) (sym seen_is) are));
-    })
+pub choice_told : (range : NRange) (whole : List Area) (held : List Held) (at : CoreEnd) (bs : BranchTrees) (told seen : List Area) (old new : Option Found) → seen ≡ told →
+    AreTold range whole held at bs told → FirstAmong range whole held seen bs old new → FirstChoice range whole held at bs old new
+choice_told range whole held at bs told seen old new seen_is told_is among = record {
+  is = λ m k. record {
+    is = λ roles rows env stands fair.
+        let are : Are range roles told (is_told roles env (ids_of held) at bs) = told_is.is roles rows env m k stands fair in
+        improves_same range roles (of_branches roles env (ids_of held) (is_told roles env (ids_of held) at bs) (λ n role x. []) bs) (of_stmt roles env (ids_of held) m (choice k at bs)) old new
+        (same_back (of_stmt roles env (ids_of held) m (choice k at bs)) _ (choice_parts roles env (ids_of held) m k at bs))
+        (among.is roles rows env (is_told roles env (ids_of held) at bs) stands (fair_branches range roles rows (ids_of held) m k at bs fair)
+        (subst (λ l. Are range roles l (is_told roles env (ids_of held) at bs)) (sym seen_is) are));
+  };
+}
+
+pub choice_at : (range : NRange) (whole : List Area) (held : List Held) (m : Mark) (k : ℕ) (at : CoreEnd) (items branches : List CoreBlock) (old new : Option Found) (s : StmtTree) →
+    s ≡ choice k at (branches_of (map plain_block items)) → branches ≡ items → FirstChoice range whole held at (branches_of (map plain_block branches)) old new → FirstAt range whole held m s old new
+choice_at range whole held m k at items branches old new s is same first =
+    subst (λ z. FirstAt range whole held m z old new) (ap (λ l. choice k at (branches_of (map plain_block l))) same ∙ sym is) (first.is m k)

@@ -20,11 +20,11 @@ pub same_back : (f g : Flaws) → SameFlaws f g → SameFlaws g f
 same_back f g s = record { lone = λ n. sym (s.lone n); told = λ k n role x. sym (s.told k n role x) }
 
 module _ (range : NRange) (roles : List CoreRole) where
-  carried : (f g : Flaws) (c : Broken) → SameFlaws f g → IsFlaw range roles f c → IsFlaw range roles g c
+  pub carried : (f g : Flaws) (c : Broken) → SameFlaws f g → IsFlaw range roles f c → IsFlaw range roles g c
   carried f g c s (lonely m within is there) = lonely m within is (subst (λ l. Contains l m) (s.lone c.n) there)
   carried f g c s (misled k m role x within rank is there) = misled k m role x within rank is (subst (λ l. Contains l m) (s.told k c.n role x) there)
 
-  either : (f g : Flaws) (c : Broken) → IsFlaw range roles (both f g) c → IsFlaw range roles f c ⊎ IsFlaw range roles g c
+  pub either : (f g : Flaws) (c : Broken) → IsFlaw range roles (both f g) c → IsFlaw range roles f c ⊎ IsFlaw range roles g c
   either f g c (lonely m within is there) =
       elim (has_cases (f.lone c.n) (g.lone c.n) m (has _ m there)) [
         | inl y ↦ inl (lonely m within is (contains (f.lone c.n) m y))
@@ -36,12 +36,12 @@ module _ (range : NRange) (roles : List CoreRole) where
         | inr z ↦ inr (misled k m role x within rank is (contains (g.told k c.n role x) m z))
       ]
 
-  first_one : (f g : Flaws) (c : Broken) → IsFlaw range roles f c → IsFlaw range roles (both f g) c
+  pub first_one : (f g : Flaws) (c : Broken) → IsFlaw range roles f c → IsFlaw range roles (both f g) c
   first_one f g c (lonely m within is there) = lonely m within is (contains (f.lone c.n ++ g.lone c.n) m (has_left (f.lone c.n) (g.lone c.n) m (has _ m there)))
   first_one f g c (misled k m role x within rank is there) =
       misled k m role x within rank is (contains (f.told k c.n role x ++ g.told k c.n role x) m (has_left (f.told k c.n role x) (g.told k c.n role x) m (has _ m there)))
 
-  second_one : (f g : Flaws) (c : Broken) → IsFlaw range roles g c → IsFlaw range roles (both f g) c
+  pub second_one : (f g : Flaws) (c : Broken) → IsFlaw range roles g c → IsFlaw range roles (both f g) c
   second_one f g c (lonely m within is there) = lonely m within is (contains (f.lone c.n ++ g.lone c.n) m (has_right (f.lone c.n) (g.lone c.n) m (has _ m there)))
   second_one f g c (misled k m role x within rank is there) =
       misled k m role x within rank is (contains (f.told k c.n role x ++ g.told k c.n role x) m (has_right (f.told k c.n role x) (g.told k c.n role x) m (has _ m there)))

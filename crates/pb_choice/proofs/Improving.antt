@@ -40,6 +40,15 @@ improves_as S T a b f g s = record {
   first = λ d kd h k. s.first d kd h (g d k);
 }
 
+-- the same and such as aren't before the old one
+pub improves_but : (S T : Broken → Type 0) (a b : Option Found) → ((c : Broken) → S c → T c) → ((c : Broken) → T c → S c ⊎ IsNotBefore c a) → Improves S a b → Improves T a b
+improves_but S T a b f g s = record {
+  named = s.named;
+  comes = comes_as S T a b f s.comes;
+  keeps = s.keeps;
+  first = λ d kd h k. elim (g d k) [ inl x ↦ s.first d kd h x | inr y ↦ s.keeps d kd h y ];
+}
+
 -- no breach
 pub improves_none : (S : Broken → Type 0) (a : Option Found) → ((c : Broken) → S c → ⊥) → Improves S a a
 improves_none S a none = record {

@@ -18,7 +18,7 @@ use Rattle.pb_part_firsts.specs.declared.firsts.Kind.{Kind}
 use Rattle.pb_part_firsts.specs.declared.firsts.Kind.TheVariants.{Receive, Other, Again}
 use Rattle.pb_part_firsts.specs.declared.firsts.Source.{Source}
 use Rattle.pb_part_firsts.specs.Firsts.{outcome_of, finds}
-use Rattle.pb_choice.specs.Clashes.{is_receive, is_strange, strange, is_label, same_label, clash, clash_any, clashes, agrees, is_from_other, are_apart, fork, fork_any, forks}
+use Rattle.pb_choice_entries.specs.Clashes.{is_receive, is_strange, strange, is_label, same_label, clash, clash_any, clashes, agrees, is_from_other, are_apart, fork, fork_any, forks}
 
 module _ (roles : List CoreRole) (n : ℤ) (role : ℕ) (x : ℤ) where
   -- ---- what is no receive

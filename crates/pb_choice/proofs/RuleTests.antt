@@ -21,7 +21,7 @@ use Rattle.pb_part_firsts.specs.Takers.{IsWhole}
 use Rattle.pb_part_firsts.specs.Firsts.{outcome_of, finds, are_small, is_small_kind}
 use Rattle.pb_choice.specs.declared.found.Found.{Found}
 use Rattle.pb_choice.specs.declared.rule.ChoiceRule.TheVariants.{OnlyReceives, OneSource, OwnLabels}
-use Rattle.pb_choice.specs.Clashes.{strange, clashes, forks, AreSplit}
+use Rattle.pb_choice_entries.specs.Clashes.{strange, clashes, forks, AreSplit}
 use Rattle.pb_choice.specs.Flaws.{IsFlaw, both, flaw_at, of_rules, misses}
 use Rattle.pb_choice.specs.Found.{Improves}
 use Rattle.pb_choice.specs.Scenes.{Are}

@@ -2,10 +2,9 @@ pub mod Flaws
 pub mod Found
 pub mod Scenes
 pub mod Walks
+pub mod Settled
 pub mod Told
 pub mod Plainly
 pub mod Verdict
-pub mod Clashes
-pub mod Close
 pub mod Empties
 pub mod Rounds

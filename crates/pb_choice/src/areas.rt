@@ -1,11 +1,12 @@
 ghost use Rattle.std.specs.Prelude.{◌≡◌, ℕ, ℤ, ◌&&◌, ◌||◌, true, not, IfOk, OnOk};
 ghost use Rattle.pb_part_areas.specs.Areas.{has, have};
-ghost use Rattle.pb_part_firsts.specs.Firsts.{is_small_kind, is_small_off, are_small};
-ghost use Rattle.pb_choice.specs.Clashes.{AddsWhere, agrees, clash, clash_any, clashes, fork, fork_any, forks, is_strange, same_label, strange};
+ghost use Rattle.pb_part_firsts.specs.Firsts.{is_small_kind, are_small};
+ghost use Rattle.pb_part_visits.specs.Visits.{is_small_off};
+ghost use Rattle.pb_choice_entries.specs.Clashes.{AddsWhere, agrees, clash, clash_any, clashes, fork, fork_any, forks, is_strange, same_label, strange};
 
-use crate::agree::agreement;
-use crate::alike::{have_one_source, is_label, is_same, receives, share_no_label};
-use crate::close::{around, close_to};
+use pb_choice_entries::{
+    agreement, around, close_to, have_one_source, is_label, is_same, receives, share_no_label,
+};
 use pb_part_areas::{Area, attach, attach_all, cloned, common, is_apart, one, without};
 use pb_part_firsts::{Entry, Kind, Source};
 use pb_text::NoMemory;
@@ -121,7 +122,7 @@ pub fn forks(alloc: Global, here: &[Entry], before: &[Entry]) -> Result<Vec<Area
     Ok(out)
 }
 
-ghost use Rattle.pb_choice.specs.Clashes.{AreWhere};
+ghost use Rattle.pb_choice_entries.specs.Clashes.{AreWhere};
 
 fn add_all_forks(
     alloc: Global,
@@ -222,6 +223,9 @@ fn add_forks(
     ensures { OnOk result (is_small_kind entry.kind ≡ true → are_small others.now ≡ true → AddsWhere out.old.items out.new.items (fork_any others.now entry)) }
 {
     for other in others {
+        if ends_with(out, entry.area) {
+            return Ok(());
+        }
         add_fork(alloc, out, entry, *other)?;
     }
     Ok(())
@@ -236,7 +240,7 @@ fn add_fork(alloc: Global, out: &mut Vec<Area>, entry: Entry, other: Entry) -> R
     }
 }
 
-ghost use Rattle.pb_choice.specs.Clashes.{fork_from};
+ghost use Rattle.pb_choice_entries.specs.Clashes.{fork_from};
 
 fn add_from(
     alloc: Global,

@@ -1,7 +1,7 @@
 ghost use Rattle.std.specs.Prelude.{◌≡◌, ◌++◌, ℕ, ℤ, ◌&&◌, ◌||◌, true, not, IfOk, OnOk};
 ghost use Rattle.pb_part_areas.specs.Areas.{have};
 ghost use Rattle.pb_part_firsts.specs.Firsts.{are_small};
-ghost use Rattle.pb_choice.specs.Clashes.{AreSplit};
+ghost use Rattle.pb_choice_entries.specs.Clashes.{AreSplit};
 ghost use Rattle.pb_choice.specs.Found.{mark_of};
 ghost use Rattle.pb_choice.specs.Walks.{FirstOf};
 

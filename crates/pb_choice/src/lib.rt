@@ -2,11 +2,8 @@
 //! and each rank that is told of a choice learns which branch was chosen from what it receives first.
 #![tactic(auto)]
 
-mod agree;
-mod alike;
 mod areas;
 mod branch;
-mod close;
 mod empty;
 mod flow;
 mod found;
@@ -16,10 +13,10 @@ mod past;
 mod round;
 mod rule;
 mod setting;
+mod settled;
 mod told;
 mod walk;
 
-pub use agree::agreement;
 pub use flow::check_flow;
 pub use pb_core_language::Core;
 pub use pb_rules::{At, RuleFault};

@@ -1,5 +1,5 @@
 use Rattle.std.proofs.lemmas.Result.{on_ok_weaker}
-use Rattle.pb_choice.proofs.Closes.{both_halves}
+use Rattle.pb_choice.proofs.Halves.{both_halves}
 use Rattle.pb_choice.proofs.areas.+halving.Goals as goal
 
 pub add_forks_among-returns : goal.add_forks_among-returns

@@ -1,7 +1,7 @@
 use Rattle.std.proofs.Common.{◌≡◌, ℕ, ℤ, ◌||◌, drop}
 use Rattle.std.specs.List.{list_any}
 use Rattle.pb_part_areas.specs.Areas.{have}
-use Rattle.pb_choice.specs.Clashes.{clash_any}
+use Rattle.pb_choice_entries.specs.Clashes.{clash_any}
 use Rattle.pb_choice.proofs.areas.add_all_clashes.Given as goal
 
 abbrev pub invariant-loop-entry : goal.invariant-loop-entry

@@ -1,7 +1,7 @@
 use Rattle.std.proofs.Common.{◌≡◌, ℕ, ℤ, ◌||◌, drop}
 use Rattle.std.specs.List.{list_any}
 use Rattle.pb_part_areas.specs.Areas.{have}
-use Rattle.pb_choice.specs.Clashes.{clash}
+use Rattle.pb_choice_entries.specs.Clashes.{clash}
 use Rattle.pb_choice.proofs.areas.add_clashes.Given as goal
 
 abbrev pub invariant-loop-other : goal.invariant-loop-other

@@ -1,6 +1,7 @@
 use Rattle.pb_part_firsts.specs.Firsts.{is_small_kind}
-use Rattle.pb_choice.specs.Clashes.{fork}
+use Rattle.pb_choice_entries.specs.Clashes.{fork}
 use Rattle.pb_choice.proofs.Anys.{far_step, far_done}
+use Rattle.pb_choice.proofs.Halves.{held_rest}
 use Rattle.pb_choice.proofs.areas.add_forks.Goals as goal
 
 pub loop-other-preserved : goal.loop-other-preserved
@@ -11,3 +12,8 @@ loop-other-preserved c =
 pub returns : goal.returns
 returns c =
     far_done (is_small_kind c.args.entry.kind) (fork c.args.entry) c.args.others.now c.loop-other.other-index c.args.out.now.items c.loop-other.out.items c.loop-other-test.false c.loop-other.invariant
+
+pub returns-then-ends_with : goal.returns-then-ends_with
+returns-then-ends_with c =
+    held_rest (is_small_kind c.args.entry.kind) c.args.entry c.args.others.now c.loop-other.other-index c.args.out.now.items c.loop-other.out.items
+    ((rw c.deref.ensures.value at c.ends_with.ensures) c.if-ends_with.true) c.loop-other.invariant

@@ -1,8 +1,8 @@
 use Rattle.pb_part_firsts.specs.Firsts.{are_small}
-use Rattle.pb_choice.specs.Clashes.{fork_any}
+use Rattle.pb_choice_entries.specs.Clashes.{fork_any}
 use Rattle.std.proofs.Common.{ap, sym, get_or}
 use Rattle.pb_choice.proofs.Anys.{far_step, far_done}
-use Rattle.pb_choice.proofs.Closes.{held_forks, carried}
+use Rattle.pb_choice.proofs.Halves.{held_forks, carried}
 use Rattle.pb_choice.proofs.areas.add_forks_each.Goals.{then-not-ends_with+in_ok-add_forks, else-not-ends_with}
 use Rattle.pb_choice.proofs.areas.add_forks_each.Goals as goal
 

@@ -1,6 +1,6 @@
 use Rattle.std.specs.List.{list_any}
 use Rattle.pb_part_firsts.specs.Firsts.{are_small}
-use Rattle.pb_choice.specs.Clashes.{fork_any}
+use Rattle.pb_choice_entries.specs.Clashes.{fork_any}
 use Rattle.pb_choice.proofs.Anys.{SoFar}
 use Rattle.pb_choice.proofs.areas.add_forks_each.Given as goal
 

@@ -1,6 +1,6 @@
 use Rattle.std.proofs.Common.{rules, ◌≡◌, ◌<◌, ◌-◌, length, get_or}
 use Rattle.pb_part_areas.specs.Joins.{blank}
-use Rattle.pb_choice.proofs.Closes.{listed}
+use Rattle.pb_choice.proofs.Halves.{listed}
 use Rattle.pb_choice.proofs.areas.ends_with.Goals as goal
 
 pub returns-then-eq-3 : goal.returns-then-eq-3

@@ -1,7 +1,7 @@
 use Rattle.std.proofs.Common.{◌≡◌, ℕ, ℤ, ◌||◌, drop}
 use Rattle.std.specs.List.{list_any}
 use Rattle.pb_part_areas.specs.Areas.{have}
-use Rattle.pb_choice.specs.Clashes.{is_strange}
+use Rattle.pb_choice_entries.specs.Clashes.{is_strange}
 use Rattle.pb_choice.proofs.areas.strangers.Given as goal
 
 abbrev pub invariant-loop-entry : goal.invariant-loop-entry

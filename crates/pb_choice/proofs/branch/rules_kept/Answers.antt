@@ -1,7 +1,7 @@
 use Rattle.std.proofs.Common.{◌≡◌, true, ◌||◌, ap, subst, ◌∙◌}
 use Rattle.pb_part_areas.specs.Areas.{have}
 use Rattle.pb_part_firsts.specs.Firsts.{are_small}
-use Rattle.pb_choice.specs.Clashes.{AreSplit, clashes}
+use Rattle.pb_choice_entries.specs.Clashes.{AreSplit, clashes}
 use Rattle.pb_choice.specs.Found.{mark_of}
 use Rattle.pb_choice.proofs.RuleTests.{first_of_rules}
 use Rattle.pb_choice.proofs.branch.rules_kept.Goals as goal

@@ -1,5 +1,0 @@
-use Rattle.pb_choice.proofs.Closes.{Surrounds}
-use Rattle.pb_choice.proofs.close.around.Given as goal
-
-abbrev pub invariant-loop-entry : goal.invariant-loop-entry
-invariant-loop-entry l = Surrounds l.all l.here l.entry-index

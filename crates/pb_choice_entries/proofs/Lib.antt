@@ -1,0 +1,4 @@
+pub mod Anys
+pub mod Meetings
+pub mod Alikes
+pub mod Closes
