@@ -79,6 +79,16 @@ apart_second a b h n role x = both_false (has a n role x) (has b n role x) (λ j
     let q = holds b n role x k in
     not_between (at b.end n) (at a.low n) x (h n (when a n role x p) (when b n role x q)) q.end p.low)
 
+before_it : (f : ℕ) (n : ℤ) → int_lt n (pos f) ≡ true → int_le (pos f) n ≡ true → ⊥
+before_it f n h k = grind (arith, ints)
+
+-- the numbers N of the one end before those of the other begin
+pub over_first : (a b : Area) → ((n : ℤ) → is_before n a.until ≡ true → int_lt n (pos b.from) ≡ true) → (n : ℤ) (role : ℕ) (x : ℤ) → has a n role x && not (has b n role x) ≡ has a n role x
+over_first a b h n role x = both_false (has a n role x) (has b n role x) (λ j k. before_it b.from n (h n (holds a n role x j).until) (holds b n role x k).from)
+
+pub over_second : (a b : Area) → ((n : ℤ) → is_before n b.until ≡ true → int_lt n (pos a.from) ≡ true) → (n : ℤ) (role : ℕ) (x : ℤ) → has a n role x && not (has b n role x) ≡ has a n role x
+over_second a b h n role x = both_false (has a n role x) (has b n role x) (λ j k. before_it a.from n (h n (holds b n role x k).until) (holds a n role x j).from)
+
 pub apart_roles : (a b : Area) → (a.role ≡ b.role → ⊥) → (n : ℤ) (role : ℕ) (x : ℤ) → has a n role x && not (has b n role x) ≡ has a n role x
 apart_roles a b h n role x = both_false (has a n role x) (has b n role x) (λ j k.
     h (sym (eqb-true role a.role (holds a n role x j).here) ∙ eqb-true role b.role (holds b n role x k).here))

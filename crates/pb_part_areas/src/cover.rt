@@ -84,6 +84,9 @@ pub(crate) fn covers(b: Area, a: Area) -> bool
 pub fn is_apart(a: Area, b: Area) -> bool
     ensures { result ≡ true → (n : ℤ) (role : ℕ) (x : ℤ) → has a n role x && not (has b n role x) ≡ has a n role x }
 {
+    if ends_by(a.until, b.from) || ends_by(b.until, a.from) {
+        return true;
+    }
     if a.role == b.role {
         is_below(a.end, b.low, a, b) || is_below(b.end, a.low, a, b)
     } else {

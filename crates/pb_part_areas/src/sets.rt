@@ -158,7 +158,7 @@ fn with_area(alloc: Global, list: &[Area], a: Area) -> Result<Vec<Area>, NoMemor
     Ok(out)
 }
 
-/// Adds what the area holds of, as far as it isn't there. The areas of the list that it holds of whole go out.
+/// Adds what the area holds of, as far as it isn't there, or whole where that is many pieces. What it holds of whole goes out.
 #[tactic(auto, using(crate::proofs::Covers::covered))]
 pub fn add_new(alloc: Global, out: &mut Vec<Area>, a: Area) -> Result<(), NoMemory>
     ensures is { OnOk result ((n : ℤ) (role : ℕ) (x : ℤ) → have out.new.items n role x ≡ have out.old.items n role x || has a n role x) }

@@ -189,14 +189,15 @@ fn spread(alloc: Global, list: &[Area]) -> Result<Vec<Area>, NoMemory>
 
 /// What areas are sorted by: those whose ends move alike by their low ends.
 fn place_of(a: &Area) -> (u32, u32, Option<u32>, bool, bool, i32) {
-    (
-        a.role,
-        a.from,
-        a.until,
-        is_param(a.low.base),
-        is_param(a.end.base),
-        a.low.off,
-    )
+    let low = is_param(a.low.base);
+    let end = is_param(a.end.base);
+    (a.role, a.from, a.until, low, end, a.low.off)
+}
+
+fn ends_of(a: &Area) -> (u32, bool, bool, i32, u32) {
+    let low = is_param(a.low.base);
+    let end = is_param(a.end.base);
+    (a.role, low, end, a.low.off, a.from)
 }
 
 /// The same areas in the order of role, numbers N and index.
@@ -207,6 +208,27 @@ fn sorted(list: Vec<Area>) -> Vec<Area>
     let mut areas = list;
     areas.sort_unstable_by_key(|a| place_of(a));
     areas
+}
+
+/// The same areas in the order of role, index and numbers N.
+fn sorted_by_ends(list: Vec<Area>) -> Vec<Area>
+    ensures is { (n : ℤ) (role : ℕ) (x : ℤ) → have result.items n role x ≡ have list.items n role x }
+    ensures fits { (range : NRange) (cuts : List Lin) → All (Fits range cuts) list.items → All (Fits range cuts) result.items }
+{
+    let mut areas = list;
+    areas.sort_unstable_by_key(|a| ends_of(a));
+    areas
+}
+
+/// The same ranks, sorted. Areas go out that hold of the same indices as another, at fewer numbers N.
+fn ordered(alloc: Global, list: Vec<Area>) -> Result<Vec<Area>, NoMemory>
+    ensures is { IfOk result (λ v. (n : ℤ) (role : ℕ) (x : ℤ) → have v.items n role x ≡ have list.items n role x) }
+    ensures fits { IfOk result (λ v. (range : NRange) (cuts : List Lin) → All (Fits range cuts) list.items → All (Fits range cuts) v.items) }
+{
+    let by_ends = sorted_by_ends(list);
+    let few = chained(alloc, &by_ends)?;
+    let areas = sorted(few);
+    Ok(areas)
 }
 
 /// The same ranks in fewer areas. Those of a short list are apart as far as that takes few more; a long one is sorted by role,
@@ -220,7 +242,7 @@ pub fn tidied(alloc: Global, list: Vec<Area>) -> Result<Vec<Area>, NoMemory>
         absorb(alloc, &mut out, &list)?;
         return Ok(out);
     }
-    let areas = sorted(list);
+    let areas = ordered(alloc, list)?;
     let chain = chained(alloc, &areas)?;
     if chain.len() <= SHORT {
         absorb(alloc, &mut out, &chain)?;
