@@ -1,10 +1,10 @@
 -- What a rank finds first in a foreach, one stop after the other.
-use Rattle.std.proofs.Common.{◌≡◌, ◌<◌, ◌≤◌, ◌+◌, ℕ, nat_lt, ℤ, pos, ◌+ℤ◌, ◌-ℤ◌, neg_ℤ, true, false, ◌&&◌, List, [], ◌∷◌, ◌++◌, map, drop, length, get_or, refl, ap, sym, ◌∙◌, subst, arith, if◌then◌else◌, drop_of_length-le}
+use Rattle.std.proofs.Common.{◌≡◌, ◌<◌, ◌≤◌, ◌+◌, ℕ, nat_lt, ℤ, pos, ◌+ℤ◌, ◌-ℤ◌, neg_ℤ, Bool, true, false, ◌&&◌, List, [], ◌∷◌, ◌++◌, map, drop, length, get_or, refl, ap, sym, ◌∙◌, subst, arith, if◌then◌else◌, drop_of_length-le}
 use Rattle.std.proofs.lemmas.Bool.{and_parts, and_from}
 use Rattle.std.proofs.lemmas.Int.{ints}
 use Rattle.std.proofs.lemmas.Bool.Decides.{nat_tests}
 use Rattle.std.proofs.lemmas.List.{at_drop_more}
-use Rattle.pb_affine.specs.declared.lin.Base.TheVariants.{Fixed, Var}
+use Rattle.pb_affine.specs.declared.lin.Base.TheVariants.{Var}
 use Rattle.pb_affine.specs.declared.lin.Lin.{Lin}
 use Rattle.pb_affine.specs.declared.range.NRange.{NRange}
 use Rattle.pb_affine.specs.Values.{value, put}
@@ -14,41 +14,28 @@ use Rattle.pb_core_language.specs.Outcomes.{Outcome, nothing_first, receives, ot
 use Rattle.pb_core_language.specs.Sound.{Rows, is_small, is_bound, is_end, is_stmt, is_block}
 use Rattle.pb_core_language.specs.Tree.{Mark, StmtTree, message, foreach, loop, again, choice, run, barrier, broadcast, reduce, allreduce, BlockTree, nothing, more}
 use Rattle.pb_core_language.specs.declared.tree.Bounds.{Bounds}
-use Rattle.pb_core_language.specs.Verdict.{IsIn}
-use Rattle.pb_part_areas.specs.declared.area.Area.{Area}
-use Rattle.pb_part_areas.specs.Areas.{has, have, at}
-use Rattle.pb_core_flat.specs.Seated.{rank, is_rank}
+use Rattle.pb_part_areas.specs.Areas.{at}
+use Rattle.pb_core_flat.specs.Seated.{rank}
 use Rattle.pb_core_flat.specs.OutcomeSets.{is_nothing, found}
 use Rattle.pb_core_flat.specs.Stops as S
 use Rattle.pb_core_flat.specs.Stops.{Stop, first_of, at_fixed, at_some, few_stops, outcome_at, visits, visits_of, moving, IsByFalling}
 use Rattle.pb_core_flat.proofs.EachStops.{each_few_stops}
-use Rattle.pb_core_flat.proofs.OutcomeSets.{or_then_assoc, or_then_left}
+use Rattle.pb_core_flat.proofs.OutcomeSets.{or_then_assoc, or_then_left, or_then_right}
 use Rattle.pb_core_flat.proofs.SoundOnes.{sound_items}
 use Rattle.pb_core_flat.proofs.Sources.{put_is, over_n_is}
 use Rattle.pb_core_flat.proofs.Turns.{stops_in_turn, finding_is}
+use Rattle.pb_part_visits.proofs.VisitLists.{blank}
 use Rattle.pb_part_firsts.specs.declared.firsts.Entry.{Entry}
-use Rattle.pb_part_firsts.specs.declared.firsts.Kind.{Kind}
 use Rattle.pb_part_takers.specs.declared.held.Held.{Held}
-use Rattle.pb_part_firsts.specs.declared.visit.Finding.{Finding}
-use Rattle.pb_part_firsts.specs.declared.visit.Finding.TheVariants.{Acts, Gets}
-use Rattle.pb_part_firsts.specs.declared.visit.Visit.{Visit}
+use Rattle.pb_part_visits.specs.declared.visit.Finding.{Finding}
+use Rattle.pb_part_visits.specs.declared.visit.Finding.TheVariants.{Acts, Gets}
+use Rattle.pb_part_visits.specs.declared.visit.Visit.{Visit}
 use Rattle.pb_part_takers.specs.Loops.{held_of, ids_of}
-use Rattle.pb_part_firsts.specs.Firsts.{outcome_of, Gives, is_small_off}
-use Rattle.pb_part_firsts.specs.Stopping.{Stops, first_at}
-use Rattle.pb_part_firsts.specs.Visits.{visit_of, finding_of, is_narrow, is_narrow_finding, are_narrow, IsBounded}
-use Rattle.pb_part_firsts.proofs.Meets.{small_off, small_sum, small_back, over_of_bound}
-use Rattle.pb_part_firsts.proofs.Outcomes.{in_turn, given_as, stopped, none_stops, nobody_comes}
-use Rattle.pb_part_firsts.proofs.VisitLists.{narrow_at}
-
--- the end that stands past the last of a list
-abbrev pub blank : Visit
-blank = record { end = record { role = 0; at = record { base = Fixed; off = pos 0 }; place = record { line = 0; col = 0 } }; finding = Acts }
-
-pub end_at : (list : List Visit) (i : ℕ) → i < length list → are_narrow (map visit_of list) ≡ true → is_small (get_or list i blank).end.at.off ≡ true
-end_at list i lt h = (and_parts (is_small (get_or list i blank).end.at.off) (is_narrow_finding (finding_of (get_or list i blank).finding)) (narrow_at list i blank lt h)).0
-
-pub finding_at : (list : List Visit) (i : ℕ) → i < length list → are_narrow (map visit_of list) ≡ true → is_narrow_finding (finding_of (get_or list i blank).finding) ≡ true
-finding_at list i lt h = (and_parts (is_small (get_or list i blank).end.at.off) (is_narrow_finding (finding_of (get_or list i blank).finding)) (narrow_at list i blank lt h)).1
+use Rattle.pb_part_visits.specs.Visits.{is_small_off}
+use Rattle.pb_part_firsts.specs.Stopping.{first_at}
+use Rattle.pb_part_firsts.specs.Turns.{AddsStops, first_stop}
+use Rattle.pb_part_visits.specs.Visits.{visit_of, finding_of, is_narrow, is_narrow_finding, are_narrow, IsBounded}
+use Rattle.pb_part_visits.proofs.Meets.{small_off, small_sum, small_back, over_of_bound}
 
 -- ---- what is found
 
@@ -70,32 +57,31 @@ kind_small f s l p e h k = h (small_off s.at.off (gets_small f s l e k))
 
 -- ---- one stop
 
-abbrev pub found_at : (ℤ → S.Visit → Stop) → List Visit → ℤ → ℕ → ℤ → List Outcome
-found_at stop_at list n role x = found (first_of (map (stop_at n) (map visit_of list)) role x) ∷ []
+abbrev pub found_at : (S.Visit → Stop) → List Visit → ℕ → ℤ → List Outcome
+found_at stop_at list role x = found (first_of (map stop_at (map visit_of list)) role x) ∷ []
 
-module _ {range : NRange} {roles : List CoreRole} (stop_at : ℤ → S.Visit → Stop) where
-  pub turn_step : {reach here mid left : List Area} {old now new : List Entry} (list : List Visit) (i : ℕ) (v : Visit) (kind : Kind) → ((n x : ℤ) (w : S.Visit) → is_nothing ((stop_at n w).finds x) ≡ false) → i < length list →
-      ((n : ℤ) (role : ℕ) (x : ℤ) → IsIn range n → is_rank roles n role x ≡ true → have here n role x ≡ (stop_at n (visit_of (get_or list i v))).has role x) →
-      ((n : ℤ) (role : ℕ) (x : ℤ) → IsIn range n → outcome_of roles kind n x ≡ (stop_at n (visit_of (get_or list i v))).finds x) →
-      Stops roles reach here mid old now kind →
-      Gives range roles mid left now new (found_at stop_at (drop (i + 1) list)) → Gives range roles reach left old new (found_at stop_at (drop i list))
-  turn_step list i v kind some lt has is s g =
-      let one : ℤ → Stop = λ n. stop_at n (visit_of (get_or list i v)) in
-      given_as _ _ (λ n role x w r.
-      sym (stops_in_turn (one n) (map (stop_at n) (map visit_of (drop (i + 1) list))) role x (some n x (visit_of (get_or list i v))))
-      ∙ sym (at_drop_more (λ z. found_at stop_at z n role x) list i v lt))
-      (in_turn _ _ (stopped kind (λ n role x. (one n).has role x) (λ n role x. (one n).finds x) has is s) g)
+pub turn_step : (roles : List CoreRole) (stop_at : S.Visit → Stop) (list : List Visit) (i : ℕ) (old new : List Entry) (p : Bool) (o : Outcome) (n : ℤ) (role : ℕ) (x : ℤ) (all : List Outcome) →
+    ((v : S.Visit) → is_nothing ((stop_at v).finds x) ≡ false) → i < length list →
+    first_stop roles new n role x ≡ or_then (first_stop roles old n role x) (if p then o ∷ [] else nothing_first ∷ []) →
+    p ≡ (stop_at (visit_of (get_or list i blank))).has role x → o ≡ (stop_at (visit_of (get_or list i blank))).finds x →
+    or_then (first_stop roles old n role x) (found_at stop_at (drop i list) role x) ≡ all →
+    or_then (first_stop roles new n role x) (found_at stop_at (drop (i + 1) list) role x) ≡ all
+turn_step roles stop_at list i old new p o n role x all some lt adds has finds h =
+    let before : List Outcome = first_stop roles old n role x in
+    let rest : List Outcome = found_at stop_at (drop (i + 1) list) role x in
+    let one : Stop = stop_at (visit_of (get_or list i blank)) in
+    let here : List Outcome = if one.has role x then one.finds x ∷ [] else nothing_first ∷ [] in
+    ap (λ z. or_then z rest) (adds ∙ ap (λ t. or_then before (if t then o ∷ [] else nothing_first ∷ [])) has ∙ ap (λ q. or_then before (if one.has role x then q ∷ [] else nothing_first ∷ [])) finds)
+    ∙ or_then_assoc before here rest
+    ∙ ap (or_then before)
+    (sym (stops_in_turn one (map stop_at (map visit_of (drop (i + 1) list))) role x (some (visit_of (get_or list i blank))))
+    ∙ sym (at_drop_more (λ z. found_at stop_at z role x) list i blank lt))
+    ∙ h
 
-  pub turns_done : {reach mid : List Area} {old now : List Entry} (list : List Visit) (i : ℕ) → length list ≤ i →
-      ((left : List Area) (new : List Entry) → Gives range roles mid left now new (found_at stop_at (drop i list)) → Gives range roles reach left old new (found_at stop_at list)) →
-      Gives range roles reach mid old now (found_at stop_at list)
-  turns_done {mid = mid} {now = now} list i le inv =
-      inv mid now (given_as _ _ (λ n role x w r. sym (ap (λ z. found_at stop_at z n role x) (drop_of_length-le list le))) none_stops)
-
-pub turns_cut : {range : NRange} {roles : List CoreRole} {reach mid : List Area} {old now : List Entry} (outs outs2 : ℤ → ℕ → ℤ → List Outcome) → mid ≡ [] →
-    ((left : List Area) (new : List Entry) → Gives range roles mid left now new outs2 → Gives range roles reach left old new outs) →
-    Gives range roles reach mid old now outs
-turns_cut {mid = mid} {now = now} outs outs2 e inv = inv mid now (nobody_comes outs2 e)
+pub turns_done : (stop_at : S.Visit → Stop) (list : List Visit) (i : ℕ) (now : List Outcome) (role : ℕ) (x : ℤ) (all : List Outcome) → length list ≤ i →
+    or_then now (found_at stop_at (drop i list) role x) ≡ all → now ≡ all
+turns_done stop_at list i now role x all le h =
+    sym (or_then_right now) ∙ sym (ap (λ z. or_then now (found_at stop_at z role x)) (drop_of_length-le list le)) ∙ h
 
 -- ---- all stops at the first value, and then those at ends that move
 
@@ -116,19 +102,27 @@ fixed_some roles t vs n x v = finding_is roles n (at t.low n) v.finding
 pub some_some : (roles : List CoreRole) (t : Bounds) (n x : ℤ) (v : S.Visit) → is_nothing ((at_some roles n (at t.low n) (at t.high n) v).finds x) ≡ false
 some_some roles t n x v = finding_is roles n (x -ℤ v.end.at.off) v.finding
 
-pub each_gives : {range : NRange} {roles : List CoreRole} {reach mid left : List Area} {old now new : List Entry} (rows : Rows) (held : List Held) (m k : Mark) (t : Bounds) (items : BlockTree) (vs sorted : List S.Visit) →
+pub each_gives : {range : NRange} {roles : List CoreRole} {old now new : List Entry} (rows : Rows) (held : List Held) (m k : Mark) (t : Bounds) (items : BlockTree) (vs sorted : List S.Visit) →
     is_stmt rows false (ids_of held) (foreach (record { low = t.low; high = t.high }) k items) ≡ true → vs ≡ visits items → IsByFalling sorted (moving vs) →
-    Gives range roles reach mid old now (λ n role x. found (first_of (map (at_fixed roles n (at t.low n) (at t.high n) vs) vs) role x) ∷ []) →
-    Gives range roles mid left now new (λ n role x. found (first_of (map (at_some roles n (at t.low n) (at t.high n)) sorted) role x) ∷ []) →
-    Gives range roles reach left old new (first_at roles held m (foreach (record { low = t.low; high = t.high }) k items))
-each_gives {roles = roles} rows held m k t items vs sorted h e falls a b =
+    AddsStops range roles old now (λ n role x. found (first_of (map (at_fixed roles n (at t.low n) (at t.high n) vs) vs) role x) ∷ []) →
+    AddsStops range roles now new (λ n role x. found (first_of (map (at_some roles n (at t.low n) (at t.high n)) sorted) role x) ∷ []) →
+    AddsStops range roles old new (first_at roles held m (foreach (record { low = t.low; high = t.high }) k items))
+each_gives {roles = roles} {old = old} rows held m k t items vs sorted h e falls a b =
     let parts = and_parts (is_bound t.high) (is_block rows true (ids_of held) items) (and_parts (is_bound t.low) _ h).1 in
     let sorts : IsByFalling sorted (moving (visits items)) = subst (λ z. IsByFalling sorted (moving z)) e falls in
-    given_as _ _ (λ n role x w r.
-    stops_joined (at_fixed roles n (at t.low n) (at t.high n) vs) role x (fixed_some roles t vs n x) vs (map (at_some roles n (at t.low n) (at t.high n)) sorted)
-    ∙ ap (λ z. found (first_of (few_stops roles n (at t.low n) (at t.high n) z sorted) role x) ∷ []) e
-    ∙ sym (each_few_stops roles n (pos 0) role x (held_of held n role x) (ids_of held) m (record { low = t.low; high = t.high }) k items sorted r (sound_items rows (ids_of held) items parts.1) sorts))
-    (in_turn _ _ a b)
+    record {
+      is = λ n role x w r.
+          let before : List Outcome = first_stop roles old n role x in
+          let first : List Outcome = found (first_of (map (at_fixed roles n (at t.low n) (at t.high n) vs) vs) role x) ∷ [] in
+          let others : List Outcome = found (first_of (map (at_some roles n (at t.low n) (at t.high n)) sorted) role x) ∷ [] in
+          b.is n role x w r
+          ∙ ap (λ z. or_then z others) (a.is n role x w r)
+          ∙ or_then_assoc before first others
+          ∙ ap (or_then before)
+          (stops_joined (at_fixed roles n (at t.low n) (at t.high n) vs) role x (fixed_some roles t vs n x) vs (map (at_some roles n (at t.low n) (at t.high n)) sorted)
+          ∙ ap (λ z. found (first_of (few_stops roles n (at t.low n) (at t.high n) z sorted) role x) ∷ []) e
+          ∙ sym (each_few_stops roles n (pos 0) role x (held_of held n role x) (ids_of held) m (record { low = t.low; high = t.high }) k items sorted r (sound_items rows (ids_of held) items parts.1) sorts));
+    }
 
 -- ---- what a sound foreach has
 

@@ -132,12 +132,19 @@ pub none_near : (part : Part) (at met : List Area) → met ≡ [] → IsAround p
 none_near part at met none k n role x e =
     none_bools (have part.areas.items n role x) (has part.around n role x) (have met n role x) (have at n role x) (k.around n role x) (ap (λ z. have z n role x) none) e
 
-pub none_under : (p a w e : Bool) → p && a ≡ false → w ≡ w || ((p && a) && e)
-none_under p a w e h = sym (or-false w) ∙ ap (λ z. w || (z && e)) (sym h)
-
-whole_bools : (p a : Bool) → p && a ≡ false → p ≡ p && not a
+pub whole_bools : (p a : Bool) → p && a ≡ false → p ≡ p && not a
 whole_bools true a h = ap not (sym h)
 whole_bools false a h = refl
+
+far_bools : (g r t : Bool) → (g ≡ true → r ≡ true) → t && not r ≡ t → false ≡ g && t
+far_bools false r t h e = refl
+far_bools true r false h e = refl
+far_bools true r true h e = sym (ap not (h refl)) ∙ e
+
+pub none_in : (group : Part) (to : Area) (met : List Area) → met ≡ [] → IsAround group → (n : ℤ) (role : ℕ) (x : ℤ) → has to n role x && not (has group.around n role x) ≡ has to n role x →
+    have met n role x && has to n role x ≡ have group.areas.items n role x && has to n role x
+none_in group to met none k n role x e =
+    ap (λ z. have z n role x && has to n role x) none ∙ far_bools (have group.areas.items n role x) (has group.around n role x) (has to n role x) (k.around n role x) e
 
 pub left_whole : (old new : List Part) (part : Part) (at : List Area) → new ≡ old ++ part ∷ [] → (n : ℤ) (role : ℕ) (x : ℤ) → have part.areas.items n role x && have at n role x ≡ false →
     have (flat new) n role x ≡ have (flat old) n role x || (have part.areas.items n role x && not (have at n role x))
@@ -152,7 +159,7 @@ out_bools w v p a d e l h k = grind (arith, nat_tests)
 rest_bools : (w v p a d l : Bool) → v ≡ w || (p && not a) → w || ((p || d) && not a) ≡ l → v || (d && not a) ≡ l
 rest_bools w v p a d l h k = grind (arith, nat_tests)
 
-have_more : (parts rest : List Part) (p : Part) (n : ℤ) (role : ℕ) (x : ℤ) → parts ≡ p ∷ rest → have (flat parts) n role x ≡ have p.areas.items n role x || have (flat rest) n role x
+pub have_more : (parts rest : List Part) (p : Part) (n : ℤ) (role : ℕ) (x : ℤ) → parts ≡ p ∷ rest → have (flat parts) n role x ≡ have p.areas.items n role x || have (flat rest) n role x
 have_more parts rest p n role x is = ap (λ z. have (flat z) n role x) is ∙ have_append p.areas.items (flat rest) n role x
 
 pub out_step : (parts rest : List Part) (p : Part) (w v a e l : Bool) (n : ℤ) (role : ℕ) (x : ℤ) → parts ≡ p ∷ rest → v ≡ w || ((have p.areas.items n role x && a) && e) →

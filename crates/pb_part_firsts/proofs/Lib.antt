@@ -1,13 +1,11 @@
-pub mod Meets
-pub mod Narrowed
 pub mod Outcomes
-pub mod VisitLists
-pub mod EndAreas
+pub mod Turning
 pub mod Singles
 pub mod EachSteps
 pub mod Flats
+pub mod Groups
+pub mod Comes
 pub mod Steps
 pub mod TakersAs
-pub mod EndFits
 pub mod Searches
 pub mod Protocols

@@ -49,7 +49,7 @@ kind_some roles (Receive s l) n x = refl
 kind_some roles Other n x = refl
 kind_some roles Again n x = refl
 
-not_nothing : (o : Outcome) → is_nothing o ≡ false → outcome_eq nothing_first o ≡ false
+pub not_nothing : (o : Outcome) → is_nothing o ≡ false → outcome_eq nothing_first o ≡ false
 not_nothing nothing_first e = e
 not_nothing (receives s l) e = refl
 not_nothing other_first e = refl
@@ -57,10 +57,10 @@ not_nothing again_first e = refl
 
 -- ---- one after the other
 
-seq_some : (w w1 w2 r m z p1 n1 p2 : Bool) → z ≡ false → w1 ≡ w || (r && p1) → m ≡ r && n1 → w2 ≡ w1 || (m && p2) → w2 ≡ w || (r && ((not z && p1) || (n1 && p2)))
+pub seq_some : (w w1 w2 r m z p1 n1 p2 : Bool) → z ≡ false → w1 ≡ w || (r && p1) → m ≡ r && n1 → w2 ≡ w1 || (m && p2) → w2 ≡ w || (r && ((not z && p1) || (n1 && p2)))
 seq_some w w1 w2 r m z p1 n1 p2 ez e1 em e2 = grind (arith, nat_tests)
 
-seq_none : (r m l n1 p n2 : Bool) → m ≡ r && n1 → l ≡ m && n2 → l ≡ r && ((false && p) || (n1 && n2))
+pub seq_none : (r m l n1 p n2 : Bool) → m ≡ r && n1 → l ≡ m && n2 → l ≡ r && ((false && p) || (n1 && n2))
 seq_none r m l n1 p n2 e1 e2 = grind (arith, nat_tests)
 
 pub in_turn : {range : NRange} {roles : List CoreRole} {reach mid left : List Area} {old now new : List Entry} (outs outs2 : ℤ → ℕ → ℤ → List Outcome) →
@@ -100,7 +100,7 @@ given_of {roles = roles} {old = old} outs comes stays g = record {
   rest = λ n role x w r. stays n role x ∙ g.rest n role x w r ∙ ap (λ z. z && is_outcome nothing_first (outs n role x)) (sym (comes n role x));
 }
 
-none_out : (w r e : Bool) → e ≡ false → w ≡ w || (r && (e || false))
+pub none_out : (w r e : Bool) → e ≡ false → w ≡ w || (r && (e || false))
 none_out w r e h = grind (arith, nat_tests)
 
 -- nobody stops
@@ -119,7 +119,7 @@ nobody_comes {roles = roles} {reach = reach} {old = old} outs e = record {
 
 -- ---- some ranks stop
 
-kind_out : (r a : Bool) (k o : Outcome) → is_nothing o ≡ false → (r && a) && outcome_eq k o ≡ r && is_outcome o (if a then k ∷ [] else nothing_first ∷ [])
+pub kind_out : (r a : Bool) (k o : Outcome) → is_nothing o ≡ false → (r && a) && outcome_eq k o ≡ r && is_outcome o (if a then k ∷ [] else nothing_first ∷ [])
 kind_out false a k o e = refl
 kind_out true true k o e = sym (or-false _)
 kind_out true false k o e = sym (or-false _) ∙ ap (λ z. z || false) (sym (not_nothing o e))
@@ -130,7 +130,7 @@ nothing_is (receives s l) e = refl
 nothing_is other_first e = refl
 nothing_is again_first e = refl
 
-kind_rest : (r a : Bool) (k : Outcome) → is_nothing k ≡ false → r && not a ≡ r && is_outcome nothing_first (if a then k ∷ [] else nothing_first ∷ [])
+pub kind_rest : (r a : Bool) (k : Outcome) → is_nothing k ≡ false → r && not a ≡ r && is_outcome nothing_first (if a then k ∷ [] else nothing_first ∷ [])
 kind_rest false a k e = refl
 kind_rest true true k e = sym (or-false false) ∙ ap (λ z. z || false) (sym (nothing_is k e))
 kind_rest true false k e = refl
@@ -152,19 +152,6 @@ pub emit_end : (roles : List CoreRole) (xs : List Area) (i : ℕ) (new : List En
     finds roles new n role x o || (have (drop i xs) n role x && outcome_eq (outcome_of roles kind n x) o) ≡ l → finds roles new n role x o ≡ l
 emit_end roles xs i new kind n role x o l le h =
     sym (or-false _) ∙ sym (ap (λ z. finds roles new n role x o || (have z n role x && outcome_eq (outcome_of roles kind n x) o)) (drop_of_length-le xs le)) ∙ h
-
-stops_bools : (w w1 h r a e : Bool) → h ≡ r && a → w1 ≡ w || (h && e) → w1 ≡ w || ((r && a) && e)
-stops_bools w w1 h r a e k l = l ∙ ap (λ z. w || (z && e)) k
-
-pub stops_at : {roles : List CoreRole} {reach at left : List Area} {old new : List Entry} {kind : Kind} (here : List Area) →
-    ((n : ℤ) (role : ℕ) (x : ℤ) → have here n role x ≡ have reach n role x && have at n role x) →
-    ((n : ℤ) (role : ℕ) (x : ℤ) (o : Outcome) → finds roles new n role x o ≡ finds roles old n role x o || (have here n role x && outcome_eq (outcome_of roles kind n x) o)) →
-    ((n : ℤ) (role : ℕ) (x : ℤ) → have left n role x ≡ have reach n role x && not (have at n role x)) →
-    Stops roles reach at left old new kind
-stops_at {roles = roles} {reach = reach} {at = at} {left = left} {old = old} {new = new} {kind = kind} here k g h = record {
-  out = λ n role x o. stops_bools (finds roles old n role x o) (finds roles new n role x o) (have here n role x) (have reach n role x) (have at n role x) (outcome_eq (outcome_of roles kind n x) o) (k n role x) (g n role x o);
-  rest = h;
-}
 
 -- ---- entries that fit
 

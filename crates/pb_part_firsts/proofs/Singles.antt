@@ -1,5 +1,5 @@
 -- What a rank finds first in a statement with one or two ends, or in a continue.
-use Rattle.std.proofs.Common.{◌≡◌, ◌<◌, ◌≤◌, ◌+◌, ◌==◌, ℕ, ℤ, pos, ◌≤ℤ◌, nat_eq, cond, zero, suc, Bool, true, false, ◌&&◌, List, [], ◌∷◌, drop, length, get_or, refl, ap, ap₂, sym, ◌∙◌, arith, subst, if◌then◌else◌, drop_of_length-le}
+use Rattle.std.proofs.Common.{◌≡◌, ◌<◌, ◌≤◌, ◌+◌, ◌==◌, ℕ, ℤ, pos, ◌≤ℤ◌, nat_eq, nat_lt, cond, zero, suc, Bool, true, false, ◌&&◌, List, [], ◌∷◌, ◌++◌, Some, None, drop, length, get_or, refl, ap, ap₂, sym, ◌∙◌, arith, subst, if◌then◌else◌, drop_of_length-le}
 use Rattle.std.proofs.lemmas.Bool.{and_parts}
 use Rattle.std.proofs.lemmas.Bool.Decides.{nat_tests}
 use Rattle.std.proofs.lemmas.Int.{ints}
@@ -11,25 +11,30 @@ use Rattle.pb_core_language.specs.declared.tree.CoreEnd.{CoreEnd}
 use Rattle.pb_core_language.specs.Lists.{nth}
 use Rattle.pb_core_language.specs.FlatOf.{between, rank_of}
 use Rattle.pb_core_language.specs.Outcomes.{Outcome, nothing_first, receives, other_first, again_first, or_then}
-use Rattle.pb_core_language.specs.Sound.{is_small, is_over_n, is_end, Rows}
-use Rattle.pb_core_language.specs.Tree.{Mark, message, run, again}
+use Rattle.pb_core_language.specs.Sound.{is_small, is_over_n, is_end, is_stmt, Rows}
+use Rattle.pb_core_language.specs.Tree.{Mark, StmtTree, message, run, again}
 use Rattle.pb_core_language.specs.Verdict.{IsIn}
 use Rattle.pb_part_areas.specs.declared.area.Area.{Area}
 use Rattle.std.specs.List.{All}
 use Rattle.pb_affine.specs.declared.lin.Lin.{Lin}
-use Rattle.pb_part_areas.specs.Areas.{have}
+use Rattle.pb_part_areas.specs.Areas.{has, have}
 use Rattle.pb_part_areas.specs.Fits.{Fits}
-use Rattle.pb_core_flat.specs.Seated.{rank, is_at}
+use Rattle.pb_core_flat.specs.Seated.{rank, is_rank, is_at}
+use Rattle.pb_core_flat.specs.OutcomeSets.{found}
+use Rattle.pb_core_flat.proofs.OutcomeSets.{or_then_assoc}
 use Rattle.pb_core_flat.proofs.Seats.{end_is_at}
 use Rattle.pb_core_flat.proofs.Sources.{over_n_is}
 use Rattle.pb_part_takers.specs.declared.held.Held.{Held}
 use Rattle.pb_part_firsts.specs.declared.firsts.Entry.{Entry}
+use Rattle.pb_part_firsts.specs.declared.firsts.Kind.{Kind}
 use Rattle.pb_part_firsts.specs.declared.firsts.Kind.TheVariants.{Other, Again}
 use Rattle.pb_part_takers.specs.Loops.{held_of, ids_of, HeldFit}
 use Rattle.pb_part_firsts.specs.Takers.{IsWhole}
-use Rattle.pb_part_firsts.specs.Firsts.{Gives}
+use Rattle.pb_part_firsts.specs.Firsts.{Gives, outcome_of}
+use Rattle.pb_part_firsts.specs.Turns.{first_stop, AddsStops}
 use Rattle.pb_part_firsts.specs.Stopping.{Stops, first_at, is_held}
-use Rattle.pb_part_firsts.proofs.Outcomes.{in_turn, given_as, stopped, none_stops}
+use Rattle.pb_part_firsts.proofs.Outcomes.{given_as, stopped, none_stops}
+use Rattle.pb_part_firsts.proofs.Turning.{stops_append}
 
 pub from_zero : (range : NRange) (n : ℤ) → IsIn range n → pos 0 ≤ℤ n
 from_zero range n w = let k : pos range.low ≤ℤ n = w.low in omega (arith, ints)
@@ -40,6 +45,9 @@ end_small rows e h = (and_parts (is_over_n e.at.base) (is_small e.at.off) (and_p
 pub end_over : (rows : Rows) (e : CoreEnd) → is_end rows false e ≡ true → is_over_n e.at.base ≡ true
 end_over rows e h = (and_parts (is_over_n e.at.base) (is_small e.at.off) (and_parts _ (is_over_n e.at.base && is_small e.at.off) h).1).0
 
+pub run_is_end : (rows : Rows) (ids : List ℕ) (k : ℕ) (at : CoreEnd) → is_stmt rows false ids (run k at) ≡ true → is_end rows false at ≡ true
+run_is_end rows ids k at h = (and_parts (nat_lt k rows.kernels) (is_end rows false at) h).1
+
 one_after : (a b : Bool) (o : Outcome) → or_then (if a then other_first ∷ [] else nothing_first ∷ []) (if b then o ∷ [] else nothing_first ∷ []) ≡ cond a (other_first ∷ []) (cond b (o ∷ []) (nothing_first ∷ []))
 one_after true b o = refl
 one_after false true o = refl
@@ -49,22 +57,60 @@ pub if_cond : {A : Type 0} (b : Bool) (x y : A) → (if b then x else y) ≡ con
 if_cond true x y = refl
 if_cond false x y = refl
 
-pub message_gives : {range : NRange} {roles : List CoreRole} {reach mid left : List Area} {old now new : List Entry} (held : List Held) (m : Mark) (l : ℕ) (f t : CoreEnd) → is_over_n f.at.base ≡ true →
-    Gives range roles reach mid old now (λ n role x. if is_at f n (pos 0) role x then other_first ∷ [] else nothing_first ∷ []) →
-    Gives range roles mid left now new (λ n role x. if is_at t n (pos 0) role x then receives (rank roles n f.role (value f.at n x)) l ∷ [] else nothing_first ∷ []) →
-    Gives range roles reach left old new (first_at roles held m (message l f t))
-message_gives {roles = roles} held m l f t h a b = given_as _ _ (λ n role x w r.
+message_is : (roles : List CoreRole) (held : List Held) (m : Mark) (l : ℕ) (f t : CoreEnd) (n : ℤ) (role : ℕ) (x : ℤ) → is_over_n f.at.base ≡ true → is_rank roles n role x ≡ true →
+    or_then (if is_at f n (pos 0) role x then other_first ∷ [] else nothing_first ∷ []) (if is_at t n (pos 0) role x then receives (rank roles n f.role (value f.at n x)) l ∷ [] else nothing_first ∷ [])
+    ≡ first_at roles held m (message l f t) n role x
+message_is roles held m l f t n role x h r =
     one_after (is_at f n (pos 0) role x) (is_at t n (pos 0) role x) (receives (rank roles n f.role (value f.at n x)) l)
     ∙ ap₂ (λ y z. cond y (other_first ∷ []) (cond z (receives (rank roles n f.role (value f.at n x)) l ∷ []) (nothing_first ∷ []))) (sym (end_is_at roles n (pos 0) f role x r)) (sym (end_is_at roles n (pos 0) t role x r))
-    ∙ ap (λ z. cond (rank_of roles n f (pos 0) == rank roles n role x) (other_first ∷ []) (cond (rank_of roles n t (pos 0) == rank roles n role x) (receives (rank roles n f.role z) l ∷ []) (nothing_first ∷ []))) (over_n_is f.at n x (pos 0) h))
-    (in_turn _ _ a b)
+    ∙ ap (λ z. cond (rank_of roles n f (pos 0) == rank roles n role x) (other_first ∷ []) (cond (rank_of roles n t (pos 0) == rank roles n role x) (receives (rank roles n f.role z) l ∷ []) (nothing_first ∷ []))) (over_n_is f.at n x (pos 0) h)
 
-pub run_gives : {range : NRange} {roles : List CoreRole} {reach left : List Area} {old new : List Entry} (held : List Held) (m : Mark) (k : ℕ) (e : CoreEnd) →
-    Gives range roles reach left old new (λ n role x. if is_at e n (pos 0) role x then other_first ∷ [] else nothing_first ∷ []) →
-    Gives range roles reach left old new (first_at roles held m (run k e))
-run_gives {roles = roles} held m k e a = given_as _ _ (λ n role x w r.
+run_is : (roles : List CoreRole) (held : List Held) (m : Mark) (k : ℕ) (e : CoreEnd) (n : ℤ) (role : ℕ) (x : ℤ) → is_rank roles n role x ≡ true →
+    (if is_at e n (pos 0) role x then other_first ∷ [] else nothing_first ∷ []) ≡ first_at roles held m (run k e) n role x
+run_is roles held m k e n role x r =
     if_cond (is_at e n (pos 0) role x) (other_first ∷ []) (nothing_first ∷ [])
-    ∙ ap (λ z. cond z (other_first ∷ []) (nothing_first ∷ [])) (sym (end_is_at roles n (pos 0) e role x r))) a
+    ∙ ap (λ z. cond z (other_first ∷ []) (nothing_first ∷ [])) (sym (end_is_at roles n (pos 0) e role x r))
+
+-- ---- stops that are added
+
+one_if : (t : Bool) (o : Outcome) → found (if t then Some o else None) ∷ [] ≡ (if t then o ∷ [] else nothing_first ∷ [])
+one_if true o = refl
+one_if false o = refl
+
+module _ {range : NRange} {roles : List CoreRole} where
+  pub stop_added : {old new : List Entry} (a : Area) (kind : Kind) (p : ℤ → ℕ → ℤ → Bool) → new ≡ old ++ record { area = a; kind = kind } ∷ [] →
+      ((n : ℤ) (role : ℕ) (x : ℤ) → IsIn range n → has a n role x ≡ p n role x) →
+      AddsStops range roles old new (λ n role x. if p n role x then outcome_of roles kind n x ∷ [] else nothing_first ∷ [])
+  stop_added {old = old} a kind p e h = record {
+    is = λ n role x w r. ap (λ z. first_stop roles z n role x) e ∙ stops_append roles old _ n role x
+        ∙ ap (or_then (first_stop roles old n role x)) (one_if (has a n role x) (outcome_of roles kind n x) ∙ ap (λ z. if z then outcome_of roles kind n x ∷ [] else nothing_first ∷ []) (h n role x w));
+  }
+
+  adds_in_turn : {old mid new : List Entry} (outs outs2 : ℤ → ℕ → ℤ → List Outcome) → AddsStops range roles old mid outs → AddsStops range roles mid new outs2 →
+      AddsStops range roles old new (λ n role x. or_then (outs n role x) (outs2 n role x))
+  adds_in_turn {old = old} outs outs2 a b = record {
+    is = λ n role x w r. b.is n role x w r ∙ ap (λ z. or_then z (outs2 n role x)) (a.is n role x w r) ∙ or_then_assoc (first_stop roles old n role x) (outs n role x) (outs2 n role x);
+  }
+
+  adds_as : {old new : List Entry} (outs outs2 : ℤ → ℕ → ℤ → List Outcome) → ((n : ℤ) (role : ℕ) (x : ℤ) → is_rank roles n role x ≡ true → outs n role x ≡ outs2 n role x) →
+      AddsStops range roles old new outs → AddsStops range roles old new outs2
+  adds_as {old = old} outs outs2 same a = record {
+    is = λ n role x w r. a.is n role x w r ∙ ap (or_then (first_stop roles old n role x)) (same n role x r);
+  }
+
+  pub message_adds : {old mid new : List Entry} (held : List Held) (m : Mark) (l : ℕ) (f t : CoreEnd) → is_over_n f.at.base ≡ true →
+      AddsStops range roles old mid (λ n role x. if is_at f n (pos 0) role x then other_first ∷ [] else nothing_first ∷ []) →
+      AddsStops range roles mid new (λ n role x. if is_at t n (pos 0) role x then receives (rank roles n f.role (value f.at n x)) l ∷ [] else nothing_first ∷ []) →
+      AddsStops range roles old new (first_at roles held m (message l f t))
+  message_adds held m l f t h a b = adds_as _ _ (λ n role x r. message_is roles held m l f t n role x h r) (adds_in_turn _ _ a b)
+
+  pub run_adds : {old new : List Entry} (held : List Held) (m : Mark) (k : ℕ) (e : CoreEnd) →
+      AddsStops range roles old new (λ n role x. if is_at e n (pos 0) role x then other_first ∷ [] else nothing_first ∷ []) →
+      AddsStops range roles old new (first_at roles held m (run k e))
+  run_adds held m k e a = adds_as _ _ (λ n role x r. run_is roles held m k e n role x r) a
+
+  pub adds_of_stmt : {old new : List Entry} (held : List Held) (m : Mark) (s t : StmtTree) → s ≡ t → AddsStops range roles old new (first_at roles held m t) → AddsStops range roles old new (first_at roles held m s)
+  adds_of_stmt held m s t e a = adds_as _ _ (λ n role x r. ap (λ z. first_at roles held m z n role x) (sym e)) a
 
 -- ---- a continue
 

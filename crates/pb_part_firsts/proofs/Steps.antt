@@ -17,13 +17,13 @@ use Rattle.pb_core_language.specs.FlatOf.{rank_of, flat_block, flat_branches, fr
 use Rattle.pb_core_language.specs.Outcomes.{Outcome, nothing_first, other_first, or_then, firsts}
 use Rattle.pb_core_language.specs.Plain.{plain_block, plain_stmt, block_of, branches_of}
 use Rattle.pb_core_language.specs.Sound.{Rows, is_small, is_end, is_stmt, is_block, are_branches, has_branch}
-use Rattle.pb_core_language.specs.Tree.{Mark, StmtTree, loop, choice, run, BlockTree, more, BranchTrees, no_branch, branch, is_again}
+use Rattle.pb_core_language.specs.Tree.{Mark, StmtTree, message, foreach, loop, again, choice, run, barrier, broadcast, reduce, allreduce, BlockTree, more, BranchTrees, no_branch, branch, is_again}
 use Rattle.pb_part_areas.specs.declared.area.Area.{Area}
 use Rattle.pb_part_areas.specs.Areas.{have}
 use Rattle.pb_core_flat.specs.Seated.{rank, is_at}
 use Rattle.pb_core_flat.specs.OutcomeSets.{is_outcome}
 use Rattle.pb_core_flat.proofs.Choices.{choice_finds}
-use Rattle.pb_core_flat.proofs.OutcomeSets.{or_then_left, or_then_right, is_append}
+use Rattle.pb_core_flat.proofs.OutcomeSets.{or_then_assoc, or_then_left, or_then_right, is_append}
 use Rattle.pb_core_flat.proofs.OutcomesAdd.{finds_first, loop_finds}
 use Rattle.pb_core_flat.proofs.Seats.{end_is_at}
 use Rattle.pb_part_firsts.specs.declared.firsts.Entry.{Entry}
@@ -31,6 +31,9 @@ use Rattle.pb_part_takers.specs.declared.held.Held.{Held}
 use Rattle.pb_part_takers.specs.Loops.{held_of, ids_of}
 use Rattle.pb_part_firsts.specs.Takers.{Adds, part_in}
 use Rattle.pb_part_firsts.specs.Firsts.{finds, Gives, first_in}
+use Rattle.pb_part_firsts.specs.Fitting.{EntriesFit}
+use Rattle.pb_part_firsts.specs.Turns.{first_stop, AddsStops}
+use Rattle.pb_part_firsts.specs.Gathered.{is_plain, Passes}
 use Rattle.pb_part_firsts.specs.Stopping.{first_at, first_among, AmongGives}
 use Rattle.pb_part_firsts.proofs.Outcomes.{in_turn, given_as, given_set, none_stops}
 use Rattle.pb_core_language.proofs.Plains.{plain_list}
@@ -88,39 +91,95 @@ split_first : (rows : Rows) (roles : List CoreRole) (held : List Held) (m : Mark
 split_first rows roles held m s rest n role x h =
     sym (finds_first rows false (ids_of held) roles n (pos 0) (rank roles n role x) (held_of held n role x) (ids_of held) m s rest h)
 
-pub block_step : {range : NRange} {roles : List CoreRole} {reach mid left : List Area} {old now new : List Entry} (rows : Rows) (held : List Held) (items : List CoreStmt) (i : ℕ) (s : CoreStmt) → i < length items → s ≡ get_or items i s →
+next_is : (rows : Rows) (roles : List CoreRole) (held : List Held) (items : List CoreStmt) (i : ℕ) (s : CoreStmt) (n : ℤ) (role : ℕ) (x : ℤ) → i < length items → s ≡ get_or items i s →
     is_block rows false (ids_of held) (tree_of (drop i items)) ≡ true → is_again (plain_stmt s).stmt ≡ false →
-    Gives range roles reach mid old now (first_at roles held (plain_stmt s).mark (plain_stmt s).stmt) →
-    Gives range roles mid left now new (first_in roles held (tree_of (drop (i + 1) items))) →
-    Gives range roles reach left old new (first_in roles held (tree_of (drop i items)))
-block_step {roles = roles} rows held items i s lt is h e a b = given_as _ _ (λ n role x w r.
+    or_then (first_at roles held (plain_stmt s).mark (plain_stmt s).stmt n role x) (first_in roles held (tree_of (drop (i + 1) items)) n role x) ≡ first_in roles held (tree_of (drop i items)) n role x
+next_is rows roles held items i s n role x lt is h e =
     ap (or_then (first_at roles held (plain_stmt s).mark (plain_stmt s).stmt n role x)) (sym (cond-false (is_again (plain_stmt s).stmt) (nothing_first ∷ []) (first_in roles held (tree_of (drop (i + 1) items)) n role x) e))
     ∙ split_first rows roles held (plain_stmt s).mark (plain_stmt s).stmt (tree_of (drop (i + 1) items)) n role x (stmt_sound rows (ids_of held) items i s lt is h)
-    ∙ at_first roles held items i s n role x lt is)
-    (in_turn _ _ a b)
+    ∙ at_first roles held items i s n role x lt is
 
-pub block_cut : {range : NRange} {roles : List CoreRole} {reach mid : List Area} {old now : List Entry} (rows : Rows) (held : List Held) (items : List CoreStmt) (i : ℕ) (s : CoreStmt) → i < length items → s ≡ get_or items i s →
+last_is : (rows : Rows) (roles : List CoreRole) (held : List Held) (items : List CoreStmt) (i : ℕ) (s : CoreStmt) (n : ℤ) (role : ℕ) (x : ℤ) → i < length items → s ≡ get_or items i s →
     is_block rows false (ids_of held) (tree_of (drop i items)) ≡ true → is_again (plain_stmt s).stmt ≡ true →
-    Gives range roles reach mid old now (first_at roles held (plain_stmt s).mark (plain_stmt s).stmt) →
-    Gives range roles reach mid old now (first_in roles held (tree_of (drop i items)))
-block_cut {roles = roles} rows held items i s lt is h e a = given_as _ _ (λ n role x w r.
-    sym (or_then_right (first_at roles held (plain_stmt s).mark (plain_stmt s).stmt n role x))
-    ∙ ap (or_then (first_at roles held (plain_stmt s).mark (plain_stmt s).stmt n role x)) (sym (cond-true (is_again (plain_stmt s).stmt) (nothing_first ∷ []) (first_in roles held (tree_of (drop (i + 1) items)) n role x) e))
+    or_then (first_at roles held (plain_stmt s).mark (plain_stmt s).stmt n role x) (nothing_first ∷ []) ≡ first_in roles held (tree_of (drop i items)) n role x
+last_is rows roles held items i s n role x lt is h e =
+    ap (or_then (first_at roles held (plain_stmt s).mark (plain_stmt s).stmt n role x)) (sym (cond-true (is_again (plain_stmt s).stmt) (nothing_first ∷ []) (first_in roles held (tree_of (drop (i + 1) items)) n role x) e))
     ∙ split_first rows roles held (plain_stmt s).mark (plain_stmt s).stmt (tree_of (drop (i + 1) items)) n role x (stmt_sound rows (ids_of held) items i s lt is h)
-    ∙ at_first roles held items i s n role x lt is)
-    a
+    ∙ at_first roles held items i s n role x lt is
+
+-- what is found at some stops, and then in what is left of a block
+abbrev pub first_behind : List CoreRole → List Held → List Entry → List CoreStmt → ℤ → ℕ → ℤ → List Outcome
+first_behind roles held stops items n role x = or_then (first_stop roles stops n role x) (first_in roles held (tree_of items) n role x)
+
+pub none_behind : (roles : List CoreRole) (stops : List Entry) (rest : List Outcome) (n : ℤ) (role : ℕ) (x : ℤ) → stops ≡ [] → or_then (first_stop roles stops n role x) rest ≡ rest
+none_behind roles stops rest n role x e = ap (λ z. or_then (first_stop roles z n role x) rest) e ∙ or_then_left rest
+
+-- nobody comes, so nothing is found
+nobody_finds : {range : NRange} {roles : List CoreRole} {reach left : List Area} {old new : List Entry} (outs outs2 : ℤ → ℕ → ℤ → List Outcome) → reach ≡ [] →
+    Gives range roles reach left old new outs → Gives range roles reach left old new outs2
+nobody_finds {roles = roles} {old = old} outs outs2 none g = record {
+  out = λ n role x o w r e. g.out n role x o w r e ∙ ap (λ z. finds roles old n role x o || (have z n role x && is_outcome o (outs n role x))) none
+      ∙ ap (λ z. finds roles old n role x o || (have z n role x && is_outcome o (outs2 n role x))) (sym none);
+  rest = λ n role x w r. g.rest n role x w r ∙ ap (λ z. have z n role x && is_outcome nothing_first (outs n role x)) none ∙ ap (λ z. have z n role x && is_outcome nothing_first (outs2 n role x)) (sym none);
+}
+
+module _ {range : NRange} {roles : List CoreRole} where
+  pub block_step : {reach mid left : List Area} {old now new stops after : List Entry} (rows : Rows) (held : List Held) (items : List CoreStmt) (i : ℕ) (s : CoreStmt) → i < length items → s ≡ get_or items i s →
+      is_block rows false (ids_of held) (tree_of (drop i items)) ≡ true → is_again (plain_stmt s).stmt ≡ false →
+      Passes range roles reach mid old now stops after (first_at roles held (plain_stmt s).mark (plain_stmt s).stmt) →
+      Gives range roles mid left now new (first_behind roles held after (drop (i + 1) items)) →
+      Gives range roles reach left old new (first_behind roles held stops (drop i items))
+  block_step {left = left} {new = new} {stops = stops} rows held items i s lt is h e p g = given_as _ _ (λ n role x w r. ap (or_then (first_stop roles stops n role x)) (next_is rows roles held items i s n role x lt is h e))
+      (p.on (first_in roles held (tree_of (drop (i + 1) items))) left new g)
+
+  pub block_cut : {reach mid : List Area} {old now stops after : List Entry} (rows : Rows) (held : List Held) (items : List CoreStmt) (i : ℕ) (s : CoreStmt) → i < length items → s ≡ get_or items i s →
+      is_block rows false (ids_of held) (tree_of (drop i items)) ≡ true → is_again (plain_stmt s).stmt ≡ true → after ≡ [] →
+      Passes range roles reach mid old now stops after (first_at roles held (plain_stmt s).mark (plain_stmt s).stmt) →
+      Gives range roles reach mid old now (first_behind roles held stops (drop i items))
+  block_cut {mid = mid} {now = now} {stops = stops} {after = after} rows held items i s lt is h e none p = given_as _ _ (λ n role x w r. ap (or_then (first_stop roles stops n role x)) (last_is rows roles held items i s n role x lt is h e))
+      (p.on (λ n role x. nothing_first ∷ []) mid now (given_as _ _ (λ n role x w r. sym (none_behind roles after (nothing_first ∷ []) n role x none)) none_stops))
+
+  pub block_begins : {reach left : List Area} {old new stops : List Entry} (held : List Held) (items : List CoreStmt) → stops ≡ [] → Gives range roles reach left old new (first_behind roles held stops items) → Gives range roles reach left old new (first_in roles held (tree_of items))
+  block_begins {stops = stops} held items none g = given_as _ _ (λ n role x w r. none_behind roles stops (first_in roles held (tree_of items) n role x) n role x none) g
+
+  pub block_done : {reach left : List Area} {old new : List Entry} (held : List Held) (stops : List Entry) (items : List CoreStmt) (i : ℕ) → length items ≤ i → Gives range roles reach left old new (first_stop roles stops) → Gives range roles reach left old new (first_behind roles held stops (drop i items))
+  block_done held stops items i le g = given_as _ _ (λ n role x w r.
+      sym (or_then_right (first_stop roles stops n role x)) ∙ sym (ap (λ z. or_then (first_stop roles stops n role x) (first_in roles held (tree_of z) n role x)) (drop_of_length-le items le))) g
+
+  pub given_at : {reach left : List Area} {old new stops after : List Entry} → after ≡ stops → Gives range roles reach left old new (first_stop roles after) → Gives range roles reach left old new (first_stop roles stops)
+  given_at e g = given_as _ _ (λ n role x w r. ap (λ z. first_stop roles z n role x) e) g
+
+  -- a statement that is added to the stops, one that comes behind them, and one that nobody comes to
+  pub plain_passes : {reach : List Area} {old stops after : List Entry} (outs : ℤ → ℕ → ℤ → List Outcome) → AddsStops range roles stops after outs → Passes range roles reach reach old old stops after outs
+  plain_passes {stops = stops} outs a = record {
+    on = λ rest last all g. given_as _ _ (λ n role x w r. ap (λ z. or_then z (rest n role x)) (a.is n role x w r) ∙ or_then_assoc (first_stop roles stops n role x) (outs n role x) (rest n role x)) g;
+  }
+
+  pub other_passes : {reach mid left : List Area} {old now new stops after : List Entry} (outs : ℤ → ℕ → ℤ → List Outcome) → after ≡ [] → Gives range roles reach mid old now (first_stop roles stops) → Gives range roles mid left now new outs → Passes range roles reach left old new stops after outs
+  other_passes {after = after} outs none a b = record {
+    on = λ rest last all g. in_turn _ _ a (in_turn _ _ b (given_as _ _ (λ n role x w r. none_behind roles after (rest n role x) n role x none) g));
+  }
+
+  pub nobody_passes : {reach mid : List Area} {old now stops after : List Entry} (outs : ℤ → ℕ → ℤ → List Outcome) → mid ≡ [] → Gives range roles reach mid old now (first_stop roles stops) → Passes range roles reach mid old now stops after outs
+  nobody_passes outs none a = record { on = λ rest last all g. in_turn _ _ a (nobody_finds _ _ none g) }
 
 pub of_tree : {range : NRange} {roles : List CoreRole} {reach left : List Area} {old new : List Entry} (held : List Held) (b : CoreBlock) (items : List CoreStmt) → items ≡ (out-CoreBlock b).list.items →
     Gives range roles reach left old new (first_in roles held (tree_of items)) → Gives range roles reach left old new (first_in roles held (plain_block b).block)
 of_tree {roles = roles} held b items same g = given_as _ _ (λ n role x w r. ap (λ z. first_in roles held z n role x) (sym (tree_is b items same))) g
 
-pub block_done : {range : NRange} {roles : List CoreRole} {reach mid : List Area} {old now : List Entry} (held : List Held) (items : List CoreStmt) (i : ℕ) → length items ≤ i →
-    ((left : List Area) (new : List Entry) → Gives range roles mid left now new (first_in roles held (tree_of (drop i items))) → Gives range roles reach left old new (first_in roles held (tree_of items))) →
-    Gives range roles reach mid old now (first_in roles held (tree_of items))
-block_done {roles = roles} {mid = mid} {now = now} held items i le inv =
-    inv mid now (given_as _ _ (λ n role x w r. sym (ap (λ z. first_in roles held (tree_of z) n role x) (drop_of_length-le items le))) none_stops)
-
 -- ---- a statement
+
+pub plain_goes_on : (s : StmtTree) → is_plain s ≡ true → is_again s ≡ false
+plain_goes_on (message l f t) h = refl
+plain_goes_on (foreach b k items) h = refl
+plain_goes_on (loop id k body) h = refl
+plain_goes_on (again id) h = absurd (false≢true h)
+plain_goes_on (choice k e bs) h = refl
+plain_goes_on (run k e) h = refl
+plain_goes_on barrier h = refl
+plain_goes_on (broadcast l root) h = refl
+plain_goes_on (reduce l op root) h = refl
+plain_goes_on (allreduce l op) h = refl
 
 pub of_stmt : {range : NRange} {roles : List CoreRole} {reach left : List Area} {old new : List Entry} (held : List Held) (m : Mark) (s t : StmtTree) → s ≡ t →
     Gives range roles reach left old new (first_at roles held m t) → Gives range roles reach left old new (first_at roles held m s)
@@ -177,9 +236,6 @@ choice_gives {range = range} {roles = roles} {left = left} {now = now} {new = ne
 pub choice_end : (rows : Rows) (ids : List ℕ) (k : ℕ) (at : CoreEnd) (bs : BranchTrees) → is_stmt rows false ids (choice k at bs) ≡ true → is_small at.at.off ≡ true
 choice_end rows ids k at bs h =
     end_small rows at (and_parts (is_end rows false at) (has_branch bs && are_branches rows ids bs) (and_parts (nat_lt k rows.kernels) (is_end rows false at && (has_branch bs && are_branches rows ids bs)) h).1).0
-
-pub run_end : (rows : Rows) (ids : List ℕ) (k : ℕ) (at : CoreEnd) → is_stmt rows false ids (run k at) ≡ true → is_small at.at.off ≡ true
-run_end rows ids k at h = end_small rows at (and_parts (nat_lt k rows.kernels) (is_end rows false at) h).1
 
 choice_rest : (rows : Rows) (ids : List ℕ) (k : ℕ) (at : CoreEnd) (bs : BranchTrees) → is_stmt rows false ids (choice k at bs) ≡ true → has_branch bs && are_branches rows ids bs ≡ true
 choice_rest rows ids k at bs h =
@@ -270,5 +326,8 @@ pub choice_is_end : (rows : Rows) (ids : List ℕ) (k : ℕ) (at : CoreEnd) (bs 
 choice_is_end rows ids k at bs h =
     (and_parts (is_end rows false at) (has_branch bs && are_branches rows ids bs) (and_parts (nat_lt k rows.kernels) (is_end rows false at && (has_branch bs && are_branches rows ids bs)) h).1).0
 
-pub run_is_end : (rows : Rows) (ids : List ℕ) (k : ℕ) (at : CoreEnd) → is_stmt rows false ids (run k at) ≡ true → is_end rows false at ≡ true
-run_is_end rows ids k at h = (and_parts (nat_lt k rows.kernels) (is_end rows false at) h).1
+pub stops_fit : (range : NRange) (cuts : List Lin) (now stops : List Entry) → now ≡ stops → EntriesFit range cuts stops → EntriesFit range cuts now
+stops_fit range cuts now stops e s = subst (EntriesFit range cuts) (sym e) s
+
+pub none_fit : (range : NRange) (cuts : List Lin) (now : List Entry) → now ≡ [] → EntriesFit range cuts now
+none_fit range cuts now e = stops_fit range cuts now [] e tt

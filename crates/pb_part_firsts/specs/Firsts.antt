@@ -1,6 +1,5 @@
 -- What a list of areas with outcomes has to do with the first outcomes of a rank.
-use Rattle.std.specs.Prelude.{◌≡◌, ℕ, ℤ, pos, int_le, Bool, true, false, ◌&&◌, ◌||◌, List, [], ◌∷◌}
-use Rattle.pb_text.specs.declared.limits.TheConstants.{LEAST_OFFSET, MOST_OFFSET}
+use Rattle.std.specs.Prelude.{◌≡◌, ℕ, ℤ, pos, Bool, true, false, ◌&&◌, ◌||◌, List, [], ◌∷◌}
 use Rattle.pb_affine.specs.declared.range.NRange.{NRange}
 use Rattle.pb_affine.specs.Values.{value}
 use Rattle.pb_core_language.specs.declared.protocol.CoreRole.{CoreRole}
@@ -14,6 +13,7 @@ use Rattle.pb_part_areas.specs.Areas.{has, have}
 use Rattle.pb_core_flat.specs.Seated.{rank, is_rank}
 use Rattle.pb_core_flat.specs.OutcomeSets.{outcome_eq, is_nothing, is_outcome}
 use Rattle.pb_part_takers.specs.declared.held.Held.{Held}
+use Rattle.pb_part_visits.specs.Visits.{is_small_off}
 use Rattle.pb_part_firsts.specs.declared.firsts.Entry.{Entry}
 use Rattle.pb_part_firsts.specs.declared.firsts.Kind.{Kind}
 use Rattle.pb_part_firsts.specs.declared.firsts.Kind.TheVariants.{Receive, Other, Again}
@@ -41,9 +41,6 @@ pub record Gives (range : NRange) (roles : List CoreRole) (reach left : List Are
       have left n role x ≡ have reach n role x && is_outcome nothing_first (outs n role x)
 
 -- sources whose offsets are within 1,000,000 of zero
-abbrev pub is_small_off : ℤ → Bool
-is_small_off x = int_le LEAST_OFFSET x && int_le x MOST_OFFSET
-
 abbrev pub is_small_kind : Kind → Bool
 is_small_kind (Receive s l) = is_small_off s.at.off
 is_small_kind Other = true

@@ -1,7 +1,9 @@
 pub mod Takers
 pub mod Firsts
 pub mod Stopping
-pub mod Visits
 pub mod Fitting
 pub mod Parts
 pub mod Answers
+pub mod Turns
+pub mod Coming
+pub mod Gathered

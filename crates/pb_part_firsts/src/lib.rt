@@ -7,16 +7,14 @@
 #![tactic(auto)]
 
 mod each;
-mod ends;
 mod firsts;
-mod lins;
-mod meet;
 mod parts;
+mod plain;
 mod search;
 mod single;
 mod stop;
 mod takers;
-mod visit;
+mod turns;
 mod walk;
 mod whole;
 

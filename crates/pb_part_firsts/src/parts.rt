@@ -15,8 +15,8 @@ ghost use Rattle.pb_part_firsts.specs.Parts.{flat, IsAround, AreAround};
 ghost use Rattle.pb_part_firsts.specs.Stopping.{Stops};
 
 use crate::firsts::{Entry, Kind};
-use crate::stop::{is_nobody, stop};
-use pb_part_areas::{Area, NoMemory, cloned, merged, near, spanned};
+use crate::stop::{emit, is_nobody};
+use pb_part_areas::{Area, NoMemory, cloned, common, is_apart, merged, near, spanned, without};
 use std::alloc::Global;
 
 /// Some areas, and one that holds of all that they hold of.
@@ -127,32 +127,140 @@ pub(crate) fn areas_of(alloc: Global, parts: &[Part]) -> Result<Vec<Area>, NoMem
     Ok(out)
 }
 
-/// Gives the ranks of a part at some areas an outcome, and adds the others to those that are left.
-fn stop_part(
+/// The areas of a group that may have something in common with an area.
+fn near_in(alloc: Global, group: &Part, to: Area) -> Result<Vec<Area>, NoMemory>
+    ensures is { IfOk result (λ v. IsAround group.now → (n : ℤ) (role : ℕ) (x : ℤ) → have v.items n role x && has to n role x ≡ have group.now.areas.items n role x && has to n role x) }
+    ensures fits { IfOk result (λ v. (range : NRange) (cuts : List Lin) → All (Fits range cuts) group.now.areas.items → All (Fits range cuts) v.items) }
+{
+    if is_apart(to, group.around) {
+        return Ok(Vec::new(alloc));
+    }
+    near(alloc, &group.areas, to)
+}
+
+/// The areas of all groups that may have something in common with an area.
+fn near_groups(alloc: Global, groups: &[Part], to: Area) -> Result<Vec<Area>, NoMemory>
+    ensures is { IfOk result (λ v. AreAround groups.now → (n : ℤ) (role : ℕ) (x : ℤ) → have v.items n role x && has to n role x ≡ have (flat groups.now) n role x && has to n role x) }
+    ensures fits { IfOk result (λ v. (range : NRange) (cuts : List Lin) → All (Fits range cuts) (flat groups.now) → All (Fits range cuts) v.items) }
+{
+    let mut out = Vec::new(alloc);
+    for group in groups {
+        let met = near_in(alloc, group, to)?;
+        add_areas(&mut out, &met)?;
+    }
+    Ok(out)
+}
+
+/// Gives the ranks of a part that are of some group an outcome.
+fn emit_part(
     alloc: Global,
-    part: Part,
-    at: &[Area],
+    part: &Part,
+    groups: &[Part],
     kind: Kind,
-    left: &mut Vec<Part>,
     out: &mut Vec<Entry>,
 ) -> Result<(), NoMemory>
-    ensures out { OnOk result ((roles : List CoreRole) → IsAround part → (n : ℤ) (role : ℕ) (x : ℤ) (o : Outcome) →
-        finds roles out.new.items n role x o ≡ finds roles out.old.items n role x o || ((have part.areas.items n role x && have at.now n role x) && outcome_eq (outcome_of roles kind n x) o)) }
-    ensures rest { OnOk result (IsAround part → (n : ℤ) (role : ℕ) (x : ℤ) → have (flat left.new.items) n role x ≡ have (flat left.old.items) n role x || (have part.areas.items n role x && not (have at.now n role x))) }
-    ensures around { OnOk result (IsAround part → AreAround left.old.items → AreAround left.new.items) }
+    ensures out { OnOk result ((roles : List CoreRole) → IsAround part.now → AreAround groups.now → (n : ℤ) (role : ℕ) (x : ℤ) (o : Outcome) →
+        finds roles out.new.items n role x o ≡ finds roles out.old.items n role x o || ((have part.now.areas.items n role x && have (flat groups.now) n role x) && outcome_eq (outcome_of roles kind n x) o)) }
     ensures small { OnOk result (is_small_kind kind ≡ true → are_small out.old.items ≡ true → are_small out.new.items ≡ true) }
-    ensures fits { OnOk result ((range : NRange) (cuts : List Lin) → All (Fits range cuts) (flat left.old.items) → All (Fits range cuts) part.areas.items → All (Fits range cuts) at.now → EntriesFit range cuts out.old.items → AllFit range cuts (flat left.new.items) out.new.items) }
+    ensures fits { OnOk result ((range : NRange) (cuts : List Lin) → All (Fits range cuts) part.now.areas.items → All (Fits range cuts) (flat groups.now) → EntriesFit range cuts out.old.items → EntriesFit range cuts out.new.items) }
 {
-    let met = near(alloc, at, part.around)?;
+    let met = near_groups(alloc, groups, part.around)?;
+    let here = common(alloc, &part.areas, &met)?;
+    emit(out, &here, kind)
+}
+
+/// Gives the ranks of the parts that are of some group an outcome.
+fn emit_parts(
+    alloc: Global,
+    parts: &[Part],
+    groups: &[Part],
+    kind: Kind,
+    out: &mut Vec<Entry>,
+) -> Result<(), NoMemory>
+    ensures out { OnOk result ((roles : List CoreRole) → AreAround parts.now → AreAround groups.now → (n : ℤ) (role : ℕ) (x : ℤ) (o : Outcome) →
+        finds roles out.new.items n role x o ≡ finds roles out.old.items n role x o || ((have (flat parts.now) n role x && have (flat groups.now) n role x) && outcome_eq (outcome_of roles kind n x) o)) }
+    ensures small { OnOk result (is_small_kind kind ≡ true → are_small out.old.items ≡ true → are_small out.new.items ≡ true) }
+    ensures fits { OnOk result ((range : NRange) (cuts : List Lin) → All (Fits range cuts) (flat parts.now) → All (Fits range cuts) (flat groups.now) → EntriesFit range cuts out.old.items → EntriesFit range cuts out.new.items) }
+{
+    for part in parts {
+        emit_part(alloc, part, groups, kind, out)?;
+    }
+    Ok(())
+}
+
+/// Adds the ranks of a part that aren't of a group.
+fn add_without(
+    alloc: Global,
+    part: Part,
+    group: &Part,
+    left: &mut Vec<Part>,
+) -> Result<(), NoMemory>
+    ensures rest { OnOk result (IsAround part → IsAround group.now → (n : ℤ) (role : ℕ) (x : ℤ) → have (flat left.new.items) n role x ≡ have (flat left.old.items) n role x || (have part.areas.items n role x && not (have group.now.areas.items n role x))) }
+    ensures around { OnOk result (IsAround part → AreAround left.old.items → AreAround left.new.items) }
+    ensures fits { OnOk result ((range : NRange) (cuts : List Lin) → All (Fits range cuts) (flat left.old.items) → All (Fits range cuts) part.areas.items → All (Fits range cuts) group.now.areas.items → All (Fits range cuts) (flat left.new.items)) }
+{
+    let met = near_in(alloc, group, part.around)?;
     if is_nobody(&met) {
         left.push(part)?;
         return Ok(());
     }
-    let areas = stop(alloc, part.areas, &met, kind, out)?;
+    let areas = without(alloc, part.areas, &met)?;
     put_all(alloc, left, &areas)
 }
 
-/// Gives the ranks at some areas an outcome, and leaves the others.
+/// True only where nobody of the parts is of the area. Takes no memory.
+pub(crate) fn are_past(parts: &[Part], a: Area) -> bool
+    ensures { result ≡ true → AreAround parts.now → (n : ℤ) (role : ℕ) (x : ℤ) → have (flat parts.now) n role x && not (has a n role x) ≡ have (flat parts.now) n role x }
+{
+    for part in parts {
+        if !is_apart(part.around, a) {
+            return false;
+        }
+    }
+    true
+}
+
+/// The ranks of the parts that aren't of a group. A part that is apart from the group isn't compared with each area of it.
+fn without_group(alloc: Global, reach: Vec<Part>, group: &Part) -> Result<Vec<Part>, NoMemory>
+    ensures rest { IfOk result (λ left. AreAround reach.items → IsAround group.now → (n : ℤ) (role : ℕ) (x : ℤ) → have (flat left.items) n role x ≡ have (flat reach.items) n role x && not (have group.now.areas.items n role x)) }
+    ensures around { IfOk result (λ left. AreAround reach.items → AreAround left.items) }
+    ensures fits { IfOk result (λ left. (range : NRange) (cuts : List Lin) → All (Fits range cuts) (flat reach.items) → All (Fits range cuts) group.now.areas.items → All (Fits range cuts) (flat left.items)) }
+{
+    let mut left = Vec::new(alloc);
+    for part in reach {
+        add_without(alloc, part, group, &mut left)?;
+    }
+    Ok(left)
+}
+
+/// The same, and the parts as they are where all are apart from the group.
+fn without_met(alloc: Global, reach: Vec<Part>, group: &Part) -> Result<Vec<Part>, NoMemory>
+    ensures rest { IfOk result (λ left. AreAround reach.items → IsAround group.now → (n : ℤ) (role : ℕ) (x : ℤ) → have (flat left.items) n role x ≡ have (flat reach.items) n role x && not (have group.now.areas.items n role x)) }
+    ensures around { IfOk result (λ left. AreAround reach.items → AreAround left.items) }
+    ensures fits { IfOk result (λ left. (range : NRange) (cuts : List Lin) → All (Fits range cuts) (flat reach.items) → All (Fits range cuts) group.now.areas.items → All (Fits range cuts) (flat left.items)) }
+{
+    if are_past(&reach, group.around) {
+        return Ok(reach);
+    }
+    let left = without_group(alloc, reach, group)?;
+    Ok(left)
+}
+
+/// The ranks of the parts that are of no group.
+fn without_groups(alloc: Global, reach: Vec<Part>, groups: &[Part]) -> Result<Vec<Part>, NoMemory>
+    ensures rest { IfOk result (λ left. AreAround reach.items → AreAround groups.now → (n : ℤ) (role : ℕ) (x : ℤ) → have (flat left.items) n role x ≡ have (flat reach.items) n role x && not (have (flat groups.now) n role x)) }
+    ensures around { IfOk result (λ left. AreAround reach.items → AreAround left.items) }
+    ensures fits { IfOk result (λ left. (range : NRange) (cuts : List Lin) → All (Fits range cuts) (flat reach.items) → All (Fits range cuts) (flat groups.now) → All (Fits range cuts) (flat left.items)) }
+{
+    let mut left = reach;
+    for group in groups {
+        left = without_met(alloc, left, group)?;
+    }
+    Ok(left)
+}
+
+/// Gives the ranks at some areas an outcome, and leaves the others. What is given comes from the parts as they were, before
+/// the areas that are taken out of them cut them into smaller ones.
 pub(crate) fn stop_parts(
     alloc: Global,
     reach: Vec<Part>,
@@ -165,11 +273,9 @@ pub(crate) fn stop_parts(
     ensures small { IfOk result (λ left. is_small_kind kind ≡ true → are_small out.old.items ≡ true → are_small out.new.items ≡ true) }
     ensures fits { IfOk result (λ left. (range : NRange) (cuts : List Lin) → All (Fits range cuts) (flat reach.items) → All (Fits range cuts) at.now → EntriesFit range cuts out.old.items → AllFit range cuts (flat left.items) out.new.items) }
 {
-    let mut left = Vec::new(alloc);
-    for part in reach {
-        stop_part(alloc, part, at, kind, &mut left, out)?;
-    }
-    Ok(left)
+    let groups = parts_of(alloc, at)?;
+    emit_parts(alloc, &reach, &groups, kind, out)?;
+    without_groups(alloc, reach, &groups)
 }
 
 /// The same parts once more.

@@ -1,4 +1,4 @@
-ghost use Rattle.std.specs.Prelude.{◌≡◌, ◌∷◌, [], ℕ, ℤ, pos, true, false, List, IfOk, IfSome, None, MatchOption, if◌then◌else◌};
+ghost use Rattle.std.specs.Prelude.{◌≡◌, ◌∷◌, [], ℕ, ℤ, pos, true, false, List, IfOk, OnOk, IfSome, None, MatchOption, if◌then◌else◌};
 ghost use Rattle.std.specs.List.{All};
 ghost use Rattle.pb_affine.specs.declared.lin.Lin.{Lin};
 ghost use Rattle.pb_part_areas.specs.Fits.{Fits};
@@ -8,7 +8,7 @@ ghost use Rattle.pb_affine.specs.declared.range.NRange.{NRange};
 ghost use Rattle.pb_core_language.specs.declared.protocol.CoreRole.{CoreRole};
 ghost use Rattle.pb_core_language.specs.Outcomes.{nothing_first, other_first};
 ghost use Rattle.pb_core_language.specs.Sound.{is_small, is_over_n, is_end, Rows, is_stmt};
-ghost use Rattle.pb_core_language.specs.Tree.{Mark, message, again};
+ghost use Rattle.pb_core_language.specs.Tree.{Mark, message, run, again};
 ghost use Rattle.pb_part_areas.specs.Areas.{have};
 ghost use Rattle.pb_core_flat.specs.Seated.{is_at};
 ghost use Rattle.pb_part_takers.specs.declared.held.Held.{Held};
@@ -17,6 +17,7 @@ ghost use Rattle.pb_part_takers.specs.Pieces.{AreAmong};
 ghost use Rattle.pb_part_firsts.specs.Takers.{IsWhole};
 ghost use Rattle.pb_part_firsts.specs.Firsts.{Gives, outcome_of, is_small_kind, are_small};
 ghost use Rattle.pb_part_firsts.specs.Stopping.{first_at, is_held};
+ghost use Rattle.pb_part_firsts.specs.Turns.{AddsStops};
 ghost use Rattle.pb_part_firsts.specs.Parts.{flat, AreAround};
 
 use crate::firsts::{Entry, Kind, Source};
@@ -26,41 +27,31 @@ use pb_part_areas::{Area, NoMemory, one};
 use pb_part_takers::{Held, end_area};
 use std::alloc::Global;
 
-/// The ranks at an end that stays stop with an outcome.
-fn stop_at(
-    alloc: Global,
-    reach: Vec<Part>,
-    end: CoreEnd,
-    kind: Kind,
-    out: &mut Vec<Entry>,
-) -> Result<Vec<Part>, NoMemory>
-    ensures gives { IfOk result (λ left. (range : NRange) (roles : List CoreRole) → is_small end.at.off ≡ true →
-        AreAround reach.items → Gives range roles (flat reach.items) (flat left.items) out.old.items out.new.items (λ n role x. if is_at end n (pos 0) role x then outcome_of roles kind n x ∷ [] else nothing_first ∷ [])) }
-    ensures around { IfOk result (λ left. AreAround reach.items → AreAround left.items) }
-    ensures small { IfOk result (λ left. is_small_kind kind ≡ true → are_small out.old.items ≡ true → are_small out.new.items ≡ true) }
-    ensures fits { IfOk result (λ left. (range : NRange) (cuts : List Lin) → is_small end.at.off ≡ true → is_over_n end.at.base ≡ true → AreAmong (end_cuts None end) cuts → All (Fits range cuts) (flat reach.items) → EntriesFit range cuts out.old.items → AllFit range cuts (flat left.items) out.new.items) }
+/// Adds what stops the rank at an end that stays.
+fn add_stop(end: CoreEnd, kind: Kind, stops: &mut Vec<Entry>) -> Result<(), NoMemory>
+    ensures gives { OnOk result ((range : NRange) (roles : List CoreRole) → is_small end.at.off ≡ true →
+        AddsStops range roles stops.old.items stops.new.items (λ n role x. if is_at end n (pos 0) role x then outcome_of roles kind n x ∷ [] else nothing_first ∷ [])) }
+    ensures small { OnOk result (is_small_kind kind ≡ true → are_small stops.old.items ≡ true → are_small stops.new.items ≡ true) }
+    ensures fits { OnOk result ((range : NRange) (cuts : List Lin) → is_small end.at.off ≡ true → is_over_n end.at.base ≡ true → AreAmong (end_cuts None end) cuts → EntriesFit range cuts stops.old.items → EntriesFit range cuts stops.new.items) }
 {
-    let here = one(alloc, end_area(end))?;
-    let left = stop_parts(alloc, reach, &here, kind, out)?;
-    Ok(left)
+    let area = end_area(end);
+    stops.push(Entry { area, kind })?;
+    Ok(())
 }
 
-/// The first outcomes of a message that stands in no foreach.
-pub(crate) fn message_firsts(
-    alloc: Global,
+/// Adds what stops those that a message concerns, which stands in no foreach.
+pub(crate) fn add_message(
     label: u32,
     from: CoreEnd,
     to: CoreEnd,
-    reach: Vec<Part>,
-    out: &mut Vec<Entry>,
-) -> Result<Vec<Part>, NoMemory>
-    ensures gives { IfOk result (λ left. (range : NRange) (roles : List CoreRole) (rows : Rows) (held : List Held) (m : Mark) → is_stmt rows false (ids_of held) (message label from to) ≡ true →
-        AreAround reach.items → Gives range roles (flat reach.items) (flat left.items) out.old.items out.new.items (first_at roles held m (message label from to))) }
-    ensures around { IfOk result (λ left. AreAround reach.items → AreAround left.items) }
-    ensures small { IfOk result (λ left. (rows : Rows) (ids : List ℕ) → is_stmt rows false ids (message label from to) ≡ true → are_small out.old.items ≡ true → are_small out.new.items ≡ true) }
-    ensures fits { IfOk result (λ left. (range : NRange) (cuts : List Lin) (rows : Rows) (ids : List ℕ) → is_stmt rows false ids (message label from to) ≡ true → AreAmong (stmt_cuts None (message label from to)) cuts → All (Fits range cuts) (flat reach.items) → EntriesFit range cuts out.old.items → AllFit range cuts (flat left.items) out.new.items) }
+    stops: &mut Vec<Entry>,
+) -> Result<(), NoMemory>
+    ensures gives { OnOk result ((range : NRange) (roles : List CoreRole) (rows : Rows) (held : List Held) (m : Mark) → is_stmt rows false (ids_of held) (message label from to) ≡ true →
+        AddsStops range roles stops.old.items stops.new.items (first_at roles held m (message label from to))) }
+    ensures small { OnOk result ((rows : Rows) (ids : List ℕ) → is_stmt rows false ids (message label from to) ≡ true → are_small stops.old.items ≡ true → are_small stops.new.items ≡ true) }
+    ensures fits { OnOk result ((range : NRange) (cuts : List Lin) (rows : Rows) (ids : List ℕ) → is_stmt rows false ids (message label from to) ≡ true → AreAmong (stmt_cuts None (message label from to)) cuts → EntriesFit range cuts stops.old.items → EntriesFit range cuts stops.new.items) }
 {
-    let others = stop_at(alloc, reach, from, Kind::Other, out)?;
+    add_stop(from, Kind::Other, stops)?;
     let source = Source {
         role: from.role,
         at: from.at,
@@ -69,11 +60,20 @@ pub(crate) fn message_firsts(
         from: source,
         label,
     };
-    let left = stop_at(alloc, others, to, kind, out)?;
-    Ok(left)
+    add_stop(to, kind, stops)
 }
 
-/// The first outcomes of a compute that stands in no foreach.
+/// Adds what stops the rank that a compute concerns, which stands in no foreach.
+pub(crate) fn add_run(at: CoreEnd, stops: &mut Vec<Entry>) -> Result<(), NoMemory>
+    ensures gives { OnOk result ((range : NRange) (roles : List CoreRole) (rows : Rows) (held : List Held) (m : Mark) (k : ℕ) → is_stmt rows false (ids_of held) (run k at) ≡ true →
+        AddsStops range roles stops.old.items stops.new.items (first_at roles held m (run k at))) }
+    ensures small { OnOk result (are_small stops.old.items ≡ true → are_small stops.new.items ≡ true) }
+    ensures fits { OnOk result ((range : NRange) (cuts : List Lin) (rows : Rows) (ids : List ℕ) (k : ℕ) → is_stmt rows false ids (run k at) ≡ true → AreAmong (stmt_cuts None (run k at)) cuts → EntriesFit range cuts stops.old.items → EntriesFit range cuts stops.new.items) }
+{
+    add_stop(at, Kind::Other, stops)
+}
+
+/// The first outcomes of the rank that chooses.
 pub(crate) fn run_firsts(
     alloc: Global,
     at: CoreEnd,
@@ -86,7 +86,8 @@ pub(crate) fn run_firsts(
     ensures small { IfOk result (λ left. are_small out.old.items ≡ true → are_small out.new.items ≡ true) }
     ensures fits { IfOk result (λ left. (range : NRange) (cuts : List Lin) (rows : Rows) → is_end rows false at ≡ true → AreAmong (end_cuts None at) cuts → All (Fits range cuts) (flat reach.items) → EntriesFit range cuts out.old.items → AllFit range cuts (flat left.items) out.new.items) }
 {
-    let left = stop_at(alloc, reach, at, Kind::Other, out)?;
+    let here = one(alloc, end_area(at))?;
+    let left = stop_parts(alloc, reach, &here, Kind::Other, out)?;
     Ok(left)
 }
 

@@ -1,4 +1,4 @@
-ghost use Rattle.std.specs.Prelude.{◌≡◌, ℕ, true, false, List, IfOk, None, map};
+ghost use Rattle.std.specs.Prelude.{◌≡◌, [], ℕ, true, false, List, IfOk, None, map};
 ghost use Rattle.std.specs.List.{All};
 ghost use Rattle.pb_affine.specs.declared.lin.Lin.{Lin};
 ghost use Rattle.pb_part_areas.specs.Fits.{Fits};
@@ -8,19 +8,21 @@ ghost use Rattle.pb_affine.specs.declared.range.NRange.{NRange};
 ghost use Rattle.pb_core_language.specs.declared.protocol.CoreRole.{CoreRole};
 ghost use Rattle.pb_core_language.specs.Plain.{plain_block, plain_stmt, branches_of};
 ghost use Rattle.pb_core_language.specs.Sound.{Rows, is_block, is_stmt, are_branches};
-ghost use Rattle.pb_core_language.specs.Tree.{Mark, loop, choice};
+ghost use Rattle.pb_core_language.specs.Tree.{Mark, loop, choice, is_again};
 ghost use Rattle.pb_part_takers.specs.Loops.{ids_of, HeldFit};
 ghost use Rattle.pb_part_takers.specs.Pieces.{AreAmong};
 ghost use Rattle.pb_part_firsts.specs.Takers.{IsWhole};
 ghost use Rattle.pb_part_firsts.specs.Firsts.{Gives, first_in, are_small};
+ghost use Rattle.pb_part_firsts.specs.Gathered.{is_plain, Passes};
 ghost use Rattle.pb_part_firsts.specs.Stopping.{first_at, first_among};
 ghost use Rattle.pb_part_firsts.specs.Parts.{flat, AreAround};
 
-use crate::each::foreach_firsts;
 use crate::firsts::Entry;
 use crate::parts::{Part, areas_of, copied, parts_of, together};
-use crate::single::{again_firsts, all_firsts, message_firsts, run_firsts};
-use pb_core_language::{Bounds, CoreBlock, CoreEnd, CoreKind, CoreStmt};
+use crate::plain::add_plain;
+use crate::single::{again_firsts, all_firsts, run_firsts};
+use crate::turns::stop_each;
+use pb_core_language::{CoreBlock, CoreEnd, CoreKind, CoreStmt};
 use pb_part_areas::{Area, NoMemory};
 use pb_part_takers::{Held, takers_in, with_loop};
 use std::alloc::Global;
@@ -68,18 +70,21 @@ fn firsts_of(
         All (Fits range cuts) whole.now → HeldFit range cuts held.now → All (Fits range cuts) (flat reach.items) → EntriesFit range cuts out.old.items → AllFit range cuts (flat left.items) out.new.items) }
 {
     let mut left = reach;
+    let mut stops = Vec::new(alloc);
     for stmt in &block.list {
         if left.is_empty() {
             return Ok(left);
         }
-        left = firsts_at(stmt, alloc, whole, held, left, out)?;
+        left = firsts_at(stmt, alloc, whole, held, left, &mut stops, out)?;
         if stmt.is_again() {
             return Ok(left);
         }
     }
-    Ok(left)
+    let rest = stop_each(alloc, left, &stops, out)?;
+    Ok(rest)
 }
 
+/// Adds the stops of a plain statement. Another one comes behind the stops that were gathered, which are taken first.
 #[cycle(firsts)]
 fn firsts_at(
     stmt: &CoreStmt,
@@ -87,9 +92,43 @@ fn firsts_at(
     whole: &[Area],
     held: &[Held],
     reach: Vec<Part>,
+    stops: &mut Vec<Entry>,
     out: &mut Vec<Entry>,
 ) -> Result<Vec<Part>, NoMemory>
     ensures gives { IfOk result (λ left. (range : NRange) (roles : List CoreRole) (rows : Rows) → IsWhole range roles whole.now →
+        is_stmt rows false (ids_of held.now) (plain_stmt stmt.now).stmt ≡ true →
+        AreAround reach.items → Passes range roles (flat reach.items) (flat left.items) out.old.items out.new.items stops.old.items stops.new.items (first_at roles held.now (plain_stmt stmt.now).mark (plain_stmt stmt.now).stmt)) }
+    ensures none { IfOk result (λ left. is_again (plain_stmt stmt.now).stmt ≡ true → stops.new.items ≡ []) }
+    ensures around { IfOk result (λ left. AreAround reach.items → AreAround left.items) }
+    ensures small { IfOk result (λ left. (rows : Rows) → is_stmt rows false (ids_of held.now) (plain_stmt stmt.now).stmt ≡ true →
+        are_small stops.old.items ≡ true → are_small out.old.items ≡ true → (are_small stops.new.items ≡ true) × (are_small out.new.items ≡ true)) }
+    ensures fits { IfOk result (λ left. (range : NRange) (cuts : List Lin) (rows : Rows) → is_stmt rows false (ids_of held.now) (plain_stmt stmt.now).stmt ≡ true → AreAmong (stmt_cuts None (plain_stmt stmt.now).stmt) cuts →
+        All (Fits range cuts) whole.now → HeldFit range cuts held.now → All (Fits range cuts) (flat reach.items) → EntriesFit range cuts stops.old.items → EntriesFit range cuts out.old.items →
+        EntriesFit range cuts stops.new.items × AllFit range cuts (flat left.items) out.new.items) }
+{
+    let is_plain = add_plain(stmt, alloc, stops)?;
+    if is_plain {
+        return Ok(reach);
+    }
+    let come = stop_each(alloc, reach, stops, out)?;
+    stops.clear();
+    if come.is_empty() {
+        return Ok(come);
+    }
+    other_firsts(stmt, alloc, whole, held, come, out)
+}
+
+/// The first outcomes of a statement that isn't plain.
+#[cycle(firsts)]
+fn other_firsts(
+    stmt: &CoreStmt,
+    alloc: Global,
+    whole: &[Area],
+    held: &[Held],
+    reach: Vec<Part>,
+    out: &mut Vec<Entry>,
+) -> Result<Vec<Part>, NoMemory>
+    ensures gives { IfOk result (λ left. is_plain (plain_stmt stmt.now).stmt ≡ false → (range : NRange) (roles : List CoreRole) (rows : Rows) → IsWhole range roles whole.now →
         is_stmt rows false (ids_of held.now) (plain_stmt stmt.now).stmt ≡ true →
         AreAround reach.items → Gives range roles (flat reach.items) (flat left.items) out.old.items out.new.items (first_at roles held.now (plain_stmt stmt.now).mark (plain_stmt stmt.now).stmt)) }
     ensures around { IfOk result (λ left. AreAround reach.items → AreAround left.items) }
@@ -99,22 +138,12 @@ fn firsts_at(
         All (Fits range cuts) whole.now → HeldFit range cuts held.now → All (Fits range cuts) (flat reach.items) → EntriesFit range cuts out.old.items → AllFit range cuts (flat left.items) out.new.items) }
 {
     match &stmt.what {
-        CoreKind::Message { label, from, to } => {
-            message_firsts(alloc, *label, *from, *to, reach, out)
-        }
-        CoreKind::Run { at, .. } => run_firsts(alloc, *at, reach, out),
+        CoreKind::Message { .. } | CoreKind::Run { .. } | CoreKind::Foreach { .. } => Ok(reach),
         CoreKind::Again { id } => again_firsts(alloc, *id, held, reach, out),
         CoreKind::Barrier
         | CoreKind::Broadcast { .. }
         | CoreKind::Reduce { .. }
         | CoreKind::Allreduce { .. } => all_firsts(alloc, whole, reach, out),
-        CoreKind::Foreach { low, high, items } => {
-            let over = Bounds {
-                low: *low,
-                high: *high,
-            };
-            foreach_firsts(items, alloc, over, reach, out)
-        }
         CoreKind::Loop { id, body } => loop_firsts(body, alloc, *id, whole, held, reach, out),
         CoreKind::Choice { at, branches, .. } => {
             choice_firsts(branches, alloc, *at, whole, held, reach, out)

@@ -53,7 +53,7 @@ fn counts(alloc: Global, core: &CoreBlock) -> Result<(usize, usize), NoMemory> {
 #[test]
 fn a_choice_of_many_ends_has_few_entries(rt: HostRuntime) -> Result<(), NoMemory> {
     let core = choice(rt.alloc(), 64, 60)?;
-    assert!(rt; counts(rt.alloc(), &core) == Ok((3841, 1)));
+    assert!(rt; counts(rt.alloc(), &core) == Ok((129, 1)));
     Ok(())
 }
 

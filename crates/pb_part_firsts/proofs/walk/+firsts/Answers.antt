@@ -1,12 +1,12 @@
 use Rattle.std.proofs.Common.{rules, ◌≡◌, [], None, subst, drop, ap, sym, ◌∙◌}
+use Rattle.std.proofs.lemmas.Bool.{false≢true}
 use Rattle.std.proofs.lemmas.Result.{IfOk-weaker}
 use Rattle.pb_core_language.specs.Plain.{plain_block, plain_stmt}
-use Rattle.pb_part_firsts.specs.Firsts.{first_in}
+use Rattle.pb_part_firsts.specs.Firsts.{are_small}
 use Rattle.pb_part_firsts.specs.Parts.{flat, IsAround}
 use Rattle.pb_part_takers.specs.Loops.{ids_of}
-use Rattle.pb_core_language.proofs.Plains.{plain_message, plain_foreach, plain_loop, plain_choice, plain_run}
+use Rattle.pb_core_language.proofs.Plains.{plain_loop, plain_again, plain_choice}
 use Rattle.pb_part_firsts.proofs.Outcomes.{nobody_comes}
-use Rattle.pb_part_firsts.proofs.Singles.{run_gives}
 use Rattle.std.specs.List.{All}
 use Rattle.std.proofs.lemmas.List.{nil_from_length}
 use Rattle.std.proofs.lemmas.List.Elements.{All-nil}
@@ -14,11 +14,20 @@ use Rattle.pb_part_areas.specs.Fits.{Fits}
 use Rattle.pb_core_language.specs.Cuts.{end_cuts, branches_cuts}
 use Rattle.pb_part_takers.proofs.Among.{among_left, among_right}
 use Rattle.pb_part_firsts.proofs.TakersAs.{takers_as}
-use Rattle.pb_part_firsts.proofs.Steps.{tree_of, trees_of, stmt_sound, rest_sound, tree_sound, branch_sound, others_sound, block_step, block_cut, block_done, of_tree, of_stmt, turned_sound, body_sound, loop_gives, choice_gives, choice_end, run_end, choice_some, choice_sound, branch_step, branches_done, stmt_among, rest_among, tree_among, branch_among, others_among, turned_among, choice_is_end, run_is_end}
+use Rattle.pb_part_firsts.proofs.Steps.{trees_of, stmt_sound, rest_sound, tree_sound, branch_sound, others_sound, first_behind, block_begins, block_step, block_cut, block_done, given_at, plain_passes, other_passes, nobody_passes, plain_goes_on, stops_fit, none_fit, of_tree, of_stmt, turned_sound, body_sound, loop_gives, choice_gives, choice_end, choice_some, choice_sound, branch_step, branches_done, stmt_among, rest_among, tree_among, branch_among, others_among, turned_among, choice_is_end}
 use Rattle.pb_part_firsts.proofs.walk.+firsts.Goals as goal
 
 pub firsts_of-loop-stmt-init : goal.firsts_of-loop-stmt-init
-firsts_of-loop-stmt-init t c = record { sound = λ rows h. h; gives = λ range roles rows w h around left new g. g; fits = λ range cuts rows h a w d r s. record { areas = r; entries = s }; around = λ h. h; among = λ cuts a. a; small = λ rows h s. s }
+firsts_of-loop-stmt-init t c =
+    let none = c.new-stops.ensures.items in
+    record {
+      sound = λ rows h. h;
+      gives = λ range roles rows w h around left new g. block_begins c.args.held.now c.deref-stmt-items.result.now none g;
+      fits = λ range cuts rows h a w d r s. (none_fit range cuts _ none, record { areas = r; entries = s });
+      around = λ h. h;
+      among = λ cuts a. a;
+      small = λ rows h s. (ap are_small none, s);
+    }
 
 pub firsts_of-loop-stmt-preserved : goal.firsts_of-loop-stmt-preserved
 firsts_of-loop-stmt-preserved t c =
@@ -35,11 +44,12 @@ firsts_of-loop-stmt-preserved t c =
       fits = λ range cuts rows h a w d r q.
           let now = c.loop-stmt.invariant.fits range cuts rows h a w d r q in
           c.in_ok-left.ensures.fits range cuts rows (stmt_sound rows (ids_of held) items i s c.loop-stmt-test.true c.stmt-item.is (c.loop-stmt.invariant.sound rows h))
-          (stmt_among cuts items i s c.loop-stmt-test.true c.stmt-item.is (c.loop-stmt.invariant.among cuts a)) w d now.areas now.entries;
+          (stmt_among cuts items i s c.loop-stmt-test.true c.stmt-item.is (c.loop-stmt.invariant.among cuts a)) w d now.1.areas now.0 now.1.entries;
       around = λ h. c.in_ok-left.ensures.around (c.loop-stmt.invariant.around h);
       among = λ cuts a. rest_among cuts items i s c.loop-stmt-test.true c.stmt-item.is (c.loop-stmt.invariant.among cuts a);
       small = λ rows h k.
-          c.in_ok-left.ensures.small rows (stmt_sound rows (ids_of held) items i s c.loop-stmt-test.true c.stmt-item.is (c.loop-stmt.invariant.sound rows h)) (c.loop-stmt.invariant.small rows h k);
+          let now = c.loop-stmt.invariant.small rows h k in
+          c.in_ok-left.ensures.small rows (stmt_sound rows (ids_of held) items i s c.loop-stmt-test.true c.stmt-item.is (c.loop-stmt.invariant.sound rows h)) now.0 now.1;
     }
 
 pub firsts_of-returns-then-is_empty-clause-gives : goal.firsts_of-returns-then-is_empty-clause-gives
@@ -50,14 +60,20 @@ firsts_of-returns-then-is_empty-clause-gives t c = λ range roles rows w h aroun
     let none : c.loop-stmt.left.items ≡ [] = nil_from_length c.loop-stmt.left.items (search rules) in
     of_tree held c.args.block.now items same
     (c.loop-stmt.invariant.gives range roles rows w (tree_sound rows (ids_of held) c.args.block.now items same h) around _ _
-    (nobody_comes (first_in roles held (tree_of (drop c.loop-stmt.stmt-index items))) (ap flat none)))
+    (nobody_comes (first_behind roles held c.loop-stmt.stops.items (drop c.loop-stmt.stmt-index items)) (ap flat none)))
 
 pub firsts_of-returns-then-is_empty-clause-around : goal.firsts_of-returns-then-is_empty-clause-around
 firsts_of-returns-then-is_empty-clause-around t c = λ h. c.loop-stmt.invariant.around h
 
 pub firsts_of-returns-then-is_empty-clause-small : goal.firsts_of-returns-then-is_empty-clause-small
 firsts_of-returns-then-is_empty-clause-small t c = λ rows h k.
-    c.loop-stmt.invariant.small rows (tree_sound rows (ids_of c.args.held.now) c.args.block.now c.deref-stmt-items.result.now c.deref-stmt-items.ensures.value h) k
+    (c.loop-stmt.invariant.small rows (tree_sound rows (ids_of c.args.held.now) c.args.block.now c.deref-stmt-items.result.now c.deref-stmt-items.ensures.value h) k).1
+
+pub firsts_of-returns-then-is_empty-clause-fits : goal.firsts_of-returns-then-is_empty-clause-fits
+firsts_of-returns-then-is_empty-clause-fits t c = λ range cuts rows h a w d r q.
+    let items = c.deref-stmt-items.result.now in
+    let same = c.deref-stmt-items.ensures.value in
+    (c.loop-stmt.invariant.fits range cuts rows (tree_sound rows (ids_of c.args.held.now) c.args.block.now items same h) (tree_among cuts c.args.block.now items same a) w d r q).1
 
 pub firsts_of-returns-then-is_again-clause-gives : goal.firsts_of-returns-then-is_again-clause-gives
 firsts_of-returns-then-is_again-clause-gives t c = λ range roles rows w h around.
@@ -68,9 +84,10 @@ firsts_of-returns-then-is_again-clause-gives t c = λ range roles rows w h aroun
     let same = c.deref-stmt-items.ensures.value in
     let all = tree_sound rows (ids_of held) c.args.block.now items same h in
     let now = c.loop-stmt.invariant.sound rows all in
+    let is = sym c.is_again.ensures ∙ c.if-is_again.true in
     of_tree held c.args.block.now items same
     (c.loop-stmt.invariant.gives range roles rows w all around _ _
-    (block_cut rows held items i s c.loop-stmt-test.true c.stmt-item.is now (sym c.is_again.ensures ∙ c.if-is_again.true)
+    (block_cut rows held items i s c.loop-stmt-test.true c.stmt-item.is now is (c.in_ok-left.ensures.none is)
     (c.in_ok-left.ensures.gives range roles rows w (stmt_sound rows (ids_of held) items i s c.loop-stmt-test.true c.stmt-item.is now) (c.loop-stmt.invariant.around around))))
 
 pub firsts_of-returns-then-is_again-clause-around : goal.firsts_of-returns-then-is_again-clause-around
@@ -83,7 +100,21 @@ firsts_of-returns-then-is_again-clause-small t c = λ rows h k.
     let s = c.stmt-item.result in
     let held = c.args.held.now in
     let all = tree_sound rows (ids_of held) c.args.block.now items c.deref-stmt-items.ensures.value h in
-    c.in_ok-left.ensures.small rows (stmt_sound rows (ids_of held) items i s c.loop-stmt-test.true c.stmt-item.is (c.loop-stmt.invariant.sound rows all)) (c.loop-stmt.invariant.small rows all k)
+    let now = c.loop-stmt.invariant.small rows all k in
+    (c.in_ok-left.ensures.small rows (stmt_sound rows (ids_of held) items i s c.loop-stmt-test.true c.stmt-item.is (c.loop-stmt.invariant.sound rows all)) now.0 now.1).1
+
+pub firsts_of-returns-then-is_again-clause-fits : goal.firsts_of-returns-then-is_again-clause-fits
+firsts_of-returns-then-is_again-clause-fits t c = λ range cuts rows h a w d r q.
+    let items = c.deref-stmt-items.result.now in
+    let i = c.loop-stmt.stmt-index in
+    let s = c.stmt-item.result in
+    let held = c.args.held.now in
+    let same = c.deref-stmt-items.ensures.value in
+    let all = tree_sound rows (ids_of held) c.args.block.now items same h in
+    let among = tree_among cuts c.args.block.now items same a in
+    let now = c.loop-stmt.invariant.fits range cuts rows all among w d r q in
+    (c.in_ok-left.ensures.fits range cuts rows (stmt_sound rows (ids_of held) items i s c.loop-stmt-test.true c.stmt-item.is (c.loop-stmt.invariant.sound rows all))
+    (stmt_among cuts items i s c.loop-stmt-test.true c.stmt-item.is (c.loop-stmt.invariant.among cuts among)) w d now.1.areas now.0 now.1.entries).1
 
 pub firsts_of-returns-clause-gives : goal.firsts_of-returns-clause-gives
 firsts_of-returns-clause-gives t c = λ range roles rows w h around.
@@ -91,14 +122,80 @@ firsts_of-returns-clause-gives t c = λ range roles rows w h around.
     let held = c.args.held.now in
     let same = c.deref-stmt-items.ensures.value in
     of_tree held c.args.block.now items same
-    (block_done held items c.loop-stmt.stmt-index c.loop-stmt-test.false (c.loop-stmt.invariant.gives range roles rows w (tree_sound rows (ids_of held) c.args.block.now items same h) around))
+    (c.loop-stmt.invariant.gives range roles rows w (tree_sound rows (ids_of held) c.args.block.now items same h) around _ _
+    (block_done held _ items c.loop-stmt.stmt-index c.loop-stmt-test.false (given_at c.deref.ensures.value (c.in_ok-rest.ensures.gives range roles (c.loop-stmt.invariant.around around)))))
 
 pub firsts_of-returns-clause-around : goal.firsts_of-returns-clause-around
-firsts_of-returns-clause-around t c = λ h. c.loop-stmt.invariant.around h
+firsts_of-returns-clause-around t c = λ h. c.in_ok-rest.ensures.around (c.loop-stmt.invariant.around h)
 
 pub firsts_of-returns-clause-small : goal.firsts_of-returns-clause-small
 firsts_of-returns-clause-small t c = λ rows h k.
-    c.loop-stmt.invariant.small rows (tree_sound rows (ids_of c.args.held.now) c.args.block.now c.deref-stmt-items.result.now c.deref-stmt-items.ensures.value h) k
+    let now = c.loop-stmt.invariant.small rows (tree_sound rows (ids_of c.args.held.now) c.args.block.now c.deref-stmt-items.result.now c.deref-stmt-items.ensures.value h) k in
+    c.in_ok-rest.ensures.small (ap are_small c.deref.ensures.value ∙ now.0) now.1
+
+pub firsts_of-returns-clause-fits : goal.firsts_of-returns-clause-fits
+firsts_of-returns-clause-fits t c = λ range cuts rows h a w d r q.
+    let items = c.deref-stmt-items.result.now in
+    let same = c.deref-stmt-items.ensures.value in
+    let now = c.loop-stmt.invariant.fits range cuts rows (tree_sound rows (ids_of c.args.held.now) c.args.block.now items same h) (tree_among cuts c.args.block.now items same a) w d r q in
+    c.in_ok-rest.ensures.fits range cuts now.1.areas (stops_fit range cuts _ _ c.deref.ensures.value now.0) now.1.entries
+
+pub firsts_at-returns-then-is_plain-clause-gives : goal.firsts_at-returns-then-is_plain-clause-gives
+firsts_at-returns-then-is_plain-clause-gives t c = λ range roles rows w h around. plain_passes _ (c.in_ok-is_plain.ensures.gives c.if-is_plain.true range roles rows c.args.held.now h)
+
+pub firsts_at-returns-then-is_plain-clause-none : goal.firsts_at-returns-then-is_plain-clause-none
+firsts_at-returns-then-is_plain-clause-none t c = λ e. absurd (false≢true (sym (plain_goes_on (plain_stmt c.args.stmt.now).stmt (sym c.in_ok-is_plain.ensures.is ∙ c.if-is_plain.true)) ∙ e))
+
+pub firsts_at-returns-then-is_plain-clause-around : goal.firsts_at-returns-then-is_plain-clause-around
+firsts_at-returns-then-is_plain-clause-around t c = λ h. h
+
+pub firsts_at-returns-then-is_plain-clause-small : goal.firsts_at-returns-then-is_plain-clause-small
+firsts_at-returns-then-is_plain-clause-small t c = λ rows h s q. (c.in_ok-is_plain.ensures.small rows (ids_of c.args.held.now) h s, q)
+
+pub firsts_at-returns-then-is_plain-clause-fits : goal.firsts_at-returns-then-is_plain-clause-fits
+firsts_at-returns-then-is_plain-clause-fits t c = λ range cuts rows h a w d r s q. (c.in_ok-is_plain.ensures.fits range cuts rows (ids_of c.args.held.now) h a s, record { areas = r; entries = q })
+
+pub firsts_at-returns-then-is_empty-clause-gives : goal.firsts_at-returns-then-is_empty-clause-gives
+firsts_at-returns-then-is_empty-clause-gives t c = λ range roles rows w h around.
+    let none : c.in_ok-come.come.items ≡ [] = nil_from_length c.in_ok-come.come.items (search rules) in
+    nobody_passes _ (ap flat none) (given_at (c.deref.ensures.value ∙ c.in_ok-is_plain.ensures.other c.if-is_plain.false) (c.in_ok-come.ensures.gives range roles around))
+
+pub firsts_at-returns-then-is_empty-clause-none : goal.firsts_at-returns-then-is_empty-clause-none
+firsts_at-returns-then-is_empty-clause-none t c = λ e. c.clear.ensures.items
+
+pub firsts_at-returns-then-is_empty-clause-around : goal.firsts_at-returns-then-is_empty-clause-around
+firsts_at-returns-then-is_empty-clause-around t c = λ h. c.in_ok-come.ensures.around h
+
+pub firsts_at-returns-then-is_empty-clause-small : goal.firsts_at-returns-then-is_empty-clause-small
+firsts_at-returns-then-is_empty-clause-small t c = λ rows h s q.
+    (ap are_small c.clear.ensures.items, c.in_ok-come.ensures.small (ap are_small (c.deref.ensures.value ∙ c.in_ok-is_plain.ensures.other c.if-is_plain.false) ∙ s) q)
+
+pub firsts_at-returns-then-is_empty-clause-fits : goal.firsts_at-returns-then-is_empty-clause-fits
+firsts_at-returns-then-is_empty-clause-fits t c = λ range cuts rows h a w d r s q. (
+  none_fit range cuts _ c.clear.ensures.items,
+  c.in_ok-come.ensures.fits range cuts r (stops_fit range cuts _ _ (c.deref.ensures.value ∙ c.in_ok-is_plain.ensures.other c.if-is_plain.false) s) q,
+)
+
+pub firsts_at-returns-clause-gives : goal.firsts_at-returns-clause-gives
+firsts_at-returns-clause-gives t c = IfOk-weaker c.other_firsts.result _ _ (λ left f range roles rows w h around.
+    other_passes _ c.clear.ensures.items (given_at (c.deref.ensures.value ∙ c.in_ok-is_plain.ensures.other c.if-is_plain.false) (c.in_ok-come.ensures.gives range roles around))
+    (f (sym c.in_ok-is_plain.ensures.is ∙ c.if-is_plain.false) range roles rows w h (c.in_ok-come.ensures.around around))) c.other_firsts.ensures.gives
+
+pub firsts_at-returns-clause-none : goal.firsts_at-returns-clause-none
+firsts_at-returns-clause-none t c = IfOk-weaker c.other_firsts.result _ _ (λ left f e. c.clear.ensures.items) c.other_firsts.ensures.around
+
+pub firsts_at-returns-clause-around : goal.firsts_at-returns-clause-around
+firsts_at-returns-clause-around t c = IfOk-weaker c.other_firsts.result _ _ (λ left f h. f (c.in_ok-come.ensures.around h)) c.other_firsts.ensures.around
+
+pub firsts_at-returns-clause-small : goal.firsts_at-returns-clause-small
+firsts_at-returns-clause-small t c = IfOk-weaker c.other_firsts.result _ _ (λ left f rows h s q.
+    (ap are_small c.clear.ensures.items, f rows h (c.in_ok-come.ensures.small (ap are_small (c.deref.ensures.value ∙ c.in_ok-is_plain.ensures.other c.if-is_plain.false) ∙ s) q)))
+    c.other_firsts.ensures.small
+
+pub firsts_at-returns-clause-fits : goal.firsts_at-returns-clause-fits
+firsts_at-returns-clause-fits t c = IfOk-weaker c.other_firsts.result _ _ (λ left f range cuts rows h a w d r s q.
+    let now = c.in_ok-come.ensures.fits range cuts r (stops_fit range cuts _ _ (c.deref.ensures.value ∙ c.in_ok-is_plain.ensures.other c.if-is_plain.false) s) q in
+    (none_fit range cuts _ c.clear.ensures.items, f range cuts rows h a w d now.areas now.entries)) c.other_firsts.ensures.fits
 
 pub loop_firsts-returns-clause-gives : goal.loop_firsts-returns-clause-gives
 loop_firsts-returns-clause-gives t c = λ range roles rows m k w h around.
@@ -170,57 +267,11 @@ firsts_among-returns-clause-around t c = λ h. c.loop-branch.invariant.around h
 pub firsts_among-returns-clause-small : goal.firsts_among-returns-clause-small
 firsts_among-returns-clause-small t c = λ rows h k. c.loop-branch.invariant.small rows h k
 
-pub firsts_at-returns-in-Message-clause-small : goal.firsts_at-returns-in-Message-clause-small
-firsts_at-returns-in-Message-clause-small t c =
-    IfOk-weaker c.message_firsts.result _ _ (λ left f rows h k.
-    f rows (ids_of c.args.held.now) (turned_sound rows (ids_of c.args.held.now) _ _ (plain_message c.args.stmt.now c.in-Message.label c.in-Message.from c.in-Message.to c.in-Message.is) h) k)
-    c.message_firsts.ensures.small
-
-pub firsts_at-returns-in-Foreach-clause-small : goal.firsts_at-returns-in-Foreach-clause-small
-firsts_at-returns-in-Foreach-clause-small t c =
-    IfOk-weaker c.foreach_firsts.result _ _ (λ left f rows h k.
-    f rows (ids_of c.args.held.now) (plain_block c.in-Foreach.items).mark (turned_sound rows (ids_of c.args.held.now) _ _ (plain_foreach c.args.stmt.now c.in-Foreach.low c.in-Foreach.high c.in-Foreach.items c.in-Foreach.is) h) k)
-    c.foreach_firsts.ensures.small
-
-pub firsts_at-returns-in-Loop-clause-small : goal.firsts_at-returns-in-Loop-clause-small
-firsts_at-returns-in-Loop-clause-small t c =
+pub other_firsts-returns-in-Loop-clause-small : goal.other_firsts-returns-in-Loop-clause-small
+other_firsts-returns-in-Loop-clause-small t c =
     IfOk-weaker c.loop_firsts.result _ _ (λ left f rows h k.
     f rows (plain_block c.in-Loop.body).mark (turned_sound rows (ids_of c.args.held.now) _ _ (plain_loop c.args.stmt.now c.in-Loop.id c.in-Loop.body c.in-Loop.is) h) k)
     c.loop_firsts.ensures.small
-
-pub firsts_at-returns-in-Run-clause-gives : goal.firsts_at-returns-in-Run-clause-gives
-firsts_at-returns-in-Run-clause-gives t c =
-    let held = c.args.held.now in
-    let m = (plain_stmt c.args.stmt.now).mark in
-    let is = plain_run c.args.stmt.now c.in-Run.kernel c.in-Run.at c.in-Run.is in
-    IfOk-weaker c.run_firsts.result _ _ (λ left f range roles rows w h around.
-    of_stmt held m _ _ is (run_gives held m c.in-Run.kernel c.in-Run.at (f range roles (run_end rows (ids_of held) c.in-Run.kernel c.in-Run.at (turned_sound rows (ids_of held) _ _ is h)) around)))
-    c.run_firsts.ensures.gives
-
-pub firsts_of-returns-then-is_empty-clause-fits : goal.firsts_of-returns-then-is_empty-clause-fits
-firsts_of-returns-then-is_empty-clause-fits t c = λ range cuts rows h a w d r q.
-    let items = c.deref-stmt-items.result.now in
-    let same = c.deref-stmt-items.ensures.value in
-    c.loop-stmt.invariant.fits range cuts rows (tree_sound rows (ids_of c.args.held.now) c.args.block.now items same h) (tree_among cuts c.args.block.now items same a) w d r q
-
-pub firsts_of-returns-then-is_again-clause-fits : goal.firsts_of-returns-then-is_again-clause-fits
-firsts_of-returns-then-is_again-clause-fits t c = λ range cuts rows h a w d r q.
-    let items = c.deref-stmt-items.result.now in
-    let i = c.loop-stmt.stmt-index in
-    let s = c.stmt-item.result in
-    let held = c.args.held.now in
-    let same = c.deref-stmt-items.ensures.value in
-    let all = tree_sound rows (ids_of held) c.args.block.now items same h in
-    let among = tree_among cuts c.args.block.now items same a in
-    let now = c.loop-stmt.invariant.fits range cuts rows all among w d r q in
-    c.in_ok-left.ensures.fits range cuts rows (stmt_sound rows (ids_of held) items i s c.loop-stmt-test.true c.stmt-item.is (c.loop-stmt.invariant.sound rows all))
-    (stmt_among cuts items i s c.loop-stmt-test.true c.stmt-item.is (c.loop-stmt.invariant.among cuts among)) w d now.areas now.entries
-
-pub firsts_of-returns-clause-fits : goal.firsts_of-returns-clause-fits
-firsts_of-returns-clause-fits t c = λ range cuts rows h a w d r q.
-    let items = c.deref-stmt-items.result.now in
-    let same = c.deref-stmt-items.ensures.value in
-    c.loop-stmt.invariant.fits range cuts rows (tree_sound rows (ids_of c.args.held.now) c.args.block.now items same h) (tree_among cuts c.args.block.now items same a) w d r q
 
 pub loop_firsts-returns-clause-fits : goal.loop_firsts-returns-clause-fits
 loop_firsts-returns-clause-fits t c = λ range cuts rows k h a w d r q.
@@ -242,36 +293,44 @@ choice_firsts-returns-clause-fits t c = λ range cuts rows kernel h a w d r q.
 pub firsts_among-returns-clause-fits : goal.firsts_among-returns-clause-fits
 firsts_among-returns-clause-fits t c = λ range cuts rows h a w d r q. c.loop-branch.invariant.fits range cuts rows h a w d r q
 
-pub firsts_at-returns-in-Message-clause-fits : goal.firsts_at-returns-in-Message-clause-fits
-firsts_at-returns-in-Message-clause-fits t c =
-    let is = plain_message c.args.stmt.now c.in-Message.label c.in-Message.from c.in-Message.to c.in-Message.is in
-    IfOk-weaker c.message_firsts.result _ _ (λ left f range cuts rows h a w d r q.
-    f range cuts rows (ids_of c.args.held.now) (turned_sound rows (ids_of c.args.held.now) _ _ is h) (turned_among cuts _ _ is a) r q) c.message_firsts.ensures.fits
-
-pub firsts_at-returns-in-Foreach-clause-fits : goal.firsts_at-returns-in-Foreach-clause-fits
-firsts_at-returns-in-Foreach-clause-fits t c =
-    let is = plain_foreach c.args.stmt.now c.in-Foreach.low c.in-Foreach.high c.in-Foreach.items c.in-Foreach.is in
-    IfOk-weaker c.foreach_firsts.result _ _ (λ left f range cuts rows h a w d r q.
-    f range cuts rows (ids_of c.args.held.now) (plain_block c.in-Foreach.items).mark (turned_sound rows (ids_of c.args.held.now) _ _ is h) (turned_among cuts _ _ is a) r q) c.foreach_firsts.ensures.fits
-
-pub firsts_at-returns-in-Loop-clause-fits : goal.firsts_at-returns-in-Loop-clause-fits
-firsts_at-returns-in-Loop-clause-fits t c =
+pub other_firsts-returns-in-Loop-clause-fits : goal.other_firsts-returns-in-Loop-clause-fits
+other_firsts-returns-in-Loop-clause-fits t c =
     let is = plain_loop c.args.stmt.now c.in-Loop.id c.in-Loop.body c.in-Loop.is in
     IfOk-weaker c.loop_firsts.result _ _ (λ left f range cuts rows h a w d r q.
     f range cuts rows (plain_block c.in-Loop.body).mark (turned_sound rows (ids_of c.args.held.now) _ _ is h) (turned_among cuts _ _ is a) w d r q) c.loop_firsts.ensures.fits
 
-pub firsts_at-returns-in-Again-clause-fits : goal.firsts_at-returns-in-Again-clause-fits
-firsts_at-returns-in-Again-clause-fits t c =
+pub other_firsts-returns-in-Again-clause-fits : goal.other_firsts-returns-in-Again-clause-fits
+other_firsts-returns-in-Again-clause-fits t c =
     IfOk-weaker c.again_firsts.result _ _ (λ left f range cuts rows h a w d r q. f range cuts d r q) c.again_firsts.ensures.fits
 
-pub firsts_at-returns-in-Choice-clause-fits : goal.firsts_at-returns-in-Choice-clause-fits
-firsts_at-returns-in-Choice-clause-fits t c =
+pub other_firsts-returns-in-Choice-clause-fits : goal.other_firsts-returns-in-Choice-clause-fits
+other_firsts-returns-in-Choice-clause-fits t c =
     let is = plain_choice c.args.stmt.now c.in-Choice.kernel c.in-Choice.at c.in-Choice.branches c.in-Choice.is in
     IfOk-weaker c.choice_firsts.result _ _ (λ left f range cuts rows h a w d r q.
     (rw c.deref.ensures.value at (f range cuts rows c.in-Choice.kernel)) (turned_sound rows (ids_of c.args.held.now) _ _ is h) (turned_among cuts _ _ is a) w d r q) c.choice_firsts.ensures.fits
 
-pub firsts_at-returns-in-Run-clause-fits : goal.firsts_at-returns-in-Run-clause-fits
-firsts_at-returns-in-Run-clause-fits t c =
-    let is = plain_run c.args.stmt.now c.in-Run.kernel c.in-Run.at c.in-Run.is in
-    IfOk-weaker c.run_firsts.result _ _ (λ left f range cuts rows h a w d r q.
-    f range cuts rows (run_is_end rows (ids_of c.args.held.now) c.in-Run.kernel c.in-Run.at (turned_sound rows (ids_of c.args.held.now) _ _ is h)) (turned_among cuts _ _ is a) r q) c.run_firsts.ensures.fits
+pub other_firsts-returns-in-Message-clause-fits : goal.other_firsts-returns-in-Message-clause-fits
+other_firsts-returns-in-Message-clause-fits t c = λ range cuts rows h a w d r q. record { areas = r; entries = q }
+
+pub other_firsts-returns-in-Loop-clause-gives : goal.other_firsts-returns-in-Loop-clause-gives
+other_firsts-returns-in-Loop-clause-gives t c =
+    let held = c.args.held.now in
+    let m = (plain_stmt c.args.stmt.now).mark in
+    let is = plain_loop c.args.stmt.now c.in-Loop.id c.in-Loop.body c.in-Loop.is in
+    IfOk-weaker c.loop_firsts.result _ _ (λ left f k range roles rows w h around.
+    of_stmt held m _ _ is (f range roles rows m (plain_block c.in-Loop.body).mark w (turned_sound rows (ids_of held) _ _ is h) around)) c.loop_firsts.ensures.gives
+
+pub other_firsts-returns-in-Again-clause-gives : goal.other_firsts-returns-in-Again-clause-gives
+other_firsts-returns-in-Again-clause-gives t c =
+    let held = c.args.held.now in
+    let m = (plain_stmt c.args.stmt.now).mark in
+    IfOk-weaker c.again_firsts.result _ _ (λ left f k range roles rows w h around.
+    of_stmt held m _ _ (plain_again c.args.stmt.now c.in-Again.id c.in-Again.is) (f range roles m around)) c.again_firsts.ensures.gives
+
+pub other_firsts-returns-in-Choice-clause-gives : goal.other_firsts-returns-in-Choice-clause-gives
+other_firsts-returns-in-Choice-clause-gives t c =
+    let held = c.args.held.now in
+    let m = (plain_stmt c.args.stmt.now).mark in
+    let is = plain_choice c.args.stmt.now c.in-Choice.kernel c.in-Choice.at c.in-Choice.branches c.in-Choice.is in
+    IfOk-weaker c.choice_firsts.result _ _ (λ left f k range roles rows w h around.
+    of_stmt held m _ _ is ((rw c.deref.ensures.value at (f range roles rows m c.in-Choice.kernel)) w (turned_sound rows (ids_of held) _ _ is h) around)) c.choice_firsts.ensures.gives

@@ -15,20 +15,21 @@ use Rattle.pb_part_firsts.specs.Takers.{IsWhole}
 use Rattle.pb_part_firsts.specs.Firsts.{Gives, first_in, are_small}
 use Rattle.pb_part_firsts.specs.Parts.{flat, AreAround}
 use Rattle.pb_part_firsts.specs.Stopping.{AmongGives, first_among}
-use Rattle.pb_part_firsts.proofs.Steps.{tree_of, trees_of}
+use Rattle.pb_part_firsts.proofs.Steps.{tree_of, trees_of, first_behind}
 use Rattle.pb_part_firsts.proofs.walk.+firsts.Given as goal
 
 abbrev pub invariant-firsts_of-loop-stmt : goal.invariant-firsts_of-loop-stmt
 invariant-firsts_of-loop-stmt l = record {
   sound : (rows : Rows) → is_block rows false (ids_of l.held) (tree_of l.stmt-items) ≡ true → is_block rows false (ids_of l.held) (tree_of (drop l.stmt-index l.stmt-items)) ≡ true;
   gives : (range : NRange) (roles : List CoreRole) (rows : Rows) → IsWhole range roles l.whole → is_block rows false (ids_of l.held) (tree_of l.stmt-items) ≡ true → AreAround l.fn.reach.items → (left : List Area) (new : List Entry) →
-      Gives range roles (flat l.left.items) left l.out.items new (first_in roles l.held (tree_of (drop l.stmt-index l.stmt-items))) →
+      Gives range roles (flat l.left.items) left l.out.items new (first_behind roles l.held l.stops.items (drop l.stmt-index l.stmt-items)) →
       Gives range roles (flat l.fn.reach.items) left l.initial.out.items new (first_in roles l.held (tree_of l.stmt-items));
   fits : (range : NRange) (cuts : List Lin) (rows : Rows) → is_block rows false (ids_of l.held) (tree_of l.stmt-items) ≡ true → AreAmong (block_cuts None (tree_of l.stmt-items)) cuts →
-      All (Fits range cuts) l.whole → HeldFit range cuts l.held → All (Fits range cuts) (flat l.fn.reach.items) → EntriesFit range cuts l.initial.out.items → AllFit range cuts (flat l.left.items) l.out.items;
+      All (Fits range cuts) l.whole → HeldFit range cuts l.held → All (Fits range cuts) (flat l.fn.reach.items) → EntriesFit range cuts l.initial.out.items →
+      EntriesFit range cuts l.stops.items × AllFit range cuts (flat l.left.items) l.out.items;
   around : AreAround l.fn.reach.items → AreAround l.left.items;
   among : (cuts : List Lin) → AreAmong (block_cuts None (tree_of l.stmt-items)) cuts → AreAmong (block_cuts None (tree_of (drop l.stmt-index l.stmt-items))) cuts;
-  small : (rows : Rows) → is_block rows false (ids_of l.held) (tree_of l.stmt-items) ≡ true → are_small l.initial.out.items ≡ true → are_small l.out.items ≡ true;
+  small : (rows : Rows) → is_block rows false (ids_of l.held) (tree_of l.stmt-items) ≡ true → are_small l.initial.out.items ≡ true → (are_small l.stops.items ≡ true) × (are_small l.out.items ≡ true);
 }
 
 abbrev pub invariant-firsts_among-loop-branch : goal.invariant-firsts_among-loop-branch

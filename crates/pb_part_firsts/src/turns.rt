@@ -1,0 +1,117 @@
+//! Ranks that stop at areas, one after the other.
+
+ghost use Rattle.std.specs.Prelude.{◌≡◌, ◌&&◌, not, ℕ, ℤ, true, List, IfOk};
+ghost use Rattle.std.specs.List.{All};
+ghost use Rattle.pb_affine.specs.declared.lin.Lin.{Lin};
+ghost use Rattle.pb_affine.specs.declared.range.NRange.{NRange};
+ghost use Rattle.pb_core_language.specs.declared.protocol.CoreRole.{CoreRole};
+ghost use Rattle.pb_part_areas.specs.Areas.{has, have};
+ghost use Rattle.pb_part_areas.specs.Fits.{Fits};
+ghost use Rattle.pb_part_firsts.specs.Firsts.{Gives, is_small_kind, are_small};
+ghost use Rattle.pb_part_firsts.specs.Fitting.{AllFit, EntriesFit};
+ghost use Rattle.pb_part_firsts.specs.Parts.{flat, AreAround};
+ghost use Rattle.pb_part_firsts.specs.Stopping.{Stops};
+ghost use Rattle.pb_part_firsts.specs.Turns.{first_stop};
+ghost use Rattle.pb_part_firsts.specs.Coming.{Turned, ComingFits};
+
+use crate::firsts::{Entry, Kind};
+use crate::parts::{Part, are_past, stop_parts};
+use pb_part_areas::{Area, NoMemory, attach, one, tidied};
+use std::alloc::Global;
+
+/// Those that come so far: of those in the parts all but those at some areas, who stop there with what is found, which isn't
+/// added yet.
+#[derive(Drop)]
+pub(crate) struct Coming {
+    pub parts: Vec<Part>,
+    pub at: Vec<Area>,
+    pub kind: Kind,
+}
+
+/// True only where the kinds are written in the same way. Takes no memory.
+fn is_same(a: Kind, b: Kind) -> bool
+    ensures { result ≡ true → a ≡ b }
+{
+    a == b
+}
+
+/// True only where the ranks of the area find something other than a receive, and nobody of the parts is one of them. So it
+/// mostly is of a sender that has sent before. Takes no memory.
+fn is_past(parts: &[Part], stop: Entry) -> bool
+    ensures { result ≡ true → AreAround parts.now → (n : ℤ) (role : ℕ) (x : ℤ) → have (flat parts.now) n role x && not (has stop.area n role x) ≡ have (flat parts.now) n role x }
+{
+    is_same(stop.kind, Kind::Other) && are_past(parts, stop.area)
+}
+
+/// Adds what those at the areas find, and leaves the others.
+fn settled(alloc: Global, coming: Coming, out: &mut Vec<Entry>) -> Result<Vec<Part>, NoMemory>
+    ensures gives { IfOk result (λ left. (roles : List CoreRole) → AreAround coming.parts.items → Stops roles (flat coming.parts.items) coming.at.items (flat left.items) out.old.items out.new.items coming.kind) }
+    ensures around { IfOk result (λ left. AreAround coming.parts.items → AreAround left.items) }
+    ensures small { IfOk result (λ left. is_small_kind coming.kind ≡ true → are_small out.old.items ≡ true → are_small out.new.items ≡ true) }
+    ensures fits { IfOk result (λ left. (range : NRange) (cuts : List Lin) → ComingFits range cuts coming out.old.items → AllFit range cuts (flat left.items) out.new.items) }
+{
+    let at = tidied(alloc, coming.at)?;
+    let left = stop_parts(alloc, coming.parts, &at, coming.kind, out)?;
+    Ok(left)
+}
+
+/// Those that come past one more area.
+fn with_stop(
+    alloc: Global,
+    coming: Coming,
+    stop: Entry,
+    out: &mut Vec<Entry>,
+) -> Result<Coming, NoMemory>
+    ensures gives { IfOk result (λ next. (roles : List CoreRole) → AreAround coming.parts.items → Turned roles coming out.old.items next out.new.items stop) }
+    ensures around { IfOk result (λ next. AreAround coming.parts.items → AreAround next.parts.items) }
+    ensures kind { IfOk result (λ next. is_small_kind stop.kind ≡ true → is_small_kind coming.kind ≡ true → is_small_kind next.kind ≡ true) }
+    ensures small { IfOk result (λ next. is_small_kind coming.kind ≡ true → are_small out.old.items ≡ true → are_small out.new.items ≡ true) }
+    ensures fits { IfOk result (λ next. (range : NRange) (cuts : List Lin) → Fits range cuts stop.area → ComingFits range cuts coming out.old.items → ComingFits range cuts next out.new.items) }
+{
+    if is_same(coming.kind, stop.kind) {
+        let mut at = coming.at;
+        attach(&mut at, stop.area)?;
+        return Ok(Coming {
+            parts: coming.parts,
+            at,
+            kind: coming.kind,
+        });
+    }
+    if is_past(&coming.parts, stop) {
+        return Ok(coming);
+    }
+    let parts = settled(alloc, coming, out)?;
+    let at = one(alloc, stop.area)?;
+    Ok(Coming {
+        parts,
+        at,
+        kind: stop.kind,
+    })
+}
+
+/// Gives the ranks of the parts what they find at the first of these areas that holds of them, and leaves those of which none
+/// holds. Areas one after the other at which the same is found are taken together.
+pub(crate) fn stop_each(
+    alloc: Global,
+    reach: Vec<Part>,
+    stops: &[Entry],
+    out: &mut Vec<Entry>,
+) -> Result<Vec<Part>, NoMemory>
+    ensures gives { IfOk result (λ left. (range : NRange) (roles : List CoreRole) → AreAround reach.items → Gives range roles (flat reach.items) (flat left.items) out.old.items out.new.items (first_stop roles stops.now)) }
+    ensures around { IfOk result (λ left. AreAround reach.items → AreAround left.items) }
+    ensures small { IfOk result (λ left. are_small stops.now ≡ true → are_small out.old.items ≡ true → are_small out.new.items ≡ true) }
+    ensures fits { IfOk result (λ left. (range : NRange) (cuts : List Lin) → All (Fits range cuts) (flat reach.items) → EntriesFit range cuts stops.now → EntriesFit range cuts out.old.items → AllFit range cuts (flat left.items) out.new.items) }
+{
+    let mut coming = Coming {
+        parts: reach,
+        at: Vec::new(alloc),
+        kind: Kind::Other,
+    };
+    for stop in stops {
+        if coming.parts.is_empty() {
+            return Ok(coming.parts);
+        }
+        coming = with_stop(alloc, coming, *stop, out)?;
+    }
+    settled(alloc, coming, out)
+}

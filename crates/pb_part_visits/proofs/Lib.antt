@@ -1,0 +1,5 @@
+pub mod Meets
+pub mod Narrowed
+pub mod VisitLists
+pub mod EndAreas
+pub mod EndFits

@@ -1,0 +1,11 @@
+//! The ends of a foreach: what the ranks at them find, in which order, and the areas of these ranks.
+#![tactic(auto)]
+
+mod ends;
+mod lins;
+mod meet;
+mod visit;
+
+pub use ends::{first_areas, passed_area};
+pub use lins::{back, put};
+pub use visit::{Finding, Visit, moving_in, visits_in};
