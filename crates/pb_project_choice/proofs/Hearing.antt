@@ -16,14 +16,15 @@ use Rattle.pb_part_areas.specs.declared.area.Area.{Area}
 use Rattle.pb_part_areas.specs.Areas.{has, have}
 use Rattle.pb_part_areas.specs.Fits.{Fits}
 use Rattle.pb_cases.specs.Breakpoints.{IsCut}
-use Rattle.pb_choice.specs.Clashes.{same_base, agrees, IsAgreement}
+use Rattle.pb_choice_entries.specs.Clashes.{same_base, agrees, IsAgreement}
 use Rattle.pb_core_language.specs.declared.tree.CoreEnd.{CoreEnd}
 use Rattle.pb_core_language.specs.Sound.{is_small}
 use Rattle.pb_part_firsts.specs.declared.firsts.Entry.{Entry}
 use Rattle.pb_part_firsts.specs.declared.firsts.Kind.{Kind}
 use Rattle.pb_part_firsts.specs.declared.firsts.Kind.TheVariants.{Receive, Other, Again}
 use Rattle.pb_part_firsts.specs.declared.firsts.Source.{Source}
-use Rattle.pb_part_firsts.specs.Firsts.{is_small_off, is_small_kind, are_small}
+use Rattle.pb_part_firsts.specs.Firsts.{is_small_kind, are_small}
+use Rattle.pb_part_visits.specs.Visits.{is_small_off}
 use Rattle.pb_part_firsts.specs.Fitting.{EntriesFit}
 use Rattle.pb_part_takers.specs.Ends.{IsEndArea}
 use Rattle.pb_core_flat.specs.Seated.{is_at}

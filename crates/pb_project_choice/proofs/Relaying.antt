@@ -12,7 +12,7 @@ use Rattle.pb_affine.specs.declared.range.NRange.{NRange}
 use Rattle.pb_affine.specs.Values.{value, hold, IsSmall}
 use Rattle.pb_part_areas.specs.declared.area.Area.{Area}
 use Rattle.pb_part_areas.specs.Areas.{has, have}
-use Rattle.pb_choice.specs.Clashes.{agrees}
+use Rattle.pb_choice_entries.specs.Clashes.{agrees}
 use Rattle.pb_choice.proofs.Origins.{none_left, none_right}
 use Rattle.pb_choice.proofs.Seatings.{seated_first}
 use Rattle.pb_core_language.specs.declared.protocol.CoreRole.{CoreRole}
@@ -30,7 +30,8 @@ use Rattle.pb_part_firsts.specs.declared.firsts.Entry.{Entry}
 use Rattle.pb_part_firsts.specs.declared.firsts.Kind.{Kind}
 use Rattle.pb_part_firsts.specs.declared.firsts.Kind.TheVariants.{Receive, Other, Again}
 use Rattle.pb_part_firsts.specs.declared.firsts.Source.{Source}
-use Rattle.pb_part_firsts.specs.Firsts.{finds, outcome_of, is_small_off, is_small_kind, are_small}
+use Rattle.pb_part_firsts.specs.Firsts.{finds, outcome_of, is_small_kind, are_small}
+use Rattle.pb_part_visits.specs.Visits.{is_small_off}
 use Rattle.pb_part_firsts.specs.Fitting.{EntriesFit}
 use Rattle.pb_core_flat.specs.OutcomeSets.{outcome_eq, is_outcome}
 use Rattle.pb_core_flat.specs.Seated.{rank, is_rank, is_at}

@@ -14,7 +14,7 @@ use Rattle.pb_part_areas.specs.declared.area.Area.{Area}
 use Rattle.pb_part_areas.specs.Areas.{has, have}
 use Rattle.pb_part_areas.specs.Fits.{Fits}
 use Rattle.pb_cases.specs.Breakpoints.{IsCut}
-use Rattle.pb_choice.specs.Clashes.{is_label}
+use Rattle.pb_choice_entries.specs.Clashes.{is_label}
 use Rattle.pb_choice.proofs.Members.{given}
 use Rattle.pb_core_language.specs.declared.protocol.CoreRole.{CoreRole}
 use Rattle.pb_core_language.specs.Flat.{branch_at}

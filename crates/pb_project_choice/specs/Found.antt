@@ -16,7 +16,7 @@ use Rattle.pb_part_takers.specs.Loops.{ids_of, held_of}
 use Rattle.pb_part_firsts.specs.declared.firsts.Entry.{Entry}
 use Rattle.pb_part_firsts.specs.Firsts.{finds, are_small}
 use Rattle.pb_part_firsts.specs.Fitting.{EntriesFit}
-use Rattle.pb_choice.specs.Clashes.{is_label}
+use Rattle.pb_choice_entries.specs.Clashes.{is_label}
 use Rattle.pb_shape.specs.Places.{Scope}
 use Rattle.pb_shape.specs.Loops.{Around}
 use Rattle.pb_shape.specs.Tabled.{count}

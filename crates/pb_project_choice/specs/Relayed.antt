@@ -6,7 +6,7 @@ use Rattle.pb_affine.specs.declared.range.NRange.{NRange}
 use Rattle.pb_affine.specs.Values.{hold}
 use Rattle.pb_part_areas.specs.declared.area.Area.{Area}
 use Rattle.pb_cases.specs.Breakpoints.{IsCut}
-use Rattle.pb_choice.specs.Clashes.{agrees}
+use Rattle.pb_choice_entries.specs.Clashes.{agrees}
 use Rattle.pb_core_language.specs.declared.protocol.CoreRole.{CoreRole}
 use Rattle.pb_core_language.specs.declared.tree.CoreEnd.{CoreEnd}
 use Rattle.pb_core_language.specs.Sound.{is_small}

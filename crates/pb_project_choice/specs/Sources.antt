@@ -3,7 +3,7 @@ use Rattle.std.specs.Prelude.{◌≡◌, ℕ, ℤ, pos, Bool, true, false, ◌&&
 use Rattle.std.specs.List.{list_any}
 use Rattle.std.specs.Ordering.{int_eq}
 use Rattle.pb_part_areas.specs.Areas.{has}
-use Rattle.pb_choice.specs.Clashes.{same_base}
+use Rattle.pb_choice_entries.specs.Clashes.{same_base}
 use Rattle.pb_core_language.specs.declared.tree.CoreEnd.{CoreEnd}
 use Rattle.pb_core_language.specs.Flat.{takes_part_among}
 use Rattle.pb_core_language.specs.FlatOf.{flat_branches}

@@ -1,6 +1,6 @@
 ghost use Rattle.std.specs.Prelude.{◌≡◌, ◌≤◌, ◌++◌, ℕ, ℤ, pos, Bool, length, List, [], ◌∷◌, true, IfOk, OnOk, IfSome};
 ghost use Rattle.std.specs.List.{All, list_any};
-ghost use Rattle.pb_choice.specs.Clashes.{same_base};
+ghost use Rattle.pb_choice_entries.specs.Clashes.{same_base};
 ghost use Rattle.pb_core_language.specs.Sound.{is_small};
 ghost use Rattle.pb_core_language.specs.Tree.{BranchTrees};
 ghost use Rattle.pb_core_language.specs.Verdict.{IsIn};
@@ -20,7 +20,7 @@ ghost use Rattle.pb_project_choice.specs.Relayed.{HaveCallers, IsRelayed, AreRel
 use crate::entries::Branch;
 use crate::guards::guards_in;
 use pb_affine::{Base, Lin};
-use pb_choice::agreement;
+use pb_choice_entries::agreement;
 use pb_core_language::CoreEnd;
 use pb_local::{Peer, Relay, Test};
 use pb_part_areas::{Area, gather_all, one, without};

@@ -4,7 +4,7 @@ ghost use Rattle.pb_affine.specs.declared.lin.Lin.{Lin};
 ghost use Rattle.pb_affine.specs.declared.range.NRange.{NRange};
 ghost use Rattle.pb_part_areas.specs.Areas.{has, have};
 ghost use Rattle.pb_part_areas.specs.Fits.{Fits};
-ghost use Rattle.pb_choice.specs.Clashes.{is_label};
+ghost use Rattle.pb_choice_entries.specs.Clashes.{is_label};
 ghost use Rattle.pb_core_language.specs.Sound.{Rows, are_branches};
 ghost use Rattle.pb_core_language.specs.Tree.{BranchTrees};
 ghost use Rattle.pb_core_language.specs.Verdict.{IsIn};

@@ -27,8 +27,7 @@ use Rattle.pb_shape.specs.Places.{Scope, Here, peer_of}
 use Rattle.pb_shape.specs.Guards.{alone}
 use Rattle.pb_shape.specs.Items.{Item, Items}
 use Rattle.pb_project_piece.specs.Adding.{onto, Added}
-use Rattle.pb_project_piece.specs.Ranked.{IsThere}
-use Rattle.pb_project_piece.specs.Comers.{AreComers}
+use Rattle.pb_project_piece.specs.Comers.{IsComing}
 use Rattle.pb_project_piece.specs.Standing.{Stands, Come, at_ends, IsEach, ComeIf, is_end_if, varies}
 use Rattle.pb_project_piece.specs.Ones.{end_guard, only_when, IsOne, IsAt, IsItemOf, AreItemsOf}
 use Rattle.pb_project_piece.proofs.Added.{onto_append, onto_nothing, added_one, added_none, added_as, added_two}
@@ -37,21 +36,21 @@ use Rattle.pb_project_piece.proofs.Ones.{one_there, one_gone}
 -- ---- an end
 
 module _ (range : NRange) (roles : ℕ) (whole : List Area) (over : Option Bounds) (fixed : List Area) where
-  pub put_there : (e : CoreEnd) (c : Code) (areas : List Area) (t : Bool) (old new : List Stmt) (s : Stmt) → AreComers over fixed e areas → IsThere range whole areas t → t ≡ true →
+  pub put_there : (e : CoreEnd) (c : Code) (t : Bool) (old new : List Stmt) (s : Stmt) → IsComing range whole over fixed e t → t ≡ true →
       plain s ≡ only_when (end_guard e ∷ []) (alone c) → new ≡ old ++ s ∷ [] → Added old new (IsAt range roles whole over fixed e c)
-  put_there e c areas t old new s comers there is made pushed =
+  put_there e c t old new s coming is made pushed =
       added_one (IsAt range roles whole over fixed e c) old new s (only_when (end_guard e ∷ []) (alone c)) pushed made
       (record {
-        is = λ sc h stands here come fair. one_there range roles whole sc stands over fixed areas h e c here come fair comers (subst (IsThere range whole areas) is there);
+        is = λ sc h stands here come fair. one_there range roles whole sc stands over fixed h e c here come fair (subst (IsComing range whole over fixed e) is coming);
         weighed = λ simple. one_weighed (end_guard e ∷ []) c simple;
         made = λ p l tabled sound made_c. one_flat l (end_guard e ∷ []) c (one_guard l (end_guard e) (guard_made l e (peer_made p l e tabled sound))) made_c;
       })
 
-  pub put_gone : (e : CoreEnd) (c : Code) (areas : List Area) (t : Bool) (old : List Stmt) → AreComers over fixed e areas → IsThere range whole areas t → t ≡ false → Added old old (IsAt range roles whole over fixed e c)
-  put_gone e c areas t old comers there is =
+  pub put_gone : (e : CoreEnd) (c : Code) (t : Bool) (old : List Stmt) → IsComing range whole over fixed e t → t ≡ false → Added old old (IsAt range roles whole over fixed e c)
+  put_gone e c t old coming is =
       added_none (IsAt range roles whole over fixed e c) old
       (record {
-        is = λ sc h stands here come fair. one_gone range roles whole sc stands over fixed areas h e c here fair comers (subst (IsThere range whole areas) is there);
+        is = λ sc h stands here come fair. one_gone range roles whole sc stands over fixed h e c here fair (subst (IsComing range whole over fixed e) is coming);
         weighed = λ simple. weighed_none 2 1;
         made = λ p l tabled sound made_c. tt;
       })

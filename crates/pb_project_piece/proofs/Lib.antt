@@ -3,6 +3,7 @@ pub mod Added
 pub mod Brought
 pub mod Ones
 pub mod Nears
+pub mod Found
 pub mod Fews
 pub mod Weights
 pub mod Items

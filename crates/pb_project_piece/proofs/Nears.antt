@@ -188,7 +188,7 @@ in_range range n h = record { low = h.low; high = up range.high h.high }
     up None h = refl
     up (Some b) h = is_le n (pos b) h
 
-is_in : (range : NRange) (n : ℤ) → IsInRange range n → IsIn range n
+pub is_in : (range : NRange) (n : ℤ) → IsInRange range n → IsIn range n
 is_in range n h = record { low = h.low; high = up range.high h.high }
   where
     up : (high : Option ℕ) → is_up_to n high ≡ true → IsUpTo n high

@@ -22,9 +22,10 @@ use Rattle.pb_core_language.specs.declared.tree.Bounds.{Bounds}
 use Rattle.pb_local.specs.Tree.{Code}
 use Rattle.pb_shape.specs.Places.{Scope, Here, is_end}
 use Rattle.pb_shape.specs.Guards.{Somebody, Nobody, One, alone}
-use Rattle.pb_project_piece.specs.Ranked.{Ranked, IsThere, late, brought}
+use Rattle.pb_project_piece.specs.Ranked.{late, brought}
+use Rattle.pb_project_piece.specs.Seen.{Found, IsFound}
 use Rattle.pb_project_piece.proofs.Brought.{at_brought, met_brought}
-use Rattle.pb_project_piece.specs.Comers.{AreComers}
+use Rattle.pb_project_piece.specs.Comers.{comes_to, IsComing}
 use Rattle.pb_project_piece.specs.Standing.{Stands, IsHere, ComeIf, is_end_if}
 use Rattle.pb_project_piece.specs.Ones.{end_guard, only_when, IsOne}
 
@@ -99,9 +100,9 @@ module _ (range : NRange) (roles : ℕ) (whole : List Area) (sc : Scope) (stands
       sooner None h = tt
       sooner (Some b) h = omega (arith, ints)
 
-  -- a first N is early, where late ranks come early, too
-  pub few_at : (areas : List Area) (r : Ranked range whole areas) → (late ≤ℤ r.n → have areas late r.role (brought r.n r.index) ≡ true) → total sc.roles r.n ≤ 2000000000
-  few_at areas r there = go (int_le late r.n) refl
+  -- the N that was found is early, where late ranks come early, too
+  pub few_at : (test : ℤ → ℕ → ℤ → Bool) (r : Found range whole test) → (late ≤ℤ r.n → test late r.role (brought r.n r.index) ≡ true) → total sc.roles r.n ≤ 2000000000
+  few_at test r there = go (int_le late r.n) refl
     where
       go : (t : Bool) → int_le late r.n ≡ t → total sc.roles r.n ≤ 2000000000
       go false e = stands.few r.n r.within (not_late r.n e)
@@ -110,29 +111,29 @@ module _ (range : NRange) (roles : ℕ) (whole : List Area) (sc : Scope) (stands
           let y = brought r.n r.index in
           let in_late = late_in r.n r.within le in
           let there_too : have whole late r.role y ≡ true = rank_is late r.role y in_late ∙ sym (stands.steady r.n r.role r.index le) ∙ sym (rank_is r.n r.role r.index r.within) ∙ r.rank in
-          stands.few r.n r.within (r.least late r.role y in_late there_too (there le))
+          stands.few r.n r.within (r.soon r.role y in_late there_too (there le))
 
-  pub somewhere : (over : Option Bounds) (fixed areas : List Area) (h : Here) (e : CoreEnd) → IsHere over fixed sc h → ComeIf over sc h (is_end e) → is_end_if over e ≡ true → AreComers over fixed e areas → Ranked range whole areas → Somebody sc h (is_end e)
-  somewhere None fixed areas h e here come fair comers r =
+  pub somewhere : (over : Option Bounds) (fixed : List Area) (h : Here) (e : CoreEnd) → IsHere over fixed sc h → ComeIf over sc h (is_end e) → is_end_if over e ≡ true → IsComing range whole over fixed e true → Somebody sc h (is_end e)
+  somewhere None fixed h e here come fair coming =
       let k = and_parts (is_over_n e.at.base) (is_small e.at.off) fair in
+      let r : Found range whole (λ n role x. comes_to None fixed e n role x) = coming.is k.1 tt in
       let within = outside_range r.n r.within in
       let rank = sym (rank_is r.n r.role r.index r.within) ∙ r.rank in
-      let is = sym (comers.is r.n r.role r.index (from_zero range r.n r.within) k.1 tt) ∙ r.there in
       record {
         n = r.n;
         i = pos 0;
         role = r.role;
         index = r.index;
         within = within;
-        few = few_at areas r (λ le. comers.is late r.role (brought r.n r.index) (omega (arith, ints)) k.1 tt ∙ sym (at_brought e k.0 k.1 r.n r.role r.index le) ∙ is);
+        few = few_at (λ n role x. comes_to None fixed e n role x) r (λ le. sym (at_brought e k.0 k.1 r.n r.role r.index le) ∙ r.there);
         rank = rank;
         at = here.at r.n (pos 0);
-        comes = come.come r.n (pos 0) r.role r.index within rank is;
-        is = is;
+        comes = come.come r.n (pos 0) r.role r.index within rank r.there;
+        is = r.there;
       }
-  somewhere (Some over) fixed areas h e here come fair comers r =
-      let there = sym (comers.is r.n r.role r.index (from_zero range r.n r.within) fair here.bounds) ∙ r.there in
-      let both = and_parts (have fixed r.n r.role r.index) (is_met e (value over.low r.n (pos 0)) (value over.high r.n (pos 0)) r.n r.role r.index) there in
+  somewhere (Some over) fixed h e here come fair coming =
+      let r : Found range whole (λ n role x. comes_to (Some over) fixed e n role x) = coming.is fair here.bounds in
+      let both = and_parts (have fixed r.n r.role r.index) (is_met e (value over.low r.n (pos 0)) (value over.high r.n (pos 0)) r.n r.role r.index) r.there in
       let within = outside_range r.n r.within in
       let rank = sym (rank_is r.n r.role r.index r.within) ∙ r.rank in
       let by : IsMetBy e (value over.low r.n (pos 0)) (value over.high r.n (pos 0)) r.n r.role r.index = met_by e.role e.at.base e.at.off e.place (value over.low r.n (pos 0)) (value over.high r.n (pos 0)) r.n r.role r.index both.1 in
@@ -143,36 +144,36 @@ module _ (range : NRange) (roles : ℕ) (whole : List Area) (sc : Scope) (stands
         role = r.role;
         index = r.index;
         within = within;
-        few = few_at areas r (λ le.
-            comers.is late r.role (brought r.n r.index) (omega (arith, ints)) fair here.bounds
-            ∙ and_from _ _ (sym (here.steady r.n r.role r.index le) ∙ both.0) (sym (met_brought over e here.bounds.0 here.bounds.1 fair r.n r.role r.index le) ∙ both.1));
+        few = few_at (λ n role x. comes_to (Some over) fixed e n role x) r (λ le.
+            and_from _ _ (sym (here.steady r.n r.role r.index le) ∙ both.0) (sym (met_brought over e here.bounds.0 here.bounds.1 fair r.n r.role r.index le) ∙ both.1));
         rank = rank;
         at = at;
         comes = here.come r.n by.i r.role r.index within rank at both.0;
         is = by.is;
       }
 
-  pub nowhere : (over : Option Bounds) (fixed areas : List Area) (h : Here) (e : CoreEnd) → IsHere over fixed sc h → is_end_if over e ≡ true → AreComers over fixed e areas → IsThere range whole areas false → Nobody sc h (is_end e)
-  nowhere None fixed areas h e here fair comers none = λ n i role x within rank at comes.
+  pub nowhere : (over : Option Bounds) (fixed : List Area) (h : Here) (e : CoreEnd) → IsHere over fixed sc h → is_end_if over e ≡ true → IsComing range whole over fixed e false → Nobody sc h (is_end e)
+  nowhere None fixed h e here fair coming = λ n i role x within rank at comes.
       let k = and_parts (is_over_n e.at.base) (is_small e.at.off) fair in
+      let none : IsFound range whole (λ n role x. comes_to None fixed e n role x) false = coming.is k.1 tt in
       let w = inside_range n within in
       ap (λ v. nat_eq e.role role && int_eq v x) (over_n_is e.at n i (pos 0) k.0)
-      ∙ sym (comers.is n role x (from_zero range n w) k.1 tt) ∙ none n role x w (rank_is n role x w ∙ rank)
-  nowhere (Some over) fixed areas h e here fair comers none = λ n i role x within rank at comes.
+      ∙ none n role x w (rank_is n role x w ∙ rank)
+  nowhere (Some over) fixed h e here fair coming = λ n i role x within rank at comes.
+      let none : IsFound range whole (λ n role x. comes_to (Some over) fixed e n role x) false = coming.is fair here.bounds in
       let w = inside_range n within in
-      let is = comers.is n role x (from_zero range n w) fair here.bounds in
       false_from_ne_true (is_at e n i role x) (λ k.
       let met = met_at e (value over.low n (pos 0)) (value over.high n (pos 0)) n i role x (sym (here.at n i) ∙ at) k in
-      false≢true (sym (none n role x w (rank_is n role x w ∙ rank)) ∙ is ∙ and_from _ _ (here.comes n i role x within rank comes) met))
+      false≢true (sym (none n role x w (rank_is n role x w ∙ rank)) ∙ and_from _ _ (here.comes n i role x within rank comes) met))
 
   -- ---- the `If`
 
-  pub one_there : (over : Option Bounds) (fixed areas : List Area) (h : Here) (e : CoreEnd) (c : Code) → IsHere over fixed sc h → ComeIf over sc h (is_end e) → is_end_if over e ≡ true → AreComers over fixed e areas → Ranked range whole areas →
+  pub one_there : (over : Option Bounds) (fixed : List Area) (h : Here) (e : CoreEnd) (c : Code) → IsHere over fixed sc h → ComeIf over sc h (is_end e) → is_end_if over e ≡ true → IsComing range whole over fixed e true →
       IsOne sc h (is_end e) (alone c) (only_when (end_guard e ∷ []) (alone c) ∷ [])
-  one_there over fixed areas h e c here come fair comers r = record {
-    one = λ tail. One.there (λ n i role x within rank at. guard_holds e n i role x) (somewhere over fixed areas h e here come fair comers r);
+  one_there over fixed h e c here come fair coming = record {
+    one = λ tail. One.there (λ n i role x within rank at. guard_holds e n i role x) (somewhere over fixed h e here come fair coming);
   }
 
-  pub one_gone : (over : Option Bounds) (fixed areas : List Area) (h : Here) (e : CoreEnd) (c : Code) → IsHere over fixed sc h → is_end_if over e ≡ true → AreComers over fixed e areas → IsThere range whole areas false →
+  pub one_gone : (over : Option Bounds) (fixed : List Area) (h : Here) (e : CoreEnd) (c : Code) → IsHere over fixed sc h → is_end_if over e ≡ true → IsComing range whole over fixed e false →
       IsOne sc h (is_end e) (alone c) []
-  one_gone over fixed areas h e c here fair comers none = record { one = λ tail. One.gone (nowhere over fixed areas h e here fair comers none) }
+  one_gone over fixed h e c here fair coming = record { one = λ tail. One.gone (nowhere over fixed h e here fair coming) }

@@ -43,16 +43,16 @@ use Rattle.pb_shape.specs.Guards.{One}
 use Rattle.pb_shape.specs.Segments.{is_at_offset, put, put_end, put_in, segment_code, segment_codes, in_segment, offsets, offsets_at, OfRole, Segments}
 use Rattle.pb_project_piece.specs.declared.offsets.Off.{Off}
 use Rattle.pb_project_piece.specs.Adding.{onto, Added}
-use Rattle.pb_project_piece.specs.Ranked.{Ranked, IsThere, late, brought}
+use Rattle.pb_project_piece.specs.Seen.{Found, IsFound}
 use Rattle.pb_project_piece.proofs.Brought.{segment_brought}
 use Rattle.pb_project_piece.specs.Comers.{AreBounds}
 use Rattle.pb_project_piece.specs.Standing.{Stands}
 use Rattle.pb_project_piece.specs.Offsets.{off_of}
 use Rattle.pb_project_piece.specs.Ones.{only_when}
-use Rattle.pb_project_piece.specs.Segments.{IsCodes, IsApart, AreOthers, Offers, AllOffer, codes_in, IsCodesOf, IsSegmentOf, IsSegment, IsRoleSegments, AreSegments}
+use Rattle.pb_project_piece.specs.Segments.{IsCodes, IsApart, is_left, IsLeft, Offers, AllOffer, codes_in, IsCodesOf, IsSegmentOf, IsSegment, IsRoleSegments, AreSegments}
 use Rattle.pb_project_piece.proofs.Added.{onto_append, onto_nothing, added_one, added_none, added_as, added_two}
 use Rattle.pb_project_piece.proofs.Items.{drop_is}
-use Rattle.pb_project_piece.proofs.Ones.{from_zero, inside_range, outside_range, rank_is, few_at}
+use Rattle.pb_project_piece.proofs.Ones.{inside_range, outside_range, rank_is, few_at}
 use Rattle.pb_project_piece.proofs.Counting.{spots, sum_at_most, low_in, low_next, low_most, codes_size, codes_braces, codes_loops}
 
 -- ---- what an item is to a segment
@@ -134,7 +134,7 @@ pub guard_is : (k : ℕ) (c : ℤ) (over : Bounds) (low high : Lin) → IsSum ov
 guard_is k c over low high sl sh n i role x bounds small =
     hold_ints k role x (value low n i) (value high n i) (value over.low n (pos 0)) (value over.high n (pos 0)) c (value_moved over.low low c n i sl bounds.0 small) (value_moved over.high high c n i sh bounds.1 small)
 
-met_segment : (e : CoreEnd) (k : ℕ) (c lo hi n : ℤ) (role : ℕ) (x : ℤ) → e.role ≡ k → e.at.base ≡ Var → e.at.off ≡ c → is_met e lo hi n role x ≡ nat_eq k role && is_passed c lo hi x
+pub met_segment : (e : CoreEnd) (k : ℕ) (c lo hi n : ℤ) (role : ℕ) (x : ℤ) → e.role ≡ k → e.at.base ≡ Var → e.at.off ≡ c → is_met e lo hi n role x ≡ nat_eq k role && is_passed c lo hi x
 met_segment e k c lo hi n role x r b o =
     ap (λ z. nat_eq z role && (if is_var e.at.base then is_passed e.at.off lo hi x else int_le lo hi && int_eq (value e.at n (pos 0)) x)) r
     ∙ ap (λ z. nat_eq k role && (if is_var z then is_passed e.at.off lo hi x else int_le lo hi && int_eq (value e.at n (pos 0)) x)) b
@@ -242,14 +242,14 @@ module _ (p : Protocol) (l : Program) (tabled : IsTabledAs p l) (k : ℕ) (c : �
 -- ---- the `If`
 
 module _ (range : NRange) (roles : ℕ) (whole : List Area) (over : Bounds) (less : List Area) (b : BlockTree) (k : ℕ) (c : ℤ) where
-  pub segment_there : (areas : List Area) (t : Bool) (old new : List Stmt) (s : Stmt) → AreOthers over k c less areas → IsThere range whole areas t → t ≡ true → IsSegmentOf over b k c (plain s) → new ≡ old ++ s ∷ [] →
+  pub segment_there : (t : Bool) (old new : List Stmt) (s : Stmt) → IsLeft range whole over k c less t → t ≡ true → IsSegmentOf over b k c (plain s) → new ≡ old ++ s ∷ [] →
       Added old new (IsSegment range roles whole over less b k c)
-  segment_there areas t old new s others there so made pushed =
-      let r : Ranked range whole areas = subst (IsThere range whole areas) so there in
+  segment_there t old new s left so made pushed =
+      let there : IsLeft range whole over k c less true = subst (IsLeft range whole over k c less) so left in
       added_one (IsSegment range roles whole over less b k c) old new s (plain s) pushed refl (record {
         is = λ sc h stands apart bounds small offers.
-            let is = sym (others.is r.n r.role r.index (from_zero range r.n r.within) bounds small) ∙ r.there in
-            let both = and_parts (in_segment over k c r.n (pos 0) r.role r.index) (not (have less r.n r.role r.index)) is in
+            let r : Found range whole (λ n role x. is_left over k c less n role x) = there.is bounds small in
+            let both = and_parts (in_segment over k c r.n (pos 0) r.role r.index) (not (have less r.n r.role r.index)) r.there in
             let within = outside_range range roles whole sc stands r.n r.within in
             let rank = sym (rank_is range roles whole sc stands r.n r.role r.index r.within) ∙ r.rank in
             record {
@@ -260,9 +260,8 @@ module _ (range : NRange) (roles : ℕ) (whole : List Area) (over : Bounds) (les
                     role = r.role;
                     index = r.index;
                     within = within;
-                    few = few_at range roles whole sc stands areas r (λ le.
-                        others.is late r.role (brought r.n r.index) (omega (arith, ints)) bounds small
-                        ∙ and_from _ _ (sym (segment_brought over k c bounds.0 bounds.1 small r.n r.role r.index le) ∙ both.0) (ap not (sym (apart.steady r.n r.role r.index le)) ∙ both.1));
+                    few = few_at range roles whole sc stands (λ n role x. is_left over k c less n role x) r (λ le.
+                        and_from _ _ (sym (segment_brought over k c bounds.0 bounds.1 small r.n r.role r.index le) ∙ both.0) (ap not (sym (apart.steady r.n r.role r.index le)) ∙ both.1));
                     rank = rank;
                     at = apart.at r.n (pos 0);
                     comes = apart.come r.n (pos 0) r.role r.index within rank (offers r.n (pos 0) r.role r.index both.0) (not-true (have less r.n r.role r.index) both.1);
@@ -273,17 +272,18 @@ module _ (range : NRange) (roles : ℕ) (whole : List Area) (over : Bounds) (les
         made = λ p l ids tabled within bounds small sound goes. segment_flat p l tabled k c over b (plain s) ids made within bounds small sound goes;
       })
 
-  pub segment_gone : (areas : List Area) (t : Bool) (old : List Stmt) → AreOthers over k c less areas → IsThere range whole areas t → t ≡ false → Added old old (IsSegment range roles whole over less b k c)
-  segment_gone areas t old others there so =
-      let none : IsThere range whole areas false = subst (IsThere range whole areas) so there in
+  pub segment_gone : (t : Bool) (old : List Stmt) → IsLeft range whole over k c less t → t ≡ false → Added old old (IsSegment range roles whole over less b k c)
+  segment_gone t old left so =
+      let gone : IsLeft range whole over k c less false = subst (IsLeft range whole over k c less) so left in
       added_none (IsSegment range roles whole over less b k c) old (record {
-        is = λ sc h stands apart bounds small offers. record {
-          one = λ tail. One.gone (λ n i role x within rank at comes.
-              let w = inside_range range roles whole sc stands n within in
-              false_from_ne_true (in_segment over k c n i role x) (λ met.
-              false≢true (sym (none n role x w (rank_is range roles whole sc stands n role x w ∙ rank)) ∙ others.is n role x (from_zero range n w) bounds small
-              ∙ and_from _ _ met (ap not (apart.comes n i role x within rank comes)))));
-        };
+        is = λ sc h stands apart bounds small offers.
+            let none : IsFound range whole (λ n role x. is_left over k c less n role x) false = gone.is bounds small in
+            record {
+              one = λ tail. One.gone (λ n i role x within rank at comes.
+                  let w = inside_range range roles whole sc stands n within in
+                  false_from_ne_true (in_segment over k c n i role x) (λ met.
+                  false≢true (sym (none n role x w (rank_is range roles whole sc stands n role x w ∙ rank)) ∙ and_from _ _ met (ap not (apart.comes n i role x within rank comes)))));
+            };
         weighed = weighed_none (2 + count_in k c b) 1;
         made = λ p l ids tabled within bounds small sound goes. tt;
       })

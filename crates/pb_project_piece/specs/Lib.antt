@@ -1,5 +1,6 @@
 pub mod Adding
 pub mod Ranked
+pub mod Seen
 pub mod Weights
 pub mod Comers
 pub mod Standing

@@ -1,5 +1,5 @@
 -- The segments of a foreach, as they are added.
-use Rattle.std.specs.Prelude.{◌≡◌, ℕ, ◌+◌, ◌<◌, length, ℤ, pos, ◌≤ℤ◌, ◌-ℤ◌, true, false, ◌&&◌, not, List, [], ◌∷◌}
+use Rattle.std.specs.Prelude.{◌≡◌, ℕ, ◌+◌, ◌<◌, length, ℤ, pos, ◌≤ℤ◌, ◌-ℤ◌, Bool, true, false, ◌&&◌, not, Option, List, [], ◌∷◌}
 use Rattle.pb_affine.specs.declared.range.NRange.{NRange}
 use Rattle.pb_affine.specs.declared.guard.Guard.{Guard}
 use Rattle.pb_affine.specs.Values.{hold}
@@ -21,6 +21,7 @@ use Rattle.pb_project_piece.specs.Adding.{onto}
 use Rattle.pb_project_piece.specs.Weights.{IsWeighed, IsSimple, IsTabledAs, AreFlat, each_room, count_in, segment_sum}
 use Rattle.pb_project_piece.specs.Comers.{AreBounds}
 use Rattle.pb_project_piece.specs.Ranked.{IsBrought}
+use Rattle.pb_project_piece.specs.Seen.{IsAmong, IsFound}
 use Rattle.pb_project_piece.specs.Standing.{Stands, meeting}
 use Rattle.pb_project_piece.specs.Ones.{IsOne}
 
@@ -38,6 +39,18 @@ pub record IsApart (over : Bounds) (b : BlockTree) (less : List Area) (sc : Scop
 -- the areas are of the ranks of a segment that aren't among others
 pub record AreOthers (over : Bounds) (k : ℕ) (c : ℤ) (less areas : List Area) : Type 0 where
   pub is : (n : ℤ) (role : ℕ) (x : ℤ) → pos 0 ≤ℤ n → AreBounds over → is_small c ≡ true → have areas n role x ≡ in_segment over k c n (pos 0) role x && not (have less n role x)
+
+-- a rank of the segment that isn't among others
+abbrev pub is_left : Bounds → ℕ → ℤ → List Area → ℤ → ℕ → ℤ → Bool
+is_left over k c less n role x = in_segment over k c n (pos 0) role x && not (have less n role x)
+
+-- what the area holds of are such ranks, where there is one
+pub record IsSomeOther (whole : List Area) (over : Bounds) (k : ℕ) (c : ℤ) (less : List Area) (part : Option Area) : Type 0 where
+  pub is : AreBounds over → is_small c ≡ true → IsAmong whole part (λ n role x. is_left over k c less n role x)
+
+-- whether there is some
+pub record IsLeft (range : NRange) (whole : List Area) (over : Bounds) (k : ℕ) (c : ℤ) (less : List Area) (t : Bool) : Type 0 where
+  pub is : AreBounds over → is_small c ≡ true → IsFound range whole (λ n role x. is_left over k c less n role x) t
 
 -- the ranks of the segment are at an end of the items for some value of the variable
 abbrev pub Offers : Bounds → BlockTree → ℕ → ℤ → Type 0

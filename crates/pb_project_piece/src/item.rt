@@ -8,9 +8,8 @@ ghost use Rattle.pb_project_piece.specs.Ones.{end_guard, only_when, IsAt, IsItem
 
 use crate::ends::{guard_at, peer_of};
 use crate::put::{only, put_one, when};
-use crate::reach::comers;
+use crate::reach::is_coming;
 use crate::setting::Setting;
-use crate::somebody::is_somebody;
 use pb_core_language::{Bounds, CoreBlock, CoreEnd, CoreKind, CoreStmt};
 use pb_local::Stmt;
 use pb_part_areas::Area;
@@ -38,8 +37,7 @@ fn put_at(
 ) -> Result<(), NoMemory>
     ensures { OnOk result (Added out.old.items out.new.items (IsAt setting.now.range setting.now.roles setting.now.whole.now over fixed.now end (plain stmt))) }
 {
-    let areas = comers(alloc, over, fixed, end)?;
-    let there = is_somebody(alloc, setting, &areas)?;
+    let there = is_coming(alloc, setting, over, fixed, end)?;
     if there {
         let one = at_end(alloc, end, stmt)?;
         out.push(one)?;

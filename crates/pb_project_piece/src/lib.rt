@@ -11,6 +11,7 @@ mod offsets;
 mod piece;
 mod put;
 mod reach;
+mod seen;
 mod segment;
 mod setting;
 mod somebody;

@@ -12,17 +12,18 @@ ghost use Rattle.pb_part_takers.specs.Sums.{IsSum};
 ghost use Rattle.pb_project_piece.specs.Adding.{Added};
 ghost use Rattle.pb_project_piece.specs.Comers.{AreBounds};
 ghost use Rattle.pb_project_piece.specs.Weights.{IsSimple};
-ghost use Rattle.pb_project_piece.specs.Segments.{IsCodes, AreOthers, IsCodesOf, IsSegmentOf, IsSegment, IsRoleSegments, AreSegments};
+ghost use Rattle.pb_project_piece.specs.Segments.{IsCodes, AreOthers, IsSomeOther, IsLeft, IsCodesOf, IsSegmentOf, IsSegment, IsRoleSegments, AreSegments};
 
 use crate::ends::{is_moving, peer_of};
 use crate::offsets::{Off, offsets};
 use crate::put::{only, when};
+use crate::seen::{is_seen, some_left};
 use crate::setting::Setting;
 use crate::somebody::is_somebody;
 use pb_affine::{Base, Guard, Lin};
 use pb_core_language::{Bounds, CoreBlock, CoreEnd, CoreKind, CoreStmt, Place};
 use pb_local::Stmt;
-use pb_part_areas::{Area, one, without};
+use pb_part_areas::{Area, clipped, one, without};
 use pb_part_takers::met_area;
 use pb_text::NoMemory;
 use std::alloc::Global;
@@ -180,6 +181,69 @@ fn others(
     Ok(left)
 }
 
+/// Some of them, as far as they are ranks of `whole`.
+fn some_other(
+    alloc: Global,
+    whole: &[Area],
+    segment: Segment,
+    over: Bounds,
+    less: &[Area],
+) -> Result<Option<Area>, NoMemory>
+    ensures { IfOk result (λ o. IsSomeOther whole.now over segment.role segment.off less.now o) }
+{
+    let end = end_of(segment);
+    let met = met_area(end, over);
+    let near = clipped(met, whole);
+    let some = some_left(alloc, near, less)?;
+    Ok(some)
+}
+
+/// True only where some rank of a segment isn't among others: a part of those is tried.
+fn is_soon_left(
+    alloc: Global,
+    setting: &Setting,
+    segment: Segment,
+    over: Bounds,
+    less: &[Area],
+) -> Result<bool, NoMemory>
+    ensures { IfOk result (λ t. t ≡ true → IsLeft setting.now.range setting.now.whole.now over segment.role segment.off less.now true) }
+{
+    let some = some_other(alloc, setting.whole, segment, over, less)?;
+    let seen = is_seen(alloc, setting, some)?;
+    Ok(seen)
+}
+
+fn is_ever_left(
+    alloc: Global,
+    setting: &Setting,
+    segment: Segment,
+    over: Bounds,
+    less: &[Area],
+) -> Result<bool, NoMemory>
+    ensures { IfOk result (λ t. IsLeft setting.now.range setting.now.whole.now over segment.role segment.off less.now t) }
+{
+    let areas = others(alloc, segment, over, less)?;
+    let there = is_somebody(alloc, setting, &areas)?;
+    Ok(there)
+}
+
+/// Whether some rank of a segment isn't among others, for some N of the range. A part is tried first: the whole may be long.
+fn is_left(
+    alloc: Global,
+    setting: &Setting,
+    segment: Segment,
+    over: Bounds,
+    less: &[Area],
+) -> Result<bool, NoMemory>
+    ensures { IfOk result (λ t. IsLeft setting.now.range setting.now.whole.now over segment.role segment.off less.now t) }
+{
+    let soon = is_soon_left(alloc, setting, segment, over, less)?;
+    if soon {
+        return Ok(true);
+    }
+    is_ever_left(alloc, setting, segment, over, less)
+}
+
 /// The segment, as a statement.
 fn segment_of(
     items: &CoreBlock,
@@ -206,8 +270,7 @@ fn put_segment(
 ) -> Result<(), NoMemory>
     ensures { OnOk result (Added out.old.items out.new.items (IsSegment setting.now.range setting.now.roles setting.now.whole.now over less.now (plain_block items.now).block segment.role segment.off)) }
 {
-    let areas = others(alloc, segment, over, less)?;
-    let there = is_somebody(alloc, setting, &areas)?;
+    let there = is_left(alloc, setting, segment, over, less)?;
     if !there {
         return Ok(());
     }

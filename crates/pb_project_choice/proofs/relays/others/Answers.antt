@@ -1,5 +1,5 @@
 use Rattle.std.proofs.Common.{subst}
-use Rattle.pb_choice.specs.Clashes.{IsAgreement}
+use Rattle.pb_choice_entries.specs.Clashes.{IsAgreement}
 use Rattle.pb_project_choice.proofs.Hearing.{are_others}
 use Rattle.pb_project_choice.proofs.relays.others.Goals as goal
 

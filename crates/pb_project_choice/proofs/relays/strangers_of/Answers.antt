@@ -1,5 +1,5 @@
 use Rattle.std.proofs.Common.{subst}
-use Rattle.pb_choice.specs.Clashes.{IsAgreement}
+use Rattle.pb_choice_entries.specs.Clashes.{IsAgreement}
 use Rattle.pb_project_choice.proofs.Hearing.{strangers_alone}
 use Rattle.pb_project_choice.proofs.relays.strangers_of.Goals as goal
 
