@@ -257,15 +257,6 @@ def wide_ranges(rng):
     return 2 * count + 1, ["rec X {", *points, *(f"B() from W[0] to W[i:1..N-{k}];" for k in ends), "}"]
 
 
-# ---- shapes of which large files take longer
-
-def loops_gaps(rng):
-    """Loops one in another, the innermost with messages between ranks with gaps between them."""
-    depth = large(rng, OPEN - 1, 2)
-    count = large(rng, (STATEMENTS - depth) // 2)
-    return 4 * count + 4, [f"rec X{k} {{" for k in range(depth)] + [f"A() from W[{4 * k}] to W[{4 * k + 2}];" for k in range(count)] + ["}"] * depth
-
-
 def loops_choices(rng):
     """Loops and choices in turn, the innermost of which tells neighbours far apart."""
     depth = large(rng, (OPEN - 1) // 2, 2)
@@ -297,6 +288,15 @@ def choices_gaps(rng):
     return 2 * count + 2, body + ["} or {", "}"] * depth
 
 
+def choices_told(rng):
+    """Choices one in another, each of which tells all ranks before the next, and the innermost goes on with computes with gaps."""
+    depth = large(rng, OPEN - 1, 2)
+    count = large(rng, STATEMENTS - 3 * depth - 1, 2)
+    body = [line for k in range(depth) for line in (f"choice K{k} at W[0] {{", f"A{k}() from W[0] to W[i:1..N-1];")]
+    body += [f"compute L at W[{2 * k}];" for k in range(1, count)]
+    return 2 * count + 2, body + [line for k in range(depth) for line in ("} or {", f"B{k}() from W[0] to W[i:1..N-1];", "}")]
+
+
 def continues(rng):
     """A loop over ranks with gaps, and choices in it, of which all branches continue it and tell nobody (rule 10)."""
     depth, width = large(rng, 20, 1), large(rng, BRANCHES, 2)
@@ -309,13 +309,16 @@ def continues(rng):
     return 2 * count + 3, body + ["}"] * depth + ["}"]
 
 
-def cross_told(rng):
-    """A choice of few branches that tells ranks W[2*k] and W[N-2*k], which cross in the range, and then all."""
-    branches = rng.choice([2, 3, 4])
-    count = min(large(rng, 1000, 20), STATEMENTS // (2 * branches) - 2)
-    blocks = [[line for k in range(1, count) for line in (f"L{b}() from W[0] to W[{2 * k}];", f"L{b}() from W[0] to W[N-{2 * k}];")]
-              + [f"G{b}() from W[0] to W[i:1..N-1];"] for b in range(branches)]
-    return 2 * count + 1, choice_of(blocks)
+def continues_told(rng):
+    """The same, where each branch tells all ranks before it continues."""
+    depth, width = large(rng, 10, 1), large(rng, BRANCHES, 2)
+    count = large(rng, STATEMENTS - 2 * depth * (width + 1) - 1, 2)
+    body = ["rec X {"] + [f"compute L at W[{2 * k}];" for k in range(1, count)]
+    for d in range(depth):
+        for b in range(width):
+            body += ["} or {" if b else f"choice K{d} at W[0] {{", f"M{d}x{b}() from W[0] to W[i:1..N-1];"]
+            body += ["continue X;"] if b < width - 1 or d == depth - 1 else []
+    return 2 * count + 3, body + ["}"] * depth + ["}"]
 
 
 def loops_cross(rng):
@@ -323,17 +326,6 @@ def loops_cross(rng):
     depth, count = large(rng, OPEN - 1, 2), large(rng, 200, 10)
     lines = [line for k in range(1, count) for line in (f"compute L at W[{2 * k}];", f"compute L at W[N-{2 * k}];")]
     return 2 * count + 1, [f"rec X{k} {{" for k in range(depth)] + lines + ["}"] * depth
-
-
-def choices_cross(rng):
-    """Choices one in another, the innermost of which tells ranks W[2*k] and W[N-2*k], which cross in the range, and then all."""
-    depth, count = large(rng, OPEN - 1, 2), large(rng, 200, 10)
-    body = [f"choice K{k} at W[0] {{" for k in range(depth)]
-    body += [line for k in range(1, count) for line in (f"L() from W[0] to W[{2 * k}];", f"L() from W[0] to W[N-{2 * k}];")]
-    body += ["G() from W[0] to W[i:1..N-1];"]
-    for k in range(depth):
-        body += ["} or {", f"M{k}() from W[0] to W[i:1..N-1];", "}"]
-    return 2 * count + 1, body
 
 
 def cross_each(rng):
@@ -381,13 +373,49 @@ def one_rank(rng):
     return sender + 2, body
 
 
+# ---- shapes of which large files take longer, most of them for their long texts
+
+def loops_gaps(rng):
+    """Loops one in another, the innermost with messages between ranks with gaps between them."""
+    depth = large(rng, OPEN - 1, 2)
+    count = large(rng, (STATEMENTS - depth) // 2)
+    return 4 * count + 4, [f"rec X{k} {{" for k in range(depth)] + [f"A() from W[{4 * k}] to W[{4 * k + 2}];" for k in range(count)] + ["}"] * depth
+
+
+def cross_told(rng):
+    """A choice of few branches that tells ranks W[2*k] and W[N-2*k], which cross in the range, and then all."""
+    branches = rng.choice([2, 3, 4])
+    count = min(large(rng, 1000, 20), STATEMENTS // (2 * branches) - 2)
+    blocks = [[line for k in range(1, count) for line in (f"L{b}() from W[0] to W[{2 * k}];", f"L{b}() from W[0] to W[N-{2 * k}];")]
+              + [f"G{b}() from W[0] to W[i:1..N-1];"] for b in range(branches)]
+    return 2 * count + 1, choice_of(blocks)
+
+
+def choices_cross(rng):
+    """Choices one in another, the innermost of which tells ranks W[2*k] and W[N-2*k], which cross in the range, and then all."""
+    depth, count = large(rng, OPEN - 1, 2), large(rng, 200, 10)
+    body = [f"choice K{k} at W[0] {{" for k in range(depth)]
+    body += [line for k in range(1, count) for line in (f"L() from W[0] to W[{2 * k}];", f"L() from W[0] to W[N-{2 * k}];")]
+    body += ["G() from W[0] to W[i:1..N-1];"]
+    for k in range(depth):
+        body += ["} or {", f"M{k}() from W[0] to W[i:1..N-1];", "}"]
+    return 2 * count + 1, body
+
+
+def each_labels(rng):
+    """As `each_met`, with labels of their own for the ends that move: where two ends are one rank, the first message counts."""
+    low, body = each_met(rng)
+    return low, [line.replace("L", "M", 1) if "[i+" in line else line for line in body]
+
+
 def by_name(*shapes):
     return {it.__name__: it for it in shapes}
 
 
 SHAPES = by_name(choice, own_ranks, offsets, offsets_to_one, cuts, told_in_turn, loops, tree, gaps, gaps_from_both, two_sources, cross_loop,
-                 loops_joint, each_stays, low_ranges, wide_ranges, loops_choices, choices_split, told_by_many)
-HARD = by_name(loops_gaps, choices_gaps, one_rank, continues, cross_told, loops_cross, choices_cross, cross_each, each_holes, each_met)
+                 loops_joint, each_stays, low_ranges, wide_ranges, loops_choices, choices_split, choices_gaps, choices_told, continues,
+                 continues_told, loops_cross, cross_each, each_holes, each_met, told_by_many, one_rank)
+HARD = by_name(loops_gaps, cross_told, choices_cross, each_labels)
 
 
 def made(shape, seed):
