@@ -54,7 +54,7 @@ fn is_narrow(a: Area) -> bool
 
 /// True exactly where the area holds of nothing.
 #[tactic(auto, using(crate::proofs::Parts::over))]
-pub(crate) fn is_empty(a: Area) -> bool
+pub fn is_empty(a: Area) -> bool
     ensures empty { result ≡ true → (n : ℤ) (role : ℕ) (x : ℤ) → has a n role x ≡ false }
     ensures some { result ≡ false → IsSomewhere a }
 {

@@ -69,7 +69,7 @@ fn in_order(a: Area, b: Area) -> Option<Area>
 
 /// One area, where two are neighbours.
 #[tactic(auto, using(crate::proofs::Joins::exchanged))]
-fn joined(a: Area, b: Area) -> Option<Area>
+pub fn joined(a: Area, b: Area) -> Option<Area>
     ensures { MatchOption result (AreNeighbours a b → ⊥) (λ m. IsUnion a b m) }
 {
     match in_order(a, b) {

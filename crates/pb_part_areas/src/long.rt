@@ -45,7 +45,7 @@ pub fn cloned(alloc: Global, list: &[Area]) -> Result<Vec<Area>, NoMemory>
     ensures is { IfOk result (λ v. (n : ℤ) (role : ℕ) (x : ℤ) → have v.items n role x ≡ have list.now n role x) }
     ensures fits { IfOk result (λ v. (range : NRange) (cuts : List Lin) → All (Fits range cuts) list.now → All (Fits range cuts) v.items) }
 {
-    let mut copy = Vec::new(alloc);
+    let mut copy = Vec::with_capacity(alloc, list.len())?;
     for a in list {
         keep(&mut copy, *a)?;
     }

@@ -12,7 +12,7 @@ use crate::area::Area;
 use crate::cover::{covers, is_below, is_covered};
 use crate::cut::Two;
 use crate::empty::{is_empty, tightened};
-use crate::join::push;
+use crate::join::{joined, push};
 use crate::long::cloned;
 use crate::numbers::is_param;
 use crate::pair::keep;
@@ -49,7 +49,7 @@ fn as_one(a: Area, b: Area) -> Option<Area>
     } else if covers(b, a) {
         Some(b)
     } else {
-        linked(a, b)
+        linked(a, b).or(joined(a, b))
     }
 }
 
@@ -79,8 +79,7 @@ fn add_next(out: &mut Vec<Area>, a: Area) -> Result<(), NoMemory>
     }
 }
 
-/// Adds the area, unless it holds of nothing: put together with its neighbours in a short list, and with the last area of a long
-/// one.
+/// Adds the area, unless it holds of nothing: put together with neighbours in a short list, in a long one with its last area.
 pub fn attach(out: &mut Vec<Area>, a: Area) -> Result<(), NoMemory>
     ensures is { OnOk result ((n : ℤ) (role : ℕ) (x : ℤ) → have out.new.items n role x ≡ have out.old.items n role x || has a n role x) }
     ensures fits { OnOk result ((range : NRange) (cuts : List Lin) → All (Fits range cuts) out.old.items → Fits range cuts a → All (Fits range cuts) out.new.items) }
@@ -221,7 +220,7 @@ fn sorted_by_ends(list: Vec<Area>) -> Vec<Area>
 }
 
 /// The same ranks, sorted. Areas go out that hold of the same indices as another, at fewer numbers N.
-fn ordered(alloc: Global, list: Vec<Area>) -> Result<Vec<Area>, NoMemory>
+pub fn ordered(alloc: Global, list: Vec<Area>) -> Result<Vec<Area>, NoMemory>
     ensures is { IfOk result (λ v. (n : ℤ) (role : ℕ) (x : ℤ) → have v.items n role x ≡ have list.items n role x) }
     ensures fits { IfOk result (λ v. (range : NRange) (cuts : List Lin) → All (Fits range cuts) list.items → All (Fits range cuts) v.items) }
 {
