@@ -16,12 +16,12 @@ ids_of (h ∷ hs) = h.id ∷ ids_of hs
 -- whether a rank takes part in the body of each
 abbrev pub held_of : List Held → ℤ → ℕ → ℤ → List Bool
 held_of [] n role x = []
-held_of (h ∷ hs) n role x = have h.areas.items n role x ∷ held_of hs n role x
+held_of (h ∷ hs) n role x = have h.areas.value.items n role x ∷ held_of hs n role x
 
 -- all their areas fit
 abbrev pub HeldFit : NRange → List Lin → List Held → Type 0
 HeldFit range cuts [] = Unit {0}
-HeldFit range cuts (h ∷ hs) = All (Fits range cuts) h.areas.items × HeldFit range cuts hs
+HeldFit range cuts (h ∷ hs) = All (Fits range cuts) h.areas.value.items × HeldFit range cuts hs
 
 -- the loops with one more inside
 pub record IsInside (around : List Held) (id : ℕ) (areas : List Area) (inner : List Held) : Type 0 where

@@ -11,12 +11,14 @@ ghost use Rattle.pb_part_takers.specs.Loops.{ids_of, held_of, HeldFit, IsInside}
 use pb_part_areas::{Area, cloned, tidied};
 use pb_text::NoMemory;
 use std::alloc::Global;
+use std::rc::Rc;
 
-/// A loop, with the areas of the ranks that take part in its body for a reason other than its continue.
+/// A loop, with the areas of the ranks that take part in its body for a reason other than its continue. All lists of loops that have
+/// the loop share them.
 #[derive(Drop)]
 pub struct Held {
     pub id: u32,
-    pub areas: Vec<Area>,
+    pub areas: Rc<Vec<Area>>,
 }
 
 /// How long a list is at most that holds some ranks more than once.
@@ -60,9 +62,10 @@ pub fn with_loop(
     ensures { IfOk result (λ v. IsInside held.now id areas.items v.items) }
 {
     let mut list = Vec::new(alloc);
+    let areas = Rc::new(alloc, areas)?;
     list.push(Held { id, areas })?;
     for h in held {
-        let areas = cloned(alloc, &h.areas)?;
+        let areas = h.areas.clone()?;
         list.push(Held { id: h.id, areas })?;
     }
     Ok(list)

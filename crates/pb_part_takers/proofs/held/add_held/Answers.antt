@@ -16,12 +16,12 @@ pub returns-then-id-h-clause-is : goal.returns-then-id-h-clause-is
 returns-then-id-h-clause-is c = on_ok_weaker c.gather_held.result (λ d n role x.
     d n role x
     ∙ ap₂ (λ y z. have y n role x || z) c.loop-h.invariant.same
-    (ap (λ z. have z n role x) c.deref.ensures.value ∙ sym (id_here c.args.held.now c.loop-h.h-index c.args.id c.h-item.result n role x c.loop-h-test.true c.h-item.is c.if-id-h.true) ∙ c.loop-h.invariant.holds n role x)) c.gather_held.ensures.is
+    (ap (λ z. have z n role x) (c.deref-then-id-h.ensures.value ∙ ap (λ v. v.items) c.deref.ensures) ∙ sym (id_here c.args.held.now c.loop-h.h-index c.args.id c.h-item.result n role x c.loop-h-test.true c.h-item.is c.if-id-h.true) ∙ c.loop-h.invariant.holds n role x)) c.gather_held.ensures.is
 
 pub returns-then-id-h-clause-fits : goal.returns-then-id-h-clause-fits
 returns-then-id-h-clause-fits c = on_ok_weaker c.gather_held.result (λ d range cuts f g.
     d range cuts (subst (All (Fits range cuts)) (sym c.loop-h.invariant.same) f)
-    (subst (All (Fits range cuts)) (sym c.deref.ensures.value) (fit_at range cuts c.args.held.now c.loop-h.h-index c.h-item.result c.loop-h-test.true c.h-item.is g))) c.gather_held.ensures.fits
+    (subst (All (Fits range cuts)) (sym (c.deref-then-id-h.ensures.value ∙ ap (λ v. v.items) c.deref.ensures)) (fit_at range cuts c.args.held.now c.loop-h.h-index c.h-item.result c.loop-h-test.true c.h-item.is g))) c.gather_held.ensures.fits
 
 pub returns-clause-is : goal.returns-clause-is
 returns-clause-is c = λ n role x.

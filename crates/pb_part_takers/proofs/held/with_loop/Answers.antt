@@ -1,15 +1,14 @@
-use Rattle.std.proofs.Common.{ap, ◌∙◌}
-use Rattle.pb_part_areas.specs.Areas.{have}
+use Rattle.std.proofs.Common.{refl}
 use Rattle.pb_part_takers.proofs.HeldLoops.{ids_step, held_step, fit_step, fit_at, ids_end, held_end}
 use Rattle.pb_part_takers.proofs.held.with_loop.Goals as goal
 
 pub loop-h-preserved : goal.loop-h-preserved
 loop-h-preserved c = record {
-  ids = ids_step c.args.held.now c.loop-h.h-index c.loop-h.list.items c.push-in-loop-h.new.self.items c.h-item.result c.in_ok-areas.areas _ c.loop-h-test.true c.h-item.is c.in_ok-push-2.ensures.items c.loop-h.invariant.ids;
-  held = λ n role x. held_step c.args.held.now c.loop-h.h-index c.loop-h.list.items c.push-in-loop-h.new.self.items c.h-item.result c.in_ok-areas.areas n role x _ c.loop-h-test.true c.h-item.is
-      (λ k r y. c.in_ok-areas.ensures.is k r y ∙ ap (λ z. have z k r y) c.deref.ensures.value) c.in_ok-push-2.ensures.items (c.loop-h.invariant.held n role x);
-  fits = λ range cuts f g. fit_step range cuts c.loop-h.list.items c.push-in-loop-h.new.self.items c.h-item.result c.in_ok-areas.areas c.in_ok-push-2.ensures.items (c.loop-h.invariant.fits range cuts f g)
-      ((rw c.deref.ensures.value at (c.in_ok-areas.ensures.fits range cuts)) (fit_at range cuts c.args.held.now c.loop-h.h-index c.h-item.result c.loop-h-test.true c.h-item.is g));
+  ids = ids_step c.args.held.now c.loop-h.h-index c.loop-h.list.items c.push-in-loop-h.new.self.items c.h-item.result _ _ c.loop-h-test.true c.h-item.is refl c.in_ok-push-2.ensures.items c.loop-h.invariant.ids;
+  held = λ n role x. held_step c.args.held.now c.loop-h.h-index c.loop-h.list.items c.push-in-loop-h.new.self.items c.h-item.result _ n role x _ c.loop-h-test.true c.h-item.is
+      c.in_ok-areas-2.ensures.cases c.in_ok-push-2.ensures.items (c.loop-h.invariant.held n role x);
+  fits = λ range cuts f g. fit_step range cuts c.loop-h.list.items c.push-in-loop-h.new.self.items c.h-item.result _ c.in_ok-areas-2.ensures.cases c.in_ok-push-2.ensures.items (c.loop-h.invariant.fits range cuts f g)
+      (fit_at range cuts c.args.held.now c.loop-h.h-index c.h-item.result c.loop-h-test.true c.h-item.is g);
 }
 
 pub returns : goal.returns
