@@ -1,5 +1,6 @@
 -- Ranks that stop at areas one after the other, where those at some areas stop with an outcome that isn't added yet.
-use Rattle.std.proofs.Common.{◌≡◌, ◌<◌, ◌≤◌, ◌+◌, ℕ, zero, suc, ℤ, List, [], ◌∷◌, Bool, true, false, not, ◌||◌, ◌&&◌, map, drop, length, get_or, refl, ap, sym, ◌∙◌, arith, if◌then◌else◌, drop_of_length-le, subst}
+use Rattle.std.proofs.Common.{◌≡◌, ◌<◌, ◌≤◌, ◌+◌, ℕ, zero, suc, ℤ, List, [], ◌∷◌, Bool, true, false, not, ◌||◌, ◌&&◌, map, drop, length, get_or, refl, ap, sym, ◌∙◌, arith, if◌then◌else◌, drop_of_length-le, subst, Result, Ok, Err, IfOk}
+use Rattle.std.specs.List.{All}
 use Rattle.std.proofs.lemmas.Bool.{and_parts}
 use Rattle.std.proofs.lemmas.Bool.Decides.{nat_tests}
 use Rattle.std.proofs.lemmas.List.{at_drop_more}
@@ -19,11 +20,11 @@ use Rattle.pb_part_firsts.specs.declared.firsts.Kind.{Kind}
 use Rattle.pb_part_firsts.specs.declared.parts.Part.{Part}
 use Rattle.pb_part_firsts.specs.declared.turns.Coming.{Coming}
 use Rattle.pb_part_firsts.specs.Firsts.{finds, outcome_of, Gives, is_small_kind, are_small}
-use Rattle.pb_part_firsts.specs.Fitting.{EntriesFit}
+use Rattle.pb_part_firsts.specs.Fitting.{EntriesFit, AllFit}
 use Rattle.pb_part_firsts.specs.Parts.{flat, IsAround}
 use Rattle.pb_part_firsts.specs.Stopping.{Stops}
 use Rattle.pb_part_firsts.specs.Turns.{stop_of, first_stop}
-use Rattle.pb_part_firsts.specs.Coming.{come, told, Turned, ComingGives}
+use Rattle.pb_part_firsts.specs.Coming.{come, told, Turned, ComingGives, ComingFits}
 use Rattle.pb_part_firsts.proofs.Flats.{have_more}
 use Rattle.pb_part_firsts.proofs.Outcomes.{kind_some, not_nothing, seq_some, seq_none, none_out, kind_out, kind_rest}
 
@@ -86,14 +87,34 @@ added_rest : (q r l a : Bool) → q ≡ r → l ≡ a → q && not l ≡ r && no
 added_rest q r l a eq el = cc
 
 -- the outcome is added, and those at the area are the next
-pub added_turned : (roles : List CoreRole) (c d : Coming) (old new : List Entry) (e : Entry) → Stops roles (flat c.parts.items) c.at.items (flat d.parts.items) old new c.kind →
+added_turned : (roles : List CoreRole) (c d : Coming) (left : List Area) (old new : List Entry) (e : Entry) → Stops roles (flat c.parts.items) c.at.items left old new c.kind →
+    ((n : ℤ) (role : ℕ) (x : ℤ) → have (flat d.parts.items) n role x ≡ have left n role x) →
     ((n : ℤ) (role : ℕ) (x : ℤ) → have d.at.items n role x ≡ has e.area n role x) → d.kind ≡ e.kind → Turned roles c old d new e
-added_turned roles c d old new e s one kind = record {
+added_turned roles c d left old new e s is one kind = record {
   out = λ n role x o. added_out (finds roles new n role x o) (told roles c old n role x o) (have (flat d.parts.items) n role x) (come c n role x) (have d.at.items n role x) (has e.area n role x)
       (outcome_eq (outcome_of roles d.kind n x) o) (outcome_eq (outcome_of roles e.kind n x) o)
-      (s.out n role x o) (s.rest n role x) (one n role x) (ap (λ z. outcome_eq (outcome_of roles z n x) o) kind);
-  rest = λ n role x. added_rest (have (flat d.parts.items) n role x) (come c n role x) (have d.at.items n role x) (has e.area n role x) (s.rest n role x) (one n role x);
+      (s.out n role x o) (is n role x ∙ s.rest n role x) (one n role x) (ap (λ z. outcome_eq (outcome_of roles z n x) o) kind);
+  rest = λ n role x. added_rest (have (flat d.parts.items) n role x) (come c n role x) (have d.at.items n role x) (has e.area n role x) (is n role x ∙ s.rest n role x) (one n role x);
 }
+
+-- the same of what begins again
+pub again_turned : {E K : Type 0} (r : Result Coming E) (c : Coming) (left : List Area) (old new : List Entry) (e : Entry) →
+    ((roles : List CoreRole) → K → Stops roles (flat c.parts.items) c.at.items left old new c.kind) →
+    IfOk r (λ d. (n : ℤ) (role : ℕ) (x : ℤ) → have (flat d.parts.items) n role x ≡ have left n role x) →
+    IfOk r (λ d. (n : ℤ) (role : ℕ) (x : ℤ) → have d.at.items n role x ≡ has e.area n role x) → IfOk r (λ d. d.kind ≡ e.kind) →
+    IfOk r (λ d. (roles : List CoreRole) → K → Turned roles c old d new e)
+again_turned (Ok d) c left old new e s is one kind = λ roles k. added_turned roles c d left old new e (s roles k) is one kind
+again_turned (Err _) c left old new e s is one kind = tt
+
+pub again_fits : {E : Type 0} (r : Result Coming E) (c : Coming) (left : List Area) (old new : List Entry) (e : Entry) →
+    ((range : NRange) (cuts : List Lin) → ComingFits range cuts c old → AllFit range cuts left new) →
+    IfOk r (λ d. (range : NRange) (cuts : List Lin) → All (Fits range cuts) left → All (Fits range cuts) (flat d.parts.items)) →
+    IfOk r (λ d. (range : NRange) (cuts : List Lin) → Fits range cuts e.area → All (Fits range cuts) d.at.items) →
+    IfOk r (λ d. (range : NRange) (cuts : List Lin) → Fits range cuts e.area → ComingFits range cuts c old → ComingFits range cuts d new)
+again_fits (Ok d) c left old new e now parts at = λ range cuts f h.
+    let all : AllFit range cuts left new = now range cuts h in
+    record { parts = parts range cuts all.areas; at = at range cuts f; entries = all.entries }
+again_fits (Err _) c left old new e now parts at = tt
 
 -- areas that hold of the same ranks
 pub stops_as : {roles : List CoreRole} {reach at at2 left : List Area} {old new : List Entry} {kind : Kind} → ((n : ℤ) (role : ℕ) (x : ℤ) → have at2 n role x ≡ have at n role x) →

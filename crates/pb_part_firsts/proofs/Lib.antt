@@ -2,6 +2,8 @@ pub mod Outcomes
 pub mod Turning
 pub mod Singles
 pub mod EachSteps
+pub mod FixedStops
+pub mod LastEntries
 pub mod Flats
 pub mod Groups
 pub mod Comes

@@ -134,12 +134,12 @@ at_held id held i one n role x lt is =
 pub again_step : (id : ℕ) (held : List Held) (i : ℕ) (one : Held) (n : ℤ) (role : ℕ) (x : ℤ) (l : Bool) → i < length held → one ≡ get_or held i one → (one.id ≡ id → ⊥) →
     is_held id (drop i held) n role x ≡ l → is_held id (drop (i + 1) held) n role x ≡ l
 again_step id held i one n role x l lt is other h =
-    sym (held_more id one.id (have one.areas.items n role x) (held_of (drop (i + 1) held) n role x) (ids_of (drop (i + 1) held)) other) ∙ at_held id held i one n role x lt is ∙ h
+    sym (held_more id one.id (have one.areas.value.items n role x) (held_of (drop (i + 1) held) n role x) (ids_of (drop (i + 1) held)) other) ∙ at_held id held i one n role x lt is ∙ h
 
 pub again_here : (id : ℕ) (held : List Held) (i : ℕ) (one : Held) (n : ℤ) (role : ℕ) (x : ℤ) (l : Bool) → i < length held → one ≡ get_or held i one → one.id ≡ id →
-    is_held id (drop i held) n role x ≡ l → have one.areas.items n role x ≡ l
+    is_held id (drop i held) n role x ≡ l → have one.areas.value.items n role x ≡ l
 again_here id held i one n role x l lt is same h =
-    held_here id one.id (have one.areas.items n role x) (held_of (drop (i + 1) held) n role x) (ids_of (drop (i + 1) held)) same ∙ at_held id held i one n role x lt is ∙ h
+    held_here id one.id (have one.areas.value.items n role x) (held_of (drop (i + 1) held) n role x) (ids_of (drop (i + 1) held)) same ∙ at_held id held i one n role x lt is ∙ h
 
 pub again_nowhere : (id : ℕ) (held : List Held) (i : ℕ) (n : ℤ) (role : ℕ) (x : ℤ) (l : Bool) → length held ≤ i → is_held id (drop i held) n role x ≡ l → l ≡ false
 again_nowhere id held i n role x l le h = sym h ∙ ap (λ z. is_held id z n role x) (drop_of_length-le held le)
@@ -174,10 +174,10 @@ held_rest range cuts held i lt h = subst (HeldFit range cuts) (sym (add_one i he
 less : (i n : ℕ) → suc i < suc n → i < n
 less i n h = omega arith
 
-first_fits : (range : NRange) (cuts : List Lin) (held : List Held) (i : ℕ) (one : Held) → i < length held → HeldFit range cuts (drop i held) → All (Fits range cuts) (get_or held i one).areas.items
+first_fits : (range : NRange) (cuts : List Lin) (held : List Held) (i : ℕ) (one : Held) → i < length held → HeldFit range cuts (drop i held) → All (Fits range cuts) (get_or held i one).areas.value.items
 first_fits range cuts [] i one lt h = absurd (omega (arith, lt))
 first_fits range cuts (o ∷ os) zero one lt h = h.0
 first_fits range cuts (o ∷ os) (suc i) one lt h = first_fits range cuts os i one (less i (length os) lt) h
 
-pub held_first : (range : NRange) (cuts : List Lin) (held : List Held) (i : ℕ) (one : Held) → i < length held → one ≡ get_or held i one → HeldFit range cuts (drop i held) → All (Fits range cuts) one.areas.items
-held_first range cuts held i one lt is h = subst (λ o. All (Fits range cuts) o.areas.items) (sym is) (first_fits range cuts held i one lt h)
+pub held_first : (range : NRange) (cuts : List Lin) (held : List Held) (i : ℕ) (one : Held) → i < length held → one ≡ get_or held i one → HeldFit range cuts (drop i held) → All (Fits range cuts) one.areas.value.items
+held_first range cuts held i one lt is h = subst (λ o. All (Fits range cuts) o.areas.value.items) (sym is) (first_fits range cuts held i one lt h)

@@ -110,8 +110,8 @@ pub(crate) fn all_firsts(
 
 /// The innermost of these loops that has the id.
 fn find_loop(id: u32, held: &[Held]) -> Option<&Held>
-    ensures fits { IfSome result (λ one. (range : NRange) (cuts : List Lin) → HeldFit range cuts held.now → All (Fits range cuts) one.now.areas.items) }
-    ensures is { MatchOption result ((n : ℤ) (role : ℕ) (x : ℤ) → is_held id held.now n role x ≡ false) (λ one. (n : ℤ) (role : ℕ) (x : ℤ) → have one.now.areas.items n role x ≡ is_held id held.now n role x) }
+    ensures fits { IfSome result (λ one. (range : NRange) (cuts : List Lin) → HeldFit range cuts held.now → All (Fits range cuts) one.now.areas.value.items) }
+    ensures is { MatchOption result ((n : ℤ) (role : ℕ) (x : ℤ) → is_held id held.now n role x ≡ false) (λ one. (n : ℤ) (role : ℕ) (x : ℤ) → have one.now.areas.value.items n role x ≡ is_held id held.now n role x) }
 {
     for inner in held {
         if inner.id == id {

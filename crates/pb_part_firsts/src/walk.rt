@@ -106,7 +106,7 @@ fn firsts_at(
         All (Fits range cuts) whole.now → HeldFit range cuts held.now → All (Fits range cuts) (flat reach.items) → EntriesFit range cuts stops.old.items → EntriesFit range cuts out.old.items →
         EntriesFit range cuts stops.new.items × AllFit range cuts (flat left.items) out.new.items) }
 {
-    let is_plain = add_plain(stmt, alloc, stops)?;
+    let is_plain = add_plain(stmt, alloc, whole, stops)?;
     if is_plain {
         return Ok(reach);
     }

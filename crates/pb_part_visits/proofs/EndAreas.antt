@@ -1,26 +1,20 @@
 -- The areas of ends.
-use Rattle.std.proofs.Common.{◌≡◌, ◌<◌, ◌≤◌, ◌+◌, ℕ, ℤ, pos, ◌+ℤ◌, ◌≤ℤ◌, nat_eq, int_le, int_lt, Bool, true, false, not, ◌&&◌, ◌||◌, List, [], map, drop, length, get_or, refl, ap, sym, ◌∙◌, subst, arith, drop_of_length-le}
+use Rattle.std.proofs.Common.{◌≡◌, ℕ, ℤ, pos, ◌+ℤ◌, ◌≤ℤ◌, nat_eq, int_le, int_lt, Bool, true, false, ◌&&◌, refl, ap, sym, ◌∙◌, subst, arith}
 use Rattle.std.specs.Ordering.{int_eq}
 use Rattle.std.proofs.lemmas.Bool.{false≢true}
 use Rattle.std.proofs.lemmas.Bool.Decides.{nat_tests}
 use Rattle.std.proofs.lemmas.Int.{ints}
-use Rattle.std.proofs.lemmas.List.{at_drop_more}
 use Rattle.pb_affine.specs.declared.lin.Base.{Base}
 use Rattle.pb_affine.specs.declared.lin.Base.TheVariants.{Fixed, Param, Var}
 use Rattle.pb_affine.specs.declared.lin.Lin.{Lin}
 use Rattle.pb_affine.specs.Values.{value, base_value, shifted}
-use Rattle.pb_core_language.specs.declared.protocol.CoreRole.{CoreRole}
 use Rattle.pb_core_language.specs.declared.tree.CoreEnd.{CoreEnd}
 use Rattle.pb_core_language.specs.Sound.{is_small}
-use Rattle.pb_part_areas.specs.declared.area.Area.{Area}
-use Rattle.pb_part_areas.specs.Areas.{have, at}
+use Rattle.pb_part_areas.specs.Areas.{at}
 use Rattle.pb_core_flat.specs.Seated.{is_at}
 use Rattle.pb_core_flat.specs.Meets.{is_moving, is_passed, is_var}
-use Rattle.pb_core_flat.specs.Stops.{has_fixed}
 use Rattle.pb_core_language.specs.declared.tree.Bounds.{Bounds}
-use Rattle.pb_part_visits.specs.declared.visit.Visit.{Visit}
-use Rattle.pb_part_visits.specs.Visits.{is_small_off}
-use Rattle.pb_part_visits.specs.Visits.{visit_of, IsBounded}
+use Rattle.pb_part_visits.specs.Visits.{is_small_off, IsBounded}
 use Rattle.pb_part_visits.proofs.Meets.{small_off, small_next, small_sum, small_sum_next, small_of_bound}
 
 at_shifted : (l : Lin) (c n : ℤ) → at (shifted l c) n ≡ at l n +ℤ c
@@ -49,73 +43,30 @@ base_staying Fixed n i j e = refl
 base_staying Param n i j e = refl
 base_staying Var n i j e = absurd (false≢true (sym e))
 
-meeting_bools : (r s le : Bool) (er mr role : ℕ) (ev x lo off mv m : ℤ) → er ≡ mr → s ≡ (nat_eq er role && int_eq ev x) && le → r ≡ s && int_eq ev m → m ≡ lo +ℤ off → mv ≡ off +ℤ lo →
-    r ≡ le && ((nat_eq mr role && int_eq mv x) && (nat_eq er role && int_eq ev x))
-meeting_bools r s le er mr role ev x lo off mv m e es er' em ev' = grind (arith, ints, nat_tests)
+swapped : (a b c : ℤ) → a ≡ b +ℤ c → a ≡ c +ℤ b
+swapped a b c e = omega (arith, ints)
 
-pub meeting_is : (end mover : CoreEnd) (t : Bounds) (by : Lin) (r s : Bool) (n : ℤ) (role : ℕ) (x : ℤ) → is_small end.at.off ≡ true → is_small mover.at.off ≡ true → IsBounded t → is_moving mover ≡ true → end.role ≡ mover.role →
-    (is_small_off (t.low.off +ℤ mover.at.off) ≡ true → by ≡ shifted t.low mover.at.off) → is_small_off by.off ≡ true → s ≡ is_at end n (pos 0) role x && int_le (at t.low n) (at t.high n) →
-    (is_small_off end.at.off ≡ true → is_small_off by.off ≡ true → r ≡ s && int_eq (at end.at n) (at by n)) →
-    r ≡ int_le (at t.low n) (at t.high n) && (is_at mover n (at t.low n) role x && is_at end n (pos 0) role x)
-meeting_is end mover t by r s n role x he hm k v e is small hs h =
-    let moved : by ≡ shifted t.low mover.at.off = is (small_sum t.low.off mover.at.off (small_of_bound t.low k.low) hm) in
-    meeting_bools r s (int_le (at t.low n) (at t.high n)) end.role mover.role role (at end.at n) x (at t.low n) mover.at.off (value mover.at n (at t.low n)) (at by n)
-    e hs (h (small_off end.at.off he) small) (ap (λ l. at l n) moved ∙ at_shifted t.low mover.at.off n) (ap (λ z. mover.at.off +ℤ z) (base_moving mover.at.base n (at t.low n) v))
+-- the place of an end at the first value
+pub moving_place : (end : CoreEnd) (low place : Lin) (n : ℤ) → is_moving end ≡ true → place ≡ shifted low end.at.off → at place n ≡ value end.at n (at low n)
+moving_place end low place n v is =
+    swapped (at place n) (at low n) end.at.off (ap (λ l. at l n) is ∙ at_shifted low end.at.off n) ∙ ap (λ z. end.at.off +ℤ z) (sym (base_moving end.at.base n (at low n) v))
 
-none_bools : (o le m v a : Bool) → v ≡ true → o ≡ o || (le && (m && (not v && a)))
-none_bools o le m v a e = grind (arith, nat_tests)
+pub staying_place : (end : CoreEnd) (n i : ℤ) → is_moving end ≡ false → at end.at n ≡ value end.at n i
+staying_place end n i e = ap (λ z. end.at.off +ℤ z) (base_staying end.at.base n (pos 0) i e)
 
-some_bools : (o p r le m v a : Bool) → v ≡ false → p ≡ o || r → r ≡ le && (m && a) → p ≡ o || (le && (m && (not v && a)))
-some_bools o p r le m v a e h k = grind (arith, nat_tests)
+meeting_bools : (r s le : Bool) (er mr role : ℕ) (ev x m mv : ℤ) → er ≡ mr → s ≡ (nat_eq er role && int_eq ev x) && le → r ≡ s && int_eq ev m → m ≡ mv →
+    r ≡ (le && (nat_eq er role && int_eq ev x)) && (nat_eq mr role && int_eq mv x)
+meeting_bools r s le er mr role ev x m mv e es er' em = grind (arith, ints, nat_tests)
 
-apart_bools : (o le v : Bool) (er mr role : ℕ) (p q : Bool) → (er ≡ mr → ⊥) → o ≡ o || (le && ((nat_eq mr role && p) && (v && (nat_eq er role && q))))
-apart_bools o le v er mr role p q h = grind (arith, nat_tests)
+pub meeting_is : (end other : CoreEnd) (place : Lin) (r s le : Bool) (n low : ℤ) (role : ℕ) (x : ℤ) → end.role ≡ other.role → at place n ≡ value other.at n low → s ≡ is_at end n (pos 0) role x && le →
+    r ≡ s && int_eq (at end.at n) (at place n) → r ≡ (le && is_at end n (pos 0) role x) && is_at other n low role x
+meeting_is end other place r s le n low role x e is hs h = meeting_bools r s le end.role other.role role (at end.at n) x (at place n) (value other.at n low) e hs h is
 
-pub meeting_none : (end mover : CoreEnd) (o le : Bool) (n low : ℤ) (role : ℕ) (x : ℤ) → is_moving end ≡ true → o ≡ o || (le && (is_at mover n low role x && (not (is_moving end) && is_at end n (pos 0) role x)))
-meeting_none end mover o le n low role x e = none_bools o le (is_at mover n low role x) (is_moving end) (is_at end n (pos 0) role x) e
+apart_bools : (r le : Bool) (er mr role : ℕ) (p q : Bool) → (er ≡ mr → ⊥) → r ≡ false → r ≡ (le && (nat_eq er role && p)) && (nat_eq mr role && q)
+apart_bools r le er mr role p q h none = grind (arith, nat_tests)
 
-pub meeting_some : (end mover : CoreEnd) (o p r le : Bool) (n low : ℤ) (role : ℕ) (x : ℤ) → is_moving end ≡ false → p ≡ o || r → r ≡ le && (is_at mover n low role x && is_at end n (pos 0) role x) →
-    p ≡ o || (le && (is_at mover n low role x && (not (is_moving end) && is_at end n (pos 0) role x)))
-meeting_some end mover o p r le n low role x e h k = some_bools o p r le (is_at mover n low role x) (is_moving end) (is_at end n (pos 0) role x) e h k
-
-pub meeting_apart : (end mover : CoreEnd) (o le : Bool) (n low : ℤ) (role : ℕ) (x : ℤ) → (end.role ≡ mover.role → ⊥) → o ≡ o || (le && (is_at mover n low role x && (not (is_moving end) && is_at end n (pos 0) role x)))
-meeting_apart end mover o le n low role x e = apart_bools o le (not (is_moving end)) end.role mover.role role (int_eq (value mover.at n low) x) (int_eq (value end.at n (pos 0)) x) e
-
-fixed_bools : (o o2 le m a d l : Bool) → o2 ≡ o || (le && (m && a)) → o || (le && (m && (a || d))) ≡ l → o2 || (le && (m && d)) ≡ l
-fixed_bools o o2 le m a d l e h = grind (arith, nat_tests)
-
-pub fixed_step : (roles : List CoreRole) (visits : List Visit) (i : ℕ) (v : Visit) (n : ℤ) (role : ℕ) (x : ℤ) (o o2 le m l : Bool) → i < length visits →
-    o2 ≡ o || (le && (m && (not (is_moving (get_or visits i v).end) && is_at (get_or visits i v).end n (pos 0) role x))) →
-    o || (le && (m && has_fixed roles n (map visit_of (drop i visits)) role x)) ≡ l → o2 || (le && (m && has_fixed roles n (map visit_of (drop (i + 1) visits)) role x)) ≡ l
-fixed_step roles visits i v n role x o o2 le m l lt e h =
-    fixed_bools o o2 le m (not (is_moving (get_or visits i v).end) && is_at (get_or visits i v).end n (pos 0) role x) (has_fixed roles n (map visit_of (drop (i + 1) visits)) role x) l e
-    (ap (λ z. o || (le && (m && z))) (sym (at_drop_more (λ z. has_fixed roles n (map visit_of z) role x) visits i v lt)) ∙ h)
-
-fixed_end : (o le m l : Bool) → o || (le && (m && false)) ≡ l → o ≡ l
-fixed_end o le m l h = grind (arith, nat_tests)
-
-pub fixed_done : (roles : List CoreRole) (visits : List Visit) (i : ℕ) (n : ℤ) (role : ℕ) (x : ℤ) (o le m l : Bool) → length visits ≤ i →
-    o || (le && (m && has_fixed roles n (map visit_of (drop i visits)) role x)) ≡ l → o ≡ l
-fixed_done roles visits i n role x o le m l le2 h =
-    fixed_end o le m l (ap (λ z. o || (le && (m && has_fixed roles n (map visit_of z) role x))) (sym (drop_of_length-le visits le2)) ∙ h)
-
-moved_bools : (r le m v f : Bool) → v ≡ true → r ≡ le && (m && f) → r ≡ le && (m && (not v || f))
-moved_bools r le m v f e h = grind (arith, nat_tests)
-
-stayed_bools : (r le m v f : Bool) → v ≡ false → r ≡ m && le → r ≡ le && (m && (not v || f))
-stayed_bools r le m v f e h = grind (arith, nat_tests)
-
-pub first_moving : (roles : List CoreRole) (end : CoreEnd) (visits : List Visit) (t : Bounds) (r : Bool) (n : ℤ) (role : ℕ) (x : ℤ) → is_moving end ≡ true →
-    r ≡ int_le (at t.low n) (at t.high n) && (is_at end n (at t.low n) role x && has_fixed roles n (map visit_of visits) role x) →
-    r ≡ int_le (at t.low n) (at t.high n) && (is_at end n (at t.low n) role x && (not (is_moving end) || has_fixed roles n (map visit_of visits) role x))
-first_moving roles end visits t r n role x e h = moved_bools r _ (is_at end n (at t.low n) role x) (is_moving end) (has_fixed roles n (map visit_of visits) role x) e h
-
-pub first_staying : (roles : List CoreRole) (end : CoreEnd) (visits : List Visit) (t : Bounds) (r : Bool) (n : ℤ) (role : ℕ) (x : ℤ) → is_moving end ≡ false →
-    r ≡ is_at end n (pos 0) role x && int_le (at t.low n) (at t.high n) →
-    r ≡ int_le (at t.low n) (at t.high n) && (is_at end n (at t.low n) role x && (not (is_moving end) || has_fixed roles n (map visit_of visits) role x))
-first_staying roles end visits t r n role x e h =
-    stayed_bools r (int_le (at t.low n) (at t.high n)) (is_at end n (at t.low n) role x) (is_moving end) (has_fixed roles n (map visit_of visits) role x) e
-    (h ∙ ap (λ z. (nat_eq end.role role && int_eq (end.at.off +ℤ z) x) && int_le (at t.low n) (at t.high n)) (base_staying end.at.base n (pos 0) (at t.low n) e))
+pub meeting_apart : (end other : CoreEnd) (r le : Bool) (n low : ℤ) (role : ℕ) (x : ℤ) → (end.role ≡ other.role → ⊥) → r ≡ false → r ≡ (le && is_at end n (pos 0) role x) && is_at other n low role x
+meeting_apart end other r le n low role x e none = apart_bools r le end.role other.role role (int_eq (value end.at n (pos 0)) x) (int_eq (value other.at n low) x) e none
 
 passed_bools : (role r : ℕ) (x lo hi off a b n : ℤ) → a ≡ lo +ℤ off → b ≡ hi +ℤ off +ℤ pos 1 → pos 0 ≤ℤ n →
     nat_eq role r && int_le a x && int_lt x b && int_le (pos 0) n && true ≡ nat_eq r role && (int_le (lo +ℤ off) x && int_le x (hi +ℤ off))
@@ -135,6 +86,3 @@ passed_is end t low high next n role x h k el eh en p =
     (ap (λ l. at l n) low_is ∙ at_shifted t.low end.at.off n)
     (ap (λ l. at l n) next_is ∙ at_shifted high (pos 1) n ∙ ap (λ z. z +ℤ pos 1) (ap (λ l. at l n) high_is ∙ at_shifted t.high end.at.off n))
     p
-
-pub fixed_start : (areas : List Area) (f : Bool) (n : ℤ) (role : ℕ) (x : ℤ) → areas ≡ [] → have areas n role x || f ≡ f
-fixed_start areas f n role x e = ap (λ z. have z n role x || f) e

@@ -50,15 +50,13 @@ staying_fits range cuts e t next a r v h k among ends en ea er =
     er (small_off t.low.off sl) (subst (λ l. is_small_off l.off ≡ true) (sym is) high) (ea (over_base e.at.base v) (end_alike t e cuts v ends))
     (cut_near cuts t.low among.0 (over_of_bound t.low k.low) sl) (subst (IsCutOf cuts) (sym is) (cut_next cuts t.high among.1.0 (over_of_bound t.high k.high) sh))
 
-pub meeting_fits : (range : NRange) (cuts : List Lin) (e mover : CoreEnd) (t : Bounds) (by : Lin) (a r : Area) → is_moving e ≡ false → is_moving mover ≡ true → is_small e.at.off ≡ true → is_small mover.at.off ≡ true → IsBounded t →
-    AreAmong (end_cuts (Some t) e) cuts → AreAmong (end_cuts (Some t) mover) cuts →
-    (is_small_off (t.low.off +ℤ mover.at.off) ≡ true → by ≡ shifted t.low mover.at.off) → is_small_off by.off ≡ true → Fits range cuts a →
-    (is_small_off e.at.off ≡ true → is_small_off by.off ≡ true → Fits range cuts a → IsCutOf cuts e.at → IsCutOf cuts by → Fits range cuts r) → Fits range cuts r
-meeting_fits range cuts e mover t by a r u v he hm k ea em is small fa er =
-    let sl : is_small t.low.off ≡ true = small_of_bound t.low k.low in
-    let moved : by ≡ shifted t.low mover.at.off = is (small_sum t.low.off mover.at.off sl hm) in
-    er (small_off e.at.off he) small fa (cut_near cuts e.at (end_still (Some t) e cuts u ea).0 (over_base e.at.base u) he)
-    (subst (IsCutOf cuts) (sym moved) (cut_moved cuts t.low mover.at.off (end_moving t mover cuts v em).0 (over_of_bound t.low k.low) sl hm))
+-- the place of an end at the first value
+pub moving_cut : (cuts : List Lin) (e : CoreEnd) (t : Bounds) (place : Lin) → is_moving e ≡ true → is_small e.at.off ≡ true → IsBounded t → AreAmong (end_cuts (Some t) e) cuts → place ≡ shifted t.low e.at.off → IsCutOf cuts place
+moving_cut cuts e t place v h k among is =
+    subst (IsCutOf cuts) (sym is) (cut_moved cuts t.low e.at.off (end_moving t e cuts v among).0 (over_of_bound t.low k.low) (small_of_bound t.low k.low) h)
+
+pub staying_cut : (cuts : List Lin) (e : CoreEnd) (t : Bounds) → is_moving e ≡ false → is_small e.at.off ≡ true → AreAmong (end_cuts (Some t) e) cuts → IsCutOf cuts e.at
+staying_cut cuts e t v h among = cut_near cuts e.at (end_still (Some t) e cuts v among).0 (over_base e.at.base v) h
 
 pub passed_fits : (range : NRange) (cuts : List Lin) (e : CoreEnd) (t : Bounds) (low high next : Lin) → is_small e.at.off ≡ true → IsBounded t → AreAmong (moving (Some t) e.at.off) cuts →
     (is_small_off (t.low.off +ℤ e.at.off) ≡ true → low ≡ shifted t.low e.at.off) → (is_small_off (t.high.off +ℤ e.at.off) ≡ true → high ≡ shifted t.high e.at.off) →
@@ -80,7 +78,7 @@ passed_fits range cuts e t low high next h k among el eh en =
 
 -- ---- lists of ends
 
-shorter : (i n : ℕ) → suc i < suc n → i < n
+pub shorter : (i n : ℕ) → suc i < suc n → i < n
 shorter i n h = omega arith
 
 pub among_at : (h : Bounds) (cuts : List Lin) (list : List Visit) (i : ℕ) → i < length list → VisitsAmong h cuts (map visit_of list) → AreAmong (end_cuts (Some h) (get_or list i blank).end) cuts
@@ -121,7 +119,7 @@ none_among h cuts sorted e = subst (λ l. MoversAmong h cuts (map visit_of l)) (
 
 -- ---- the ends of a foreach's items
 
-visits_both : (h : Bounds) (cuts : List Lin) (xs ys : List S.Visit) → VisitsAmong h cuts xs → VisitsAmong h cuts ys → VisitsAmong h cuts (xs ++ ys)
+pub visits_both : (h : Bounds) (cuts : List Lin) (xs ys : List S.Visit) → VisitsAmong h cuts xs → VisitsAmong h cuts ys → VisitsAmong h cuts (xs ++ ys)
 visits_both h cuts [] ys a b = b
 visits_both h cuts (v ∷ xs) ys a b = (a.0, visits_both h cuts xs ys a.1 b)
 

@@ -3,3 +3,4 @@ pub mod Narrowed
 pub mod VisitLists
 pub mod EndAreas
 pub mod EndFits
+pub mod Fresh

@@ -6,6 +6,6 @@ mod lins;
 mod meet;
 mod visit;
 
-pub use ends::{first_areas, passed_area};
+pub use ends::{meeting_area, passed_area};
 pub use lins::{back, put};
-pub use visit::{Finding, Visit, moving_in, visits_in};
+pub use visit::{Finding, Visit, fresh_in, is_moving, is_same, moving_in, visits_in};

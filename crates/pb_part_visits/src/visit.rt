@@ -1,12 +1,16 @@
-ghost use Rattle.std.specs.Prelude.{◌≡◌, ◌≤◌, ◌++◌, [], ◌∷◌, IfOk, OnOk, List, map, true, int_le, length, if◌then◌else◌};
+ghost use Rattle.std.specs.Prelude.{◌≡◌, ◌≤◌, ◌++◌, [], ◌∷◌, ℕ, ℤ, Bool, IfOk, OnOk, List, Some, map, true, int_le, length, if◌then◌else◌};
 ghost use Rattle.pb_affine.specs.declared.lin.Lin.{Lin};
-ghost use Rattle.std.specs.List.{prefix_len};
+ghost use Rattle.std.specs.List.{list_any, prefix_len};
+ghost use Rattle.pb_core_language.specs.Cuts.{end_cuts};
 ghost use Rattle.pb_core_language.specs.Plain.{plain_block, plain_stmt};
 ghost use Rattle.pb_core_language.specs.Tree.{message};
+ghost use Rattle.pb_core_language.specs.declared.protocol.CoreRole.{CoreRole};
 ghost use Rattle.pb_core_language.specs.declared.tree.Bounds.{Bounds};
 ghost use Rattle.pb_core_flat.specs.Meets.{is_moving};
-ghost use Rattle.pb_core_flat.specs.Stops.{moving, visits, visits_of, IsByFalling, put_behind};
-ghost use Rattle.pb_part_visits.specs.Visits.{visit_of, finding_of, are_narrow, VisitsAmong, MoversAmong};
+ghost use Rattle.pb_core_flat.specs.Stops as S;
+ghost use Rattle.pb_core_flat.specs.Stops.{moving, visits, visits_of, IsByFalling, put_behind, first_of, at_value, has_fixed};
+ghost use Rattle.pb_part_takers.specs.Pieces.{AreAmong};
+ghost use Rattle.pb_part_visits.specs.Visits.{visit_of, finding_of, is_narrow, are_narrow, VisitsAmong, MoversAmong};
 
 use pb_affine::Base;
 use pb_core_language::{CoreBlock, CoreEnd, CoreKind, CoreStmt};
@@ -131,4 +135,54 @@ pub fn moving_in(alloc: Global, list: &[Visit]) -> Result<Vec<Visit>, NoMemory>
         add_moving(&mut sorted, *visit)?;
     }
     Ok(sorted)
+}
+
+/// True where the two ends are written in the same way. Takes no memory.
+pub fn is_same(a: CoreEnd, b: CoreEnd) -> bool
+    ensures role { result ≡ true → a.role ≡ b.role }
+    ensures at { result ≡ true → a.at ≡ b.at }
+{
+    a.role == b.role && a.at == b.at
+}
+
+/// True only where some end of the list is written as this one: what holds of this one's place then holds of that one's.
+fn has_end(list: &[Visit], end: CoreEnd) -> bool
+    ensures { result ≡ true → (holds : ℕ → Lin → Bool) → holds end.role end.at ≡ true → list_any (λ v. holds v.end.role v.end.at) (map visit_of list.now) ≡ true }
+{
+    for other in list {
+        if is_same(other.end, end) {
+            return true;
+        }
+    }
+    false
+}
+
+/// Adds the end, unless one that is written in the same way is there.
+fn add_fresh(list: &mut Vec<Visit>, visit: Visit) -> Result<(), NoMemory>
+    ensures same { OnOk result ((roles : List CoreRole) (n i : ℤ) (role : ℕ) (x : ℤ) (rest : List S.Visit) →
+        first_of (map (at_value roles n i) (map visit_of list.new.items ++ rest)) role x ≡ first_of (map (at_value roles n i) (map visit_of list.old.items ++ visit_of visit ∷ rest)) role x) }
+    ensures fixed { OnOk result ((roles : List CoreRole) (n : ℤ) (role : ℕ) (x : ℤ) (rest : List S.Visit) →
+        has_fixed roles n (map visit_of list.new.items ++ rest) role x ≡ has_fixed roles n (map visit_of list.old.items ++ visit_of visit ∷ rest) role x) }
+    ensures narrow { OnOk result (is_narrow (visit_of visit) ≡ true → are_narrow (map visit_of list.old.items) ≡ true → are_narrow (map visit_of list.new.items) ≡ true) }
+    ensures among { OnOk result ((h : Bounds) (cuts : List Lin) → AreAmong (end_cuts (Some h) visit.end) cuts → VisitsAmong h cuts (map visit_of list.old.items) → VisitsAmong h cuts (map visit_of list.new.items)) }
+{
+    if has_end(list, visit.end) {
+        return Ok(());
+    }
+    list.push(visit)?;
+    Ok(())
+}
+
+/// The ends without those that stood before: whoever is at one of these has stopped already.
+pub fn fresh_in(alloc: Global, list: &[Visit]) -> Result<Vec<Visit>, NoMemory>
+    ensures same { IfOk result (λ v. (roles : List CoreRole) (n i : ℤ) (role : ℕ) (x : ℤ) → first_of (map (at_value roles n i) (map visit_of v.items)) role x ≡ first_of (map (at_value roles n i) (map visit_of list.now)) role x) }
+    ensures fixed { IfOk result (λ v. (roles : List CoreRole) (n : ℤ) (role : ℕ) (x : ℤ) → has_fixed roles n (map visit_of v.items) role x ≡ has_fixed roles n (map visit_of list.now) role x) }
+    ensures narrow { IfOk result (λ v. are_narrow (map visit_of list.now) ≡ true → are_narrow (map visit_of v.items) ≡ true) }
+    ensures among { IfOk result (λ v. (h : Bounds) (cuts : List Lin) → VisitsAmong h cuts (map visit_of list.now) → VisitsAmong h cuts (map visit_of v.items)) }
+{
+    let mut fresh = Vec::new(alloc);
+    for visit in list {
+        add_fresh(&mut fresh, *visit)?;
+    }
+    Ok(fresh)
 }

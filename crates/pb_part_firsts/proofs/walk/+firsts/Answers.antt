@@ -141,7 +141,7 @@ firsts_of-returns-clause-fits t c = λ range cuts rows h a w d r q.
     c.in_ok-rest.ensures.fits range cuts now.1.areas (stops_fit range cuts _ _ c.deref.ensures.value now.0) now.1.entries
 
 pub firsts_at-returns-then-is_plain-clause-gives : goal.firsts_at-returns-then-is_plain-clause-gives
-firsts_at-returns-then-is_plain-clause-gives t c = λ range roles rows w h around. plain_passes _ (c.in_ok-is_plain.ensures.gives c.if-is_plain.true range roles rows c.args.held.now h)
+firsts_at-returns-then-is_plain-clause-gives t c = λ range roles rows w h around. plain_passes _ (c.in_ok-is_plain.ensures.gives c.if-is_plain.true range roles rows c.args.held.now w h)
 
 pub firsts_at-returns-then-is_plain-clause-none : goal.firsts_at-returns-then-is_plain-clause-none
 firsts_at-returns-then-is_plain-clause-none t c = λ e. absurd (false≢true (sym (plain_goes_on (plain_stmt c.args.stmt.now).stmt (sym c.in_ok-is_plain.ensures.is ∙ c.if-is_plain.true)) ∙ e))
@@ -153,7 +153,7 @@ pub firsts_at-returns-then-is_plain-clause-small : goal.firsts_at-returns-then-i
 firsts_at-returns-then-is_plain-clause-small t c = λ rows h s q. (c.in_ok-is_plain.ensures.small rows (ids_of c.args.held.now) h s, q)
 
 pub firsts_at-returns-then-is_plain-clause-fits : goal.firsts_at-returns-then-is_plain-clause-fits
-firsts_at-returns-then-is_plain-clause-fits t c = λ range cuts rows h a w d r s q. (c.in_ok-is_plain.ensures.fits range cuts rows (ids_of c.args.held.now) h a s, record { areas = r; entries = q })
+firsts_at-returns-then-is_plain-clause-fits t c = λ range cuts rows h a w d r s q. (c.in_ok-is_plain.ensures.fits range cuts rows (ids_of c.args.held.now) h a w s, record { areas = r; entries = q })
 
 pub firsts_at-returns-then-is_empty-clause-gives : goal.firsts_at-returns-then-is_empty-clause-gives
 firsts_at-returns-then-is_empty-clause-gives t c = λ range roles rows w h around.
