@@ -1,6 +1,8 @@
 use pb_affine::{Base, Guard, Lin, NRange};
 use pb_cases::Bad;
-use pb_part_areas::{Area, NoMemory, absorb, add_all, common, guard_of, one, push, without};
+use pb_part_areas::{
+    Area, NoMemory, absorb, add_all, common, guard_of, near, one, push, tidied, without,
+};
 use pb_part_first::first_of;
 use std::alloc::Global;
 
@@ -64,6 +66,45 @@ fn ends_from_both_sides_are_few_areas(rt: HostRuntime) {
 #[test]
 fn single_ends_are_one_area(rt: HostRuntime) {
     assert!(rt; count_of_ends(rt.alloc(), 64, 60) == Ok(1));
+}
+
+/// Every second rank, as many, for N from one number on and before another.
+fn gaps(alloc: Global, count: u8, from: u32, until: Option<u32>) -> Result<Vec<Area>, NoMemory> {
+    let mut list = Vec::new(alloc);
+    for k in 0..count {
+        let low = 2 * i32::from(k);
+        let area = between(fixed(low), fixed(low + 1));
+        list.push(Area {
+            from,
+            until,
+            ..area
+        })?;
+    }
+    Ok(list)
+}
+
+/// How many areas there are of ranks for N before 10, from 10 on and before 20, and from 20 on.
+fn count_over_all(alloc: Global, count: u8) -> Result<usize, NoMemory> {
+    let mut list = gaps(alloc, count, 2, Some(10))?;
+    list.extend_from_slice(&gaps(alloc, count, 20, None)?)?;
+    list.extend_from_slice(&gaps(alloc, count, 10, Some(20))?)?;
+    Ok(tidied(alloc, list)?.len())
+}
+
+#[test]
+fn numbers_one_after_the_other_are_one_area(rt: HostRuntime) {
+    assert!(rt; count_over_all(rt.alloc(), 100) == Ok(100));
+}
+
+/// How many of the ranks may be among those from 10 to 19.
+fn count_near(alloc: Global, count: u8) -> Result<usize, NoMemory> {
+    let list = gaps(alloc, count, 2, None)?;
+    Ok(near(alloc, &list, between(fixed(10), fixed(20)))?.len())
+}
+
+#[test]
+fn what_is_apart_is_not_near(rt: HostRuntime) {
+    assert!(rt; count_near(rt.alloc(), 100) == Ok(5));
 }
 
 fn areas_of_parts(alloc: Global) -> Result<usize, NoMemory> {

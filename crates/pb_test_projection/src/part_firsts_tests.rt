@@ -1,4 +1,4 @@
-use crate::trees::{block, each, fixed, lin, message, param, single, stmt, var, whole};
+use crate::trees::{block, each, fixed, lin, message, param, single, stmt, var, whole, whole_from};
 use pb_affine::Base;
 use pb_core_language::{CoreBlock, CoreKind};
 use pb_part_areas::{Area, NoMemory};
@@ -54,6 +54,38 @@ fn counts(alloc: Global, core: &CoreBlock) -> Result<(usize, usize), NoMemory> {
 fn a_choice_of_many_ends_has_few_entries(rt: HostRuntime) -> Result<(), NoMemory> {
     let core = choice(rt.alloc(), 64, 60)?;
     assert!(rt; counts(rt.alloc(), &core) == Ok((129, 1)));
+    Ok(())
+}
+
+/// A foreach in which W[0] tells W[N - 2 * k] and W[i + k] for k from 1 on, by two labels. Where the two are one rank at the first
+/// value, the first message counts.
+fn crossed(alloc: Global, count: i8) -> Result<CoreBlock, NoMemory> {
+    let mut list = Vec::new(alloc);
+    for k in 1..count {
+        let off = i32::from(k);
+        list.push(message(0, fixed(0), param(-2 * off)))?;
+        list.push(message(1, fixed(0), var(off)))?;
+    }
+    single(alloc, each(fixed(1), param(-1 - i32::from(count)), list))
+}
+
+/// How many entries it has where N is at least twice the number of messages of a label, and how many areas are left.
+fn crossed_counts(alloc: Global, count: i8) -> Result<(usize, usize), NoMemory> {
+    let core = crossed(alloc, count)?;
+    let from = 2 * u32::from(count.unsigned_abs()) + 1;
+    let all = whole_from(alloc, from)?;
+    let reach = whole_from(alloc, from)?;
+    let held: Vec<Held> = Vec::new(alloc);
+    let mut out = Vec::new(alloc);
+    let left = firsts_in(&core, alloc, &all, &held, reach, &mut out)?;
+    Ok((out.len(), left.len()))
+}
+
+#[test]
+fn ends_that_move_leave_few_areas(rt: HostRuntime) -> Result<(), NoMemory> {
+    let (entries, left) = crossed_counts(rt.alloc(), 100)?;
+    assert!(rt; entries < 250);
+    assert!(rt; left == 2);
     Ok(())
 }
 

@@ -69,14 +69,19 @@ pub fn each(low: CoreEnd, high: CoreEnd, list: Vec<CoreStmt>) -> CoreKind {
     }
 }
 
-/// All ranks, for N from 2 on.
-pub fn whole(alloc: Global) -> Result<Vec<Area>, NoMemory> {
+/// All ranks, for N from a number on.
+pub fn whole_from(alloc: Global, from: u32) -> Result<Vec<Area>, NoMemory> {
     let ranks = Area {
         role: 0,
         low: lin(Base::Fixed, 0),
         end: lin(Base::Param, 0),
-        from: 2,
+        from,
         until: None,
     };
     one(alloc, ranks)
+}
+
+/// All ranks, for N from 2 on.
+pub fn whole(alloc: Global) -> Result<Vec<Area>, NoMemory> {
+    whole_from(alloc, 2)
 }
