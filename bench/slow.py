@@ -408,14 +408,23 @@ def each_labels(rng):
     return low, [line.replace("L", "M", 1) if "[i+" in line else line for line in body]
 
 
+def each_gaps(rng):
+    """As `each_labels`, with ends that move W[i+2*k], which begin at ends that stay for every second N alone."""
+    count = min(large(rng, 1000, 20), STATEMENTS // 4 - 2)
+    blocks = [[f"foreach (i:1..N-{2 * count + 1}) {{"]
+              + [line for k in range(1, count) for line in (f"L{b}() from W[0] to W[N-{2 * k}];", f"M{b}() from W[0] to W[i+{2 * k}];")]
+              + ["}", f"G{b}() from W[0] to W[i:1..N-1];"] for b in range(2)]
+    return 2 * count + 2, choice_of(blocks)
+
+
 def by_name(*shapes):
     return {it.__name__: it for it in shapes}
 
 
 SHAPES = by_name(choice, own_ranks, offsets, offsets_to_one, cuts, told_in_turn, loops, tree, gaps, gaps_from_both, two_sources, cross_loop,
                  loops_joint, each_stays, low_ranges, wide_ranges, loops_choices, choices_split, choices_gaps, choices_told, continues,
-                 continues_told, loops_cross, cross_each, each_holes, each_met, told_by_many, one_rank)
-HARD = by_name(loops_gaps, cross_told, choices_cross, each_labels)
+                 continues_told, loops_cross, cross_each, each_holes, each_met, told_by_many, one_rank, each_labels, loops_gaps)
+HARD = by_name(cross_told, choices_cross, each_gaps)
 
 
 def made(shape, seed):
