@@ -342,13 +342,18 @@ def each_holes(rng):
     return 3 * count + 4, [f"foreach (i:0..N-{count + 1}) {{", *items, "}"]
 
 
-def each_met(rng):
-    """A choice of which each branch has a `foreach` of ends W[N-2*k] and of ends that move and begin there for some N."""
+def met(rng, label, step):
+    """A choice of which each branch has a `foreach` of ends W[N-2*k] and of ends W[i+step*k], which are told by this label."""
     count = min(large(rng, 1000, 20), STATEMENTS // 4 - 2)
-    blocks = [[f"foreach (i:1..N-{count + 1}) {{"]
-              + [line for k in range(1, count) for line in (f"L{b}() from W[0] to W[N-{2 * k}];", f"L{b}() from W[0] to W[i+{k}];")]
+    blocks = [[f"foreach (i:1..N-{step * count + 1}) {{"]
+              + [line for k in range(1, count) for line in (f"L{b}() from W[0] to W[N-{2 * k}];", f"{label}{b}() from W[0] to W[i+{step * k}];")]
               + ["}", f"G{b}() from W[0] to W[i:1..N-1];"] for b in range(2)]
-    return 2 * count + 1, choice_of(blocks)
+    return 2 * count + step, choice_of(blocks)
+
+
+def each_met(rng):
+    """Ends W[N-2*k] and ends that move and begin there for some N, in a `foreach` in each branch of a choice."""
+    return met(rng, "L", 1)
 
 
 def told_by_many(rng):
@@ -404,17 +409,12 @@ def choices_cross(rng):
 
 def each_labels(rng):
     """As `each_met`, with labels of their own for the ends that move: where two ends are one rank, the first message counts."""
-    low, body = each_met(rng)
-    return low, [line.replace("L", "M", 1) if "[i+" in line else line for line in body]
+    return met(rng, "M", 1)
 
 
 def each_gaps(rng):
     """As `each_labels`, with ends that move W[i+2*k], which begin at ends that stay for every second N alone."""
-    count = min(large(rng, 1000, 20), STATEMENTS // 4 - 2)
-    blocks = [[f"foreach (i:1..N-{2 * count + 1}) {{"]
-              + [line for k in range(1, count) for line in (f"L{b}() from W[0] to W[N-{2 * k}];", f"M{b}() from W[0] to W[i+{2 * k}];")]
-              + ["}", f"G{b}() from W[0] to W[i:1..N-1];"] for b in range(2)]
-    return 2 * count + 2, choice_of(blocks)
+    return met(rng, "M", 2)
 
 
 def by_name(*shapes):
