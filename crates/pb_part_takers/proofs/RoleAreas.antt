@@ -1,16 +1,15 @@
 -- The areas of all ranks.
-use Rattle.std.proofs.Common.{◌≡◌, ◌<◌, ◌≤◌, ◌+◌, inr, ℕ, zero, suc, ℤ, pos, ◌+ℤ◌, ◌≤ℤ◌, int_le, int_lt, nat_eq, Bool, true, false, ◌&&◌, ◌||◌, List, [], ◌∷◌, length, get_or, drop, drop_of_length-le, Option, Some, sym, ap, subst, ◌∙◌, arith}
+use Rattle.std.proofs.Common.{◌≡◌, ◌<◌, ◌+◌, ℕ, zero, suc, ℤ, pos, ◌+ℤ◌, ◌≤ℤ◌, int_le, int_lt, nat_eq, Bool, true, ◌&&◌, ◌||◌, List, [], ◌∷◌, length, get_or, drop, Option, sym, ap, subst, ◌∙◌, arith}
 use Rattle.std.proofs.lemmas.Int.{ints}
 use Rattle.std.proofs.lemmas.Bool.{and_parts}
 use Rattle.std.proofs.lemmas.Bool.Decides.{nat_tests}
-use Rattle.std.proofs.Math.Bool.{or-false}
 use Rattle.pb_affine.specs.declared.lin.Lin.{Lin}
 use Rattle.pb_affine.specs.declared.range.NRange.{NRange}
-use Rattle.pb_affine.specs.Values.{value, shifted, is_up_to}
+use Rattle.pb_affine.specs.Values.{value, shifted}
 use Rattle.pb_cases.specs.Breakpoints.{IsInRange}
 use Rattle.pb_part_areas.specs.declared.area.Area.{Area}
 use Rattle.pb_part_areas.specs.Areas.{has, have, at, is_before}
-use Rattle.pb_part_areas.specs.Fits.{Fits, IsCutOf, IsEdgeOf, IsEdgeOfIf}
+use Rattle.pb_part_areas.specs.Fits.{Fits, IsCutOf, IsEdgeOfIf}
 use Rattle.pb_part_areas.proofs.Meets.{low_edge}
 use Rattle.pb_core_language.specs.declared.protocol.CoreRole.{CoreRole}
 use Rattle.pb_core_language.specs.Cuts.{edges, role_cuts}
@@ -60,13 +59,6 @@ role_fits number over range end until s edge cuts bl bh among =
       until = edge cuts;
     }
 
-past : (high : ℕ) → is_up_to (pos (high + 1)) (Some high) ≡ false
-past high = grind (arith, ints)
-
--- the number after the range
-pub after_edge : (range : NRange) (high : ℕ) (cuts : List Lin) → range.high ≡ Some high → IsEdgeOf range cuts (pos (high + 1))
-after_edge range high cuts e = record { edge = inr (inr (ap (is_up_to (pos (high + 1))) e ∙ past high)) }
-
 -- ---- all of them
 
 next_number : (i : ℕ) → i + 1 ≡ suc i
@@ -113,6 +105,3 @@ role_step roles i r n role x old new a l lt is e ea h =
     (ap (λ k. have old n role x || ((nat_eq role i && (int_le (value r.low n (pos 0)) x && int_le x (value r.high n (pos 0)))) || seated k (drop (i + 1) roles) n role x)) (next_number i)
     ∙ ap (λ z. have old n role x || z) (sym (seat_in_role i r (drop (i + 1) roles) n role x) ∙ ap (λ z. seated i z n role x) (sym (from_place roles i r lt is)))
     ∙ h)
-
-pub role_end : (roles : List CoreRole) (i : ℕ) (n : ℤ) (role : ℕ) (x : ℤ) (o l : Bool) → length roles ≤ i → o || seated i (drop i roles) n role x ≡ l → o ≡ l
-role_end roles i n role x o l le h = sym (or-false o) ∙ sym (ap (λ z. o || seated i z n role x) (drop_of_length-le roles le)) ∙ h

@@ -17,9 +17,9 @@ pub returns-in_ok-out-clause-is : goal.returns-in_ok-out-clause-is
 returns-in_ok-out-clause-is c = λ n role x.
     c.in_ok-out.ensures.is n role x
     ∙ c.in_ok-list.ensures.is n role x
-    ∙ ap (λ z. have z n role x) c.deref.ensures.value
+    ∙ ap (λ z. have z n role x) c.deref-then-len-gt-MOST.ensures.value
     ∙ add_end _ _ _ _ n role x c.loop-a-test.false (c.loop-a.invariant.is n role x)
 
 pub returns-in_ok-out-clause-fits : goal.returns-in_ok-out-clause-fits
 returns-in_ok-out-clause-fits c = λ range cuts h f.
-    c.in_ok-out.ensures.fits range cuts (c.in_ok-list.ensures.fits range cuts (subst (All (Fits range cuts)) (sym c.deref.ensures.value) (c.loop-a.invariant.fits range cuts h f)))
+    c.in_ok-out.ensures.fits range cuts (c.in_ok-list.ensures.fits range cuts (subst (All (Fits range cuts)) (sym c.deref-then-len-gt-MOST.ensures.value) (c.loop-a.invariant.fits range cuts h f)))
