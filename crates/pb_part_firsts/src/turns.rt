@@ -36,12 +36,11 @@ fn is_same(a: Kind, b: Kind) -> bool
     a == b
 }
 
-/// True only where the ranks of the area find something other than a receive, and nobody of the parts is one of them. So it
-/// mostly is of a sender that has sent before. Takes no memory.
+/// True only where nobody of the parts is at the stop. Takes no memory.
 fn is_past(parts: &[Part], stop: Entry) -> bool
     ensures { result ≡ true → AreAround parts.now → (n : ℤ) (role : ℕ) (x : ℤ) → have (flat parts.now) n role x && not (has stop.area n role x) ≡ have (flat parts.now) n role x }
 {
-    is_same(stop.kind, Kind::Other) && are_past(parts, stop.area)
+    are_past(parts, stop.area)
 }
 
 /// Adds what those at the areas find, and leaves the others.
