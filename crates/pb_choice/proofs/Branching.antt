@@ -15,15 +15,17 @@ use Rattle.pb_part_takers.specs.declared.held.Held.{Held}
 use Rattle.pb_part_firsts.specs.declared.firsts.Entry.{Entry}
 use Rattle.pb_part_takers.specs.Loops.{ids_of}
 use Rattle.pb_choice.specs.declared.found.Found.{Found}
-use Rattle.pb_choice.specs.Flaws.{IsFlaw, no_flaws, both, of_rules, of_block, of_stmt, of_branches, is_told, found_in, misses}
+use Rattle.pb_choice.specs.Flaws.{Flaws, IsFlaw, no_flaws, both, of_rules, of_stmt, of_branches, of_tellings, of_insides, is_told, found_in, misses}
 use Rattle.pb_choice.specs.Found.{Improves}
 use Rattle.pb_choice.specs.Scenes.{Stands, IsFair, AreFair, Are}
-use Rattle.pb_choice.specs.Settled.{FirstChoice}
+use Rattle.pb_choice.specs.Settled.{FirstTold, FirstInside, FirstChoice}
 use Rattle.pb_choice.specs.Told.{AreTold}
 use Rattle.pb_choice.specs.Walks.{FirstAt, FirstAmong, FirstWithin, IsPast}
 use Rattle.pb_choice.proofs.FlawSteps.{SameFlaws, same_back, improves_both, improves_same, improves_empty}
+use Rattle.pb_choice.proofs.Improving.{improves_as}
 use Rattle.pb_choice.proofs.Fairs.{fair_branches, fair_branch, fair_others}
-use Rattle.pb_choice.proofs.Parts.{choice_parts, branch_parts}
+use Rattle.pb_choice.proofs.Parts.{choice_parts}
+use Rattle.pb_choice.proofs.Insides.{to_parts, from_parts}
 use Rattle.pb_choice.proofs.Lists.{drop_is}
 
 -- the branches from here on, what was found before them, and what is left to find in them
@@ -32,8 +34,8 @@ pub record AmongNow (range : NRange) (roles : List CoreRole) (rows : Rows) (env 
   pub before : ℤ → ℕ → ℤ → List Outcome
   pub past : IsPast range roles test before entries mixed
   pub fair : AreFair range roles rows opens now
-  pub rest : (new : Option Found) → Improves (IsFlaw range roles (of_branches roles env opens test before now)) best new →
-      Improves (IsFlaw range roles (of_branches roles env opens test (λ n role x. []) all)) old new
+  pub rest : (new : Option Found) → Improves (IsFlaw range roles (of_tellings roles env opens test before now)) best new →
+      Improves (IsFlaw range roles (of_tellings roles env opens test (λ n role x. []) all)) old new
 
 pub record AmongSoFar (range : NRange) (whole : List Area) (held : List Held) (told : List Area) (items : List CoreBlock) (i : ℕ)
     (entries : List Entry) (mixed : List Area) (old best : Option Found) : Type 0 where
@@ -77,10 +79,10 @@ among_step range whole held told items i x entries mixed now now_mixed old best 
         fair = fair_others range roles rows (ids_of held) (plain_block x).mark (plain_block x).block others t.fair;
         rest = λ new h. t.rest new
             (improves_both range roles
-            (both (of_rules (plain_block x).mark (λ k n role y. misses test (t.before n role y) (found_in roles env (ids_of held) (plain_block x).block n role y) k n role y)) (of_block roles env (ids_of held) (plain_block x).block))
-            (of_branches roles env (ids_of held) test (λ n role y. t.before n role y ++ found_in roles env (ids_of held) (plain_block x).block n role y) others)
-            (of_branches roles env (ids_of held) test t.before (branch (plain_block x).mark (plain_block x).block others)) best next new
-            (branch_parts roles env (ids_of held) test t.before (plain_block x).mark (plain_block x).block others)
+            (of_rules (plain_block x).mark (λ k n role y. misses test (t.before n role y) (found_in roles env (ids_of held) (plain_block x).block n role y) k n role y))
+            (of_tellings roles env (ids_of held) test (λ n role y. t.before n role y ++ found_in roles env (ids_of held) (plain_block x).block n role y) others)
+            (of_tellings roles env (ids_of held) test t.before (branch (plain_block x).mark (plain_block x).block others)) best next new
+            (record { lone = λ n. refl; told = λ k n role y. refl })
             (here.is roles rows env test t.before stands b_fair are t.past) h);
       };
 }
@@ -91,20 +93,37 @@ pub among_done : (range : NRange) (whole : List Area) (held : List Held) (told :
 among_done range whole held told items i entries mixed old best le so_far = record {
   is = λ roles rows env test stands fair are.
       let t : AmongNow range roles rows env (ids_of held) test (branches_of (map plain_block items)) (branches_of (map plain_block (drop i items))) entries mixed old best = so_far.is roles rows env test stands fair are in
-      t.rest best (improves_empty range roles (of_branches roles env (ids_of held) test t.before (branches_of (map plain_block (drop i items)))) best
-      (subst (λ l. SameFlaws (of_branches roles env (ids_of held) test t.before (branches_of (map plain_block l))) no_flaws) (sym (drop_of_length-le items le)) (record { lone = λ n. refl; told = λ k n role x. refl })));
+      t.rest best (improves_empty range roles (of_tellings roles env (ids_of held) test t.before (branches_of (map plain_block (drop i items)))) best
+      (subst (λ l. SameFlaws (of_tellings roles env (ids_of held) test t.before (branches_of (map plain_block l))) no_flaws) (sym (drop_of_length-le items le)) (record { lone = λ n. refl; told = λ k n role x. refl })));
 }
 
-pub choice_told : (range : NRange) (whole : List Area) (held : List Held) (at : CoreEnd) (bs : BranchTrees) (told seen : List Area) (old new : Option Found) → seen ≡ told →
-    AreTold range whole held at bs told → FirstAmong range whole held seen bs old new → FirstChoice range whole held at bs old new
-choice_told range whole held at bs told seen old new seen_is told_is among = record {
+pub told_first : (range : NRange) (whole : List Area) (held : List Held) (at : CoreEnd) (bs : BranchTrees) (told seen : List Area) (old new : Option Found) → seen ≡ told →
+    AreTold range whole held at bs told → FirstAmong range whole held seen bs old new → FirstTold range whole held at bs old new
+told_first range whole held at bs told seen old new seen_is told_is among = record {
+  is = λ roles rows env m k stands fair.
+      among.is roles rows env (is_told roles env (ids_of held) at bs) stands (fair_branches range roles rows (ids_of held) m k at bs fair)
+      (subst (λ l. Are range roles l (is_told roles env (ids_of held) at bs)) (sym seen_is) (told_is.is roles rows env m k stands fair));
+}
+
+-- ---- a choice
+
+-- the rules at the branches, and then what is inside them
+pub choice_first : (range : NRange) (whole : List Area) (held : List Held) (at : CoreEnd) (bs : BranchTrees) (old mid new : Option Found) →
+    FirstTold range whole held at bs old mid → FirstInside range whole held bs mid new → FirstChoice range whole held at bs old new
+choice_first range whole held at bs old mid new told inside = record {
   is = λ m k. record {
     is = λ roles rows env stands fair.
-        let are : Are range roles told (is_told roles env (ids_of held) at bs) = told_is.is roles rows env m k stands fair in
-        improves_same range roles (of_branches roles env (ids_of held) (is_told roles env (ids_of held) at bs) (λ n role x. []) bs) (of_stmt roles env (ids_of held) m (choice k at bs)) old new
-        (same_back (of_stmt roles env (ids_of held) m (choice k at bs)) _ (choice_parts roles env (ids_of held) m k at bs))
-        (among.is roles rows env (is_told roles env (ids_of held) at bs) stands (fair_branches range roles rows (ids_of held) m k at bs fair)
-        (subst (λ l. Are range roles l (is_told roles env (ids_of held) at bs)) (sym seen_is) are));
+        let opens : List ℕ = ids_of held in
+        let test : ℤ → ℕ → ℤ → Bool = is_told roles env opens at bs in
+        let tellings : Flaws = of_tellings roles env opens test (λ n role x. []) bs in
+        let insides : Flaws = of_insides roles env opens bs in
+        let branches : Flaws = of_branches roles env opens test (λ n role x. []) bs in
+        improves_same range roles branches (of_stmt roles env opens m (choice k at bs)) old new
+        (same_back (of_stmt roles env opens m (choice k at bs)) branches (choice_parts roles env opens m k at bs))
+        (improves_as (IsFlaw range roles (both tellings insides)) (IsFlaw range roles branches) old new
+        (from_parts range roles env opens test (λ n role x. []) bs) (to_parts range roles env opens test (λ n role x. []) bs)
+        (improves_both range roles tellings insides (both tellings insides) old mid new (record { lone = λ n. refl; told = λ j n role x. refl })
+        (told.is roles rows env m k stands fair) (inside.is roles rows env stands (fair_branches range roles rows opens m k at bs fair))));
   };
 }
 

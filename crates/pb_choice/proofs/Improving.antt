@@ -40,23 +40,18 @@ improves_as S T a b f g s = record {
   first = λ d kd h k. s.first d kd h (g d k);
 }
 
--- the same and such as aren't before the old one
-pub improves_but : (S T : Broken → Type 0) (a b : Option Found) → ((c : Broken) → S c → T c) → ((c : Broken) → T c → S c ⊎ IsNotBefore c a) → Improves S a b → Improves T a b
-improves_but S T a b f g s = record {
-  named = s.named;
-  comes = comes_as S T a b f s.comes;
-  keeps = s.keeps;
-  first = λ d kd h k. elim (g d k) [ inl x ↦ s.first d kd h x | inr y ↦ s.keeps d kd h y ];
+-- breaches that aren't before the old one
+pub improves_late : (S : Broken → Type 0) (a : Option Found) → ((c : Broken) → S c → IsNotBefore c a) → Improves S a a
+improves_late S a late = record {
+  named = λ h. h;
+  comes = inl refl;
+  keeps = λ d kd h k. k;
+  first = λ d kd h k. late d k;
 }
 
 -- no breach
 pub improves_none : (S : Broken → Type 0) (a : Option Found) → ((c : Broken) → S c → ⊥) → Improves S a a
-improves_none S a none = record {
-  named = λ h. h;
-  comes = inl refl;
-  keeps = λ d kd h k. k;
-  first = λ d kd h k. absurd (none d k);
-}
+improves_none S a none = improves_late S a (λ c h. absurd (none c h))
 
 earlier_named : (a : Option Found) (f : Found) → IsNamedBroken (broken_of f) → IsNamedIf a → IsNamedIf (earlier a f)
 earlier_named None f h k = h

@@ -4,6 +4,7 @@ pub mod FlawSteps
 pub mod Origins
 pub mod Fairs
 pub mod Parts
+pub mod Insides
 pub mod Lists
 pub mod Bodies
 pub mod Blocks
@@ -13,10 +14,9 @@ pub mod Seatings
 pub mod Within
 pub mod Tops
 pub mod Tolds
-pub mod Anys
 pub mod Members
 pub mod RuleTests
 pub mod EmptySteps
 pub mod Lones
 pub mod Circles
-pub mod Halves
+pub mod Senders

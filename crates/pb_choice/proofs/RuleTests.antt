@@ -21,7 +21,7 @@ use Rattle.pb_part_firsts.specs.Takers.{IsWhole}
 use Rattle.pb_part_firsts.specs.Firsts.{outcome_of, finds, are_small, is_small_kind}
 use Rattle.pb_choice.specs.declared.found.Found.{Found}
 use Rattle.pb_choice.specs.declared.rule.ChoiceRule.TheVariants.{OnlyReceives, OneSource, OwnLabels}
-use Rattle.pb_choice_entries.specs.Clashes.{strange, clashes, forks, AreSplit}
+use Rattle.pb_choice_entries.specs.Clashes.{strange, clashes, forks, AreWhere, AreSplit}
 use Rattle.pb_choice.specs.Flaws.{IsFlaw, both, flaw_at, of_rules, misses}
 use Rattle.pb_choice.specs.Found.{Improves}
 use Rattle.pb_choice.specs.Scenes.{Are}
@@ -157,10 +157,10 @@ module _ (range : NRange) (roles : List CoreRole) (test : ℤ → ℕ → ℤ �
             (record { label = l; first = s.0; second = t.0; one = here_given n role x w r parts.0 s.0 l s.1; other = past_given n role x w r parts.0 t.0 l t.1 })) ∙ z))))
       ]
 
-  pub are_shared : (areas : List Area) → ((n : ℤ) (role : ℕ) (x : ℤ) → have areas n role x ≡ clashes here entries n role x) →
+  pub are_shared : (areas : List Area) → AreWhere areas (clashes here entries) →
       Are range roles areas (λ n role x. misses test (before n role x) (found n role x) OwnLabels n role x)
   are_shared areas e = record {
-    is = λ n role x w r. e n role x ∙ both_ways (clashes here entries n role x) (test n role x && not (none_shared (labels_of (found n role x)) (labels_of (before n role x)))) (labels_meet n role x w r) (meet_labels n role x w r);
+    is = λ n role x w r. e.is n role x (zero_low range.low n w.low) ∙ both_ways (clashes here entries n role x) (test n role x && not (none_shared (labels_of (found n role x)) (labels_of (before n role x)))) (labels_meet n role x w r) (meet_labels n role x w r);
   }
 
   -- ---- rule 11
@@ -237,7 +237,7 @@ pub first_of_rules : (range : NRange) (whole : List Area) (here : List Entry) (l
     strange_seen ≡ strange_areas → split_seen ≡ split → shared_seen ≡ shared →
     ((n : ℤ) (role : ℕ) (x : ℤ) → have strange_areas n role x ≡ have left n role x || strange here n role x) →
     (are_small here ≡ true → are_small entries ≡ true → AreSplit here entries mixed split) →
-    ((n : ℤ) (role : ℕ) (x : ℤ) → have shared n role x ≡ clashes here entries n role x) →
+    (are_small here ≡ true → are_small entries ≡ true → AreWhere shared (clashes here entries)) →
     KeptFor range whole strange_seen (λ roles bad. Improves (IsFlaw range roles (flaw_at OnlyReceives m bad)) old first) →
     KeptFor range whole split_seen (λ roles bad. Improves (IsFlaw range roles (flaw_at OneSource m bad)) first second) →
     KeptFor range whole shared_seen (λ roles bad. Improves (IsFlaw range roles (flaw_at OwnLabels m bad)) second new) →
@@ -250,7 +250,7 @@ first_of_rules range whole here left m entries mixed now now_mixed strange_areas
       let b : Are range roles split_seen (λ n role x. misses test (before n role x) (found n role x) OneSource n role x) =
       subst (λ l. Are range roles l (λ n role x. misses test (before n role x) (found n role x) OneSource n role x)) (sym e2) (are_split range roles test before found here left entries mixed is_here is_past split (is_split is_here.small is_past.small)) in
       let c : Are range roles shared_seen (λ n role x. misses test (before n role x) (found n role x) OwnLabels n role x) =
-      subst (λ l. Are range roles l (λ n role x. misses test (before n role x) (found n role x) OwnLabels n role x)) (sym e3) (are_shared range roles test before found here left entries mixed is_here is_past shared is_shared) in
+      subst (λ l. Are range roles l (λ n role x. misses test (before n role x) (found n role x) OwnLabels n role x)) (sym e3) (are_shared range roles test before found here left entries mixed is_here is_past shared (is_shared is_here.small is_past.small)) in
       improves_both range roles (flaw_at OnlyReceives m (λ n role x. misses test (before n role x) (found n role x) OnlyReceives n role x))
       (both (flaw_at OneSource m (λ n role x. misses test (before n role x) (found n role x) OneSource n role x)) (flaw_at OwnLabels m (λ n role x. misses test (before n role x) (found n role x) OwnLabels n role x)))
       (of_rules m (λ k n role x. misses test (before n role x) (found n role x) k n role x)) old first new

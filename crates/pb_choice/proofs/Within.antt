@@ -1,5 +1,5 @@
 -- A branch of a choice, with what the ranks that are told find in it.
-use Rattle.std.proofs.Common.{◌≡◌, ℕ, ℤ, pos, Bool, true, false, ◌&&◌, ◌||◌, Option, List, [], refl, ap, ap₂, ◌∙◌, subst}
+use Rattle.std.proofs.Common.{◌≡◌, ℕ, ℤ, pos, Bool, true, false, ◌&&◌, ◌||◌, Option, List, [], ap, ap₂, ◌∙◌, subst}
 use Rattle.pb_affine.specs.declared.range.NRange.{NRange}
 use Rattle.pb_core_language.specs.declared.protocol.CoreRole.{CoreRole}
 use Rattle.pb_core_language.specs.Tree.{Mark, BlockTree}
@@ -19,10 +19,9 @@ use Rattle.pb_part_firsts.specs.Takers.{IsWhole}
 use Rattle.pb_part_takers.specs.Loops.{ids_of}
 use Rattle.pb_part_firsts.specs.Firsts.{Gives, first_in, finds, are_small}
 use Rattle.pb_choice.specs.declared.found.Found.{Found}
-use Rattle.pb_choice.specs.Flaws.{both, of_rules, of_block, found_in, misses}
+use Rattle.pb_choice.specs.Flaws.{found_in}
 use Rattle.pb_choice.specs.Scenes.{Stands, IsFair, Are}
-use Rattle.pb_choice.specs.Walks.{FirstIn, FirstOf, FirstWithin, IsHere}
-use Rattle.pb_choice.proofs.FlawSteps.{improves_both}
+use Rattle.pb_choice.specs.Walks.{FirstOf, FirstWithin, IsHere}
 use Rattle.pb_choice.proofs.Seatings.{seated_first}
 
 abbrev GivenIn : (whole : List Area) (held : List Held) (b : BlockTree) (reach left : List Area) (none here : List Entry) → Type 0
@@ -51,20 +50,16 @@ is_here range whole held told reach left b none here roles rows env test no_none
     }
 
 pub branch_first : (range : NRange) (whole : List Area) (held : List Held) (told reach left left_seen : List Area) (m : Mark) (b : BlockTree) (none here here_seen : List Entry)
-    (entries : List Entry) (mixed : List Area) (now : List Entry) (now_mixed : List Area) (old first new : Option Found) → none ≡ [] → here_seen ≡ here → left_seen ≡ left →
+    (entries : List Entry) (mixed : List Area) (now : List Entry) (now_mixed : List Area) (old new : Option Found) → none ≡ [] → here_seen ≡ here → left_seen ≡ left →
     ((n : ℤ) (role : ℕ) (x : ℤ) → have reach n role x ≡ have told n role x) → GivenIn whole held b reach left none here → SmallIn held b none here →
-    FirstOf range whole here_seen left_seen m entries mixed now now_mixed old first → FirstIn range whole held b first new →
-    FirstWithin range whole held told m b entries mixed now now_mixed old new
-branch_first range whole held told reach left left_seen m b none here here_seen entries mixed now now_mixed old first new no_none here_is left_is same given small rules within =
-    let f : FirstOf range whole here left m entries mixed now now_mixed old first =
-    subst (λ z. FirstOf range whole z left m entries mixed now now_mixed old first) here_is (subst (λ z. FirstOf range whole here_seen z m entries mixed now now_mixed old first) left_is rules) in
+    FirstOf range whole here_seen left_seen m entries mixed now now_mixed old new → FirstWithin range whole held told m b entries mixed now now_mixed old new
+branch_first range whole held told reach left left_seen m b none here here_seen entries mixed now now_mixed old new no_none here_is left_is same given small rules =
+    let f : FirstOf range whole here left m entries mixed now now_mixed old new =
+    subst (λ z. FirstOf range whole z left m entries mixed now now_mixed old new) here_is (subst (λ z. FirstOf range whole here_seen z m entries mixed now now_mixed old new) left_is rules) in
     record {
       is = λ roles rows env test before stands fair are past.
-          let h : IsHere range roles test (found_in roles env (ids_of held) b) here left = is_here range whole held told reach left b none here roles rows env test no_none same given small stands fair are in
-          improves_both range roles (of_rules m (λ k n role x. misses test (before n role x) (found_in roles env (ids_of held) b n role x) k n role x)) (of_block roles env (ids_of held) b)
-          (both (of_rules m (λ k n role x. misses test (before n role x) (found_in roles env (ids_of held) b n role x) k n role x)) (of_block roles env (ids_of held) b)) old first new
-          (record { lone = λ n. refl; told = λ k n role x. refl })
-          (f.is roles test before (found_in roles env (ids_of held) b) stands.whole_is h past) (within.is roles rows env stands fair);
+          f.is roles test before (found_in roles env (ids_of held) b) stands.whole_is
+          (is_here range whole held told reach left b none here roles rows env test no_none same given small stands fair are) past;
       past = λ roles rows env test before stands fair are past.
           f.past roles test before (found_in roles env (ids_of held) b) stands.whole_is
           (is_here range whole held told reach left b none here roles rows env test no_none same given small stands fair are) past;

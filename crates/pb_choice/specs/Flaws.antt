@@ -4,7 +4,7 @@ use Rattle.pb_affine.specs.declared.range.NRange.{NRange}
 use Rattle.pb_core_language.specs.declared.protocol.CoreRole.{CoreRole}
 use Rattle.pb_core_language.specs.declared.tree.CoreEnd.{CoreEnd}
 use Rattle.pb_core_language.specs.Ranks.{total}
-use Rattle.pb_core_language.specs.Tree.{Mark, StmtTree, BlockTree, BranchTrees}
+use Rattle.pb_core_language.specs.Tree.{Mark, StmtTree, BlockTree, BranchTrees, no_branch, branch}
 use Rattle.pb_core_language.specs.Flat.{Block, stop, takes_part, takes_part_among}
 use Rattle.pb_core_language.specs.FlatOf.{rank_of, flat_stmt, flat_block, flat_branches}
 use Rattle.pb_core_language.specs.Run.{Env, at_rank}
@@ -108,3 +108,15 @@ module _ (roles : List CoreRole) (env : ℤ → Env) (opens : List ℕ) where
     told = λ k n role x. misfits_among (fits_of k) (at_rank (rank roles n role x) (env n)) (rank roles n role x) (told n role x) (before n role x)
         (flat_branches roles n opens (pos 0) bs);
   }
+
+  -- the rules on choices at branches alone, behind others in which these were found first
+  abbrev pub of_tellings : (ℤ → ℕ → ℤ → Bool) → (ℤ → ℕ → ℤ → List Outcome) → BranchTrees → Flaws
+  of_tellings told before no_branch = no_flaws
+  of_tellings told before (branch m b bs) =
+      both (of_rules m (λ k n role x. misses told (before n role x) (found_in b n role x) k n role x))
+      (of_tellings told (λ n role x. before n role x ++ found_in b n role x) bs)
+
+  -- what is inside branches, without the rules at the branches themselves
+  abbrev pub of_insides : BranchTrees → Flaws
+  of_insides no_branch = no_flaws
+  of_insides (branch m b bs) = both (of_block b) (of_insides bs)

@@ -8,3 +8,4 @@ pub mod Plainly
 pub mod Verdict
 pub mod Empties
 pub mod Rounds
+pub mod Senders

@@ -17,7 +17,7 @@ use Rattle.pb_part_takers.specs.Loops.{ids_of}
 use Rattle.pb_part_firsts.specs.Takers.{IsWhole}
 use Rattle.pb_part_firsts.specs.Firsts.{finds, are_small}
 use Rattle.pb_choice.specs.declared.found.Found.{Found}
-use Rattle.pb_choice.specs.Flaws.{IsFlaw, lone_at, of_rules, of_block, of_stmt, of_branches, is_deserted, in_body, found_in, misses, both}
+use Rattle.pb_choice.specs.Flaws.{IsFlaw, lone_at, of_rules, of_tellings, of_block, of_stmt, is_deserted, in_body, found_in, misses}
 use Rattle.pb_choice.specs.Found.{Improves}
 use Rattle.pb_choice.specs.Scenes.{Stands, IsFairStmt, IsFair, AreFair, Are}
 
@@ -29,11 +29,11 @@ pub record FirstAt (range : NRange) (whole : List Area) (held : List Held) (m : 
   pub is : (roles : List CoreRole) (rows : Rows) (env : ℤ → Env) → Stands range roles env whole held → IsFairStmt range roles rows (ids_of held) m s →
       Improves (IsFlaw range roles (of_stmt roles env (ids_of held) m s)) old new
 
--- branches, of which these areas are told
+-- the rules on choices at branches, of which these areas are told
 pub record FirstAmong (range : NRange) (whole : List Area) (held : List Held) (told : List Area) (bs : BranchTrees) (old new : Option Found) : Type 0 where
   pub is : (roles : List CoreRole) (rows : Rows) (env : ℤ → Env) (test : ℤ → ℕ → ℤ → Bool) → Stands range roles env whole held →
       AreFair range roles rows (ids_of held) bs → Are range roles told test →
-      Improves (IsFlaw range roles (of_branches roles env (ids_of held) test (λ n role x. []) bs)) old new
+      Improves (IsFlaw range roles (of_tellings roles env (ids_of held) test (λ n role x. []) bs)) old new
 
 -- The entries give the receives that the told ranks found first so far, and those with two sources are mixed.
 pub record IsPast (range : NRange) (roles : List CoreRole) (test : ℤ → ℕ → ℤ → Bool) (before : ℤ → ℕ → ℤ → List Outcome) (entries : List Entry) (mixed : List Area) : Type 0 where
@@ -59,11 +59,11 @@ pub record FirstOf (range : NRange) (whole : List Area) (here : List Entry) (lef
       IsHere range roles test found here left → IsPast range roles test before entries mixed →
       IsPast range roles test (λ n role x. before n role x ++ found n role x) now now_mixed
 
--- a branch and what is in it
+-- these rules at a branch
 pub record FirstWithin (range : NRange) (whole : List Area) (held : List Held) (told : List Area) (m : Mark) (b : BlockTree) (entries : List Entry) (mixed : List Area) (now : List Entry) (now_mixed : List Area) (old new : Option Found) : Type 0 where
   pub is : (roles : List CoreRole) (rows : Rows) (env : ℤ → Env) (test : ℤ → ℕ → ℤ → Bool) (before : ℤ → ℕ → ℤ → List Outcome) → Stands range roles env whole held →
       IsFair range roles rows (ids_of held) b → Are range roles told test → IsPast range roles test before entries mixed →
-      Improves (IsFlaw range roles (both (of_rules m (λ k n role x. misses test (before n role x) (found_in roles env (ids_of held) b n role x) k n role x)) (of_block roles env (ids_of held) b))) old new
+      Improves (IsFlaw range roles (of_rules m (λ k n role x. misses test (before n role x) (found_in roles env (ids_of held) b n role x) k n role x))) old new
   pub past : (roles : List CoreRole) (rows : Rows) (env : ℤ → Env) (test : ℤ → ℕ → ℤ → Bool) (before : ℤ → ℕ → ℤ → List Outcome) → Stands range roles env whole held →
       IsFair range roles rows (ids_of held) b → Are range roles told test → IsPast range roles test before entries mixed →
       IsPast range roles test (λ n role x. before n role x ++ found_in roles env (ids_of held) b n role x) now now_mixed

@@ -4,6 +4,7 @@
 
 mod areas;
 mod branch;
+mod branches;
 mod empty;
 mod flow;
 mod found;
@@ -14,6 +15,7 @@ mod round;
 mod rule;
 mod setting;
 mod settled;
+mod split;
 mod told;
 mod walk;
 

@@ -1,5 +1,5 @@
 -- Entries of one source, and entries with no label in common.
-use Rattle.std.proofs.Common.{◌≡◌, ◌<◌, ◌≤◌, ◌+◌, ℕ, ℤ, Bool, true, false, not, ◌&&◌, ◌||◌, nat_eq, ◌+ℤ◌, List, [], ◌∷◌, drop, get_or, length, refl, sym, ap, ◌∙◌, drop_of_length-le, arith}
+use Rattle.std.proofs.Common.{◌≡◌, ◌<◌, ◌≤◌, ◌+◌, ℕ, ℤ, Bool, true, false, not, ◌&&◌, ◌||◌, nat_eq, ◌+ℤ◌, List, [], ◌∷◌, drop, get_or, length, refl, ap, ◌∙◌, drop_of_length-le, arith}
 use Rattle.std.specs.List.{list_all}
 use Rattle.std.specs.Ordering.{int_eq}
 use Rattle.std.proofs.lemmas.Bool.{and_parts, false≢true}
@@ -12,7 +12,7 @@ use Rattle.pb_part_firsts.specs.declared.firsts.Entry.{Entry}
 use Rattle.pb_part_firsts.specs.declared.firsts.Kind.{Kind}
 use Rattle.pb_part_firsts.specs.declared.firsts.Kind.TheVariants.{Receive, Other, Again}
 use Rattle.pb_part_firsts.specs.declared.firsts.Source.{Source}
-use Rattle.pb_choice_entries.specs.Clashes.{agrees, are_apart, are_sent_by, clash, clash_any, clashes, fork, fork_any, forks, is_label, is_sent_by, lacks, lacks_label, same_base, same_label}
+use Rattle.pb_choice_entries.specs.Clashes.{agrees, are_apart, are_sent_by, clash, clash_any, fork, fork_any, forks, is_label, is_sent_by, lacks, lacks_label, same_base, same_label}
 use Rattle.pb_choice_entries.proofs.Anys.{base_is}
 
 -- ---- one source
@@ -50,10 +50,10 @@ never_apart a (Receive b m) Again n x h k = refl
 never_apart a Other l n x h k = refl
 never_apart a Again l n x h k = refl
 
-and_false : (b c : Bool) → c ≡ false → b && c ≡ false
+pub and_false : (b c : Bool) → c ≡ false → b && c ≡ false
 and_false b c e = grind (arith, nat_tests)
 
-or_none : (b c : Bool) → b ≡ false → c ≡ false → b || c ≡ false
+pub or_none : (b c : Bool) → b ≡ false → c ≡ false → b || c ≡ false
 or_none b c h k = grind (arith, nat_tests)
 
 no_fork : (a : Source) (e : Entry) (fs : List Entry) (n : ℤ) (role : ℕ) (x : ℤ) → is_sent_by a e.kind ≡ true → are_sent_by a fs ≡ true → fork_any fs e n role x ≡ false
@@ -75,10 +75,6 @@ not_label : (b : Bool) → not b ≡ true → b ≡ false
 not_label true h = absurd (false≢true h)
 not_label false h = refl
 
-pub label_unlike : (b : Bool) → b ≡ false → not b ≡ true
-label_unlike true h = absurd (false≢true (sym h))
-label_unlike false h = refl
-
 no_clash_of : (s : Source) (l : ℕ) (e : Entry) (fs : List Entry) (n : ℤ) (role : ℕ) (x : ℤ) → e.kind ≡ Receive s l → lacks l fs ≡ true → clash_any fs e n role x ≡ false
 no_clash_of s l e [] n role x is h = refl
 no_clash_of s l e (f ∷ fs) n role x is h =
@@ -91,20 +87,7 @@ no_clash_other e [] n role x h = refl
 no_clash_other e (f ∷ fs) n role x h =
     or_none (clash e f n role x) (clash_any fs e n role x) (ap (λ b. b && (has e.area n role x && has f.area n role x)) (h f.kind)) (no_clash_other e fs n role x h)
 
-no_clash : (e : Entry) (k : Kind) (fs : List Entry) (n : ℤ) (role : ℕ) (x : ℤ) → e.kind ≡ k → lacks_label k fs ≡ true → clash_any fs e n role x ≡ false
+pub no_clash : (e : Entry) (k : Kind) (fs : List Entry) (n : ℤ) (role : ℕ) (x : ℤ) → e.kind ≡ k → lacks_label k fs ≡ true → clash_any fs e n role x ≡ false
 no_clash e (Receive s l) fs n role x is h = no_clash_of s l e fs n role x is h
 no_clash e Other fs n role x is h = no_clash_other e fs n role x (λ f. ap (λ k. same_label k f) is)
 no_clash e Again fs n role x is h = no_clash_other e fs n role x (λ f. ap (λ k. same_label k f) is)
-
-rest_bools : (t q l : Bool) → t ≡ false → (t || q ≡ false → l ≡ false) → q ≡ false → l ≡ false
-rest_bools t q l e h k = h (or_none t q e k)
-
--- where an entry clashes with none, the entries clash with none if those behind it don't
-pub clash_step : (xs fs : List Entry) (i : ℕ) (d : Entry) (n : ℤ) (role : ℕ) (x : ℤ) (all : Bool) → i < length xs → lacks_label (get_or xs i d).kind fs ≡ true
-    → (clashes (drop i xs) fs n role x ≡ false → all ≡ false) → clashes (drop (i + 1) xs) fs n role x ≡ false → all ≡ false
-clash_step xs fs i d n role x all lt h k =
-    rest_bools (clash_any fs (get_or xs i d) n role x) (clashes (drop (i + 1) xs) fs n role x) all (no_clash (get_or xs i d) (get_or xs i d).kind fs n role x refl h)
-    (λ e. k (at_drop_more (λ l. clashes l fs n role x) xs i d lt ∙ e))
-
-pub clash_end : (xs fs : List Entry) (i : ℕ) (n : ℤ) (role : ℕ) (x : ℤ) → length xs ≤ i → clashes (drop i xs) fs n role x ≡ false
-clash_end xs fs i n role x le = ap (λ l. clashes l fs n role x) (drop_of_length-le xs le)

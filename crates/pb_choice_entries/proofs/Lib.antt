@@ -2,3 +2,9 @@ pub mod Anys
 pub mod Meetings
 pub mod Alikes
 pub mod Closes
+pub mod Adds
+pub mod Halves
+pub mod Knowns
+pub mod Steadies
+pub mod Lessened
+pub mod Repeats

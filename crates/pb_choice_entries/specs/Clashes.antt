@@ -13,6 +13,8 @@ use Rattle.pb_part_firsts.specs.declared.firsts.Kind.{Kind}
 use Rattle.pb_part_firsts.specs.declared.firsts.Kind.TheVariants.{Receive, Other, Again}
 use Rattle.pb_part_firsts.specs.declared.firsts.Source.{Source}
 use Rattle.pb_part_visits.specs.Visits.{is_small_off}
+use Rattle.pb_choice_entries.specs.declared.pair.Pairing.{Pairing}
+use Rattle.pb_choice_entries.specs.declared.pair.Pairing.TheVariants.{Sources, Labels}
 
 abbrev pub is_receive : Kind → Bool
 is_receive (Receive s l) = true
@@ -99,6 +101,17 @@ fork_any fs e n role x = list_any (λ f. fork e f n role x) fs
 
 abbrev pub forks : List Entry → List Entry → ℤ → ℕ → ℤ → Bool
 forks es fs n role x = list_any (λ e. fork_any fs e n role x) es
+
+-- a rank of both has two senders by them, or one label
+abbrev pub pair : Pairing → Entry → Entry → ℤ → ℕ → ℤ → Bool
+pair Sources e f n role x = fork e f n role x
+pair Labels e f n role x = clash e f n role x
+
+abbrev pub pair_any : Pairing → List Entry → Entry → ℤ → ℕ → ℤ → Bool
+pair_any p fs e n role x = list_any (λ f. pair p e f n role x) fs
+
+abbrev pub pairs : Pairing → List Entry → List Entry → ℤ → ℕ → ℤ → Bool
+pairs p es fs n role x = list_any (λ e. pair_any p fs e n role x) es
 
 -- the areas hold of what the test is true of besides the old ones, for the N from 0 on
 pub record AddsWhere (old new : List Area) (test : ℤ → ℕ → ℤ → Bool) : Type 0 where

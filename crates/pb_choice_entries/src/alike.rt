@@ -1,10 +1,10 @@
 //! Whether entries have one label or one source.
 
-ghost use Rattle.std.specs.Prelude.{◌≡◌, ℕ, ℤ, ◌&&◌, nat_eq, true, false, List, Some, IfOk, IfSome};
+ghost use Rattle.std.specs.Prelude.{◌≡◌, ℕ, ℤ, ◌&&◌, nat_eq, true, false, List, IfOk};
 ghost use Rattle.pb_part_firsts.specs.declared.firsts.Entry.{Entry};
 ghost use Rattle.std.specs.Ordering.{int_eq};
 ghost use Rattle.pb_part_firsts.specs.Firsts.{are_small};
-ghost use Rattle.pb_choice_entries.specs.Clashes.{are_sent_by, clashes, forks, is_label, is_receive, is_sent_by, lacks, lacks_label, same_base};
+ghost use Rattle.pb_choice_entries.specs.Clashes.{are_sent_by, forks, is_label, is_receive, is_sent_by, same_base};
 
 use pb_affine::Base;
 use pb_part_firsts::{Entry, Kind, Source};
@@ -12,7 +12,7 @@ use pb_text::NoMemory;
 use std::alloc::Global;
 
 /// Whether it is a receive of the label.
-pub fn is_label(kind: Kind, wanted: u32) -> bool
+pub(crate) fn is_label(kind: Kind, wanted: u32) -> bool
     ensures { result ≡ is_label wanted kind }
 {
     match kind {
@@ -22,7 +22,7 @@ pub fn is_label(kind: Kind, wanted: u32) -> bool
 }
 
 /// Whether the sources are written in the same way.
-pub fn is_same(a: Source, b: Source) -> bool
+pub(crate) fn is_same(a: Source, b: Source) -> bool
     ensures { result ≡ (nat_eq a.role b.role && same_base a.at.base b.at.base && int_eq a.at.off b.at.off) }
 {
     a.role == b.role && is_same_base(a.at.base, b.at.base) && a.at.off == b.at.off
@@ -82,7 +82,7 @@ pub fn have_one_source(here: &[Entry], others: &[Entry]) -> bool
 }
 
 /// The receives among the entries.
-pub fn receives(alloc: Global, entries: &[Entry]) -> Result<Vec<Entry>, NoMemory>
+pub(crate) fn receives(alloc: Global, entries: &[Entry]) -> Result<Vec<Entry>, NoMemory>
     ensures first { IfOk result (λ v. (others : List Entry) (n : ℤ) (role : ℕ) (x : ℤ) → forks v.items others n role x ≡ forks entries.now others n role x) }
     ensures second { IfOk result (λ v. (here : List Entry) (n : ℤ) (role : ℕ) (x : ℤ) → forks here v.items n role x ≡ forks here entries.now n role x) }
     ensures small { IfOk result (λ v. are_small entries.now ≡ true → are_small v.items ≡ true) }
@@ -103,61 +103,4 @@ fn is_receive(kind: Kind) -> bool
         Kind::Receive { .. } => true,
         Kind::Other | Kind::Again => false,
     }
-}
-
-// ---- no label of both
-
-/// True only where no entry is a receive of the label.
-fn lacks(entries: &[Entry], label: u32) -> bool
-    ensures { result ≡ true → lacks label entries.now ≡ true }
-{
-    for entry in entries {
-        if is_label(entry.kind, label) {
-            return false;
-        }
-    }
-    true
-}
-
-/// True only where no entry is a receive with the label of this kind, where `absent` is a label that none has.
-fn is_absent(kind: Kind, entries: &[Entry], absent: Option<u32>) -> bool
-    ensures { result ≡ true → IfSome absent (λ l. lacks l entries.now ≡ true) → lacks_label kind entries.now ≡ true }
-{
-    match kind {
-        Kind::Receive { label, .. } => is_known(label, absent) || lacks(entries, label),
-        Kind::Other | Kind::Again => true,
-    }
-}
-
-fn is_known(label: u32, absent: Option<u32>) -> bool
-    ensures { result ≡ true → absent ≡ Some label }
-{
-    match absent {
-        None => false,
-        Some(absent) => absent == label,
-    }
-}
-
-/// The label of a receive.
-fn label_of(kind: Kind) -> Option<u32>
-    ensures { (es : List Entry) → lacks_label kind es ≡ true → IfSome result (λ l. lacks l es ≡ true) }
-{
-    match kind {
-        Kind::Receive { label, .. } => Some(label),
-        Kind::Other | Kind::Again => None,
-    }
-}
-
-/// True only where no label is of a receive of both. A label that several entries have one after the other is looked for once.
-pub fn share_no_label(here: &[Entry], before: &[Entry]) -> bool
-    ensures { result ≡ true → (n : ℤ) (role : ℕ) (x : ℤ) → clashes here.now before.now n role x ≡ false }
-{
-    let mut absent = None;
-    for entry in here {
-        if !is_absent(entry.kind, before, absent) {
-            return false;
-        }
-        absent = label_of(entry.kind);
-    }
-    true
 }

@@ -4,7 +4,15 @@
 mod agree;
 mod alike;
 mod close;
+mod difference;
+mod labels;
+mod order;
+mod pair;
+mod pairs;
+mod sources;
 
 pub use agree::agreement;
-pub use alike::{have_one_source, is_label, is_same, receives, share_no_label};
-pub use close::{around, close_to};
+pub use alike::have_one_source;
+pub use difference::less;
+pub use pairs::{clashes, forks};
+pub use sources::sources_of;

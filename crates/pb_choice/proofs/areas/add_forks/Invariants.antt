@@ -1,8 +1,0 @@
-use Rattle.std.specs.List.{list_any}
-use Rattle.pb_part_firsts.specs.Firsts.{is_small_kind}
-use Rattle.pb_choice_entries.specs.Clashes.{fork}
-use Rattle.pb_choice.proofs.Anys.{SoFar}
-use Rattle.pb_choice.proofs.areas.add_forks.Given as goal
-
-abbrev pub invariant-loop-other : goal.invariant-loop-other
-invariant-loop-other l = SoFar (is_small_kind l.entry.kind) l.others l.other-index l.initial.out.items l.out.items (λ z n role x. list_any (λ e. fork l.entry e n role x) z)

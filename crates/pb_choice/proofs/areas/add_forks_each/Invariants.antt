@@ -1,8 +1,0 @@
-use Rattle.std.specs.List.{list_any}
-use Rattle.pb_part_firsts.specs.Firsts.{are_small}
-use Rattle.pb_choice_entries.specs.Clashes.{fork_any}
-use Rattle.pb_choice.proofs.Anys.{SoFar}
-use Rattle.pb_choice.proofs.areas.add_forks_each.Given as goal
-
-abbrev pub invariant-loop-entry : goal.invariant-loop-entry
-invariant-loop-entry l = SoFar (are_small l.others) l.here l.entry-index l.initial.out.items l.out.items (λ z n role x. list_any (λ e. fork_any l.others e n role x) z)
