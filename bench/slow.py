@@ -417,13 +417,65 @@ def each_gaps(rng):
     return met(rng, "M", 2)
 
 
+def crossed(rng, branches, most=STATEMENTS):
+    """How many ends from the first and from the last rank these branches may tell, so that a text of few megabytes is enough."""
+    return min(large(rng, 1000, 10), most // (2 * branches) - 4, int((40_000 / branches) ** 0.5))
+
+
+def cross_pairs(count, first, second, rest, senders=("W[0]", "W[0]")):
+    """Messages with these labels to ranks W[2*k] and W[N-2*k], which cross in the range, and then to all."""
+    return [line for k in range(1, count) for line in (f"{first}() from {senders[0]} to W[{2 * k}];", f"{second}() from {senders[1]} to W[N-{2 * k}];")] \
+        + [f"{rest}() from W[0] to W[i:2..N-1];"]
+
+
+def cross_sources(rng):
+    """Branches that tell ranks that cross from two senders (rule 11)."""
+    branches = rng.choice([2, 3, 8, 32, 60])
+    count = crossed(rng, branches)
+    return 2 * count + 1, choice_of([[f"R{b}() from W[0] to W[1];"] + cross_pairs(count, f"L{b}", f"M{b}", f"G{b}", ("W[0]", "W[1]")) for b in range(branches)])
+
+
+def cross_labels(rng):
+    """Branches that tell ranks that cross by the same labels, and each rank by another one (rule 12), or not."""
+    count = crossed(rng, 2)
+    others = rng.choice([("G", "L"), ("L", "G"), ("L", "H")])
+    return 2 * count + 1, choice_of([[f"R{b}() from W[0] to W[1];"] + cross_pairs(count, a, a, c) for b, (a, c) in enumerate((("L", "G"), others))])
+
+
+def cross_inner(rng):
+    """Branches in each of which a choice tells ranks that cross from two senders, by labels of each branch."""
+    inner = rng.choice([2, 5, 10, 30])
+    count = crossed(rng, 2 * inner)
+    return 2 * count + 1, choice_of([choice_of([[f"R{o}x{b}() from W[0] to W[1];"]
+                                                + cross_pairs(count, f"L{o}x{b}", f"L{o}x{b}", f"G{o}x{b}", ("W[0]", "W[1]")) for b in range(inner)], f"Q{o}")
+                                     for o in range(2)])
+
+
+def cross_send(rng):
+    """Branches in which ranks that cross send (rule 10)."""
+    branches = rng.choice([2, 4, 16])
+    count = crossed(rng, branches)
+    return 2 * count + 1, choice_of([[line for k in range(1, count) for line in (f"L{b}() from W[{2 * k}] to W[0];", f"L{b}() from W[N-{2 * k}] to W[0];")]
+                                     for b in range(branches)])
+
+
+def cross_relayed(rng):
+    """Branches that tell ranks that cross, each by a sender of its own that is told first."""
+    branches = rng.choice([2, 4])
+    count = crossed(rng, branches, STATEMENTS * 2 // 3)
+    blocks = [[line for k in range(1, count) for line in (f"T{b}() from W[0] to S[{k}];", f"L{b}() from S[{k}] to W[{2 * k}];", f"M{b}() from S[{k}] to W[N-{2 * k}];")]
+              + [f"G{b}() from W[0] to W[i:1..N-1];"] for b in range(branches)]
+    return protocol(2 * count + 1, choice_of(blocks), f"role W[0..N-1], role S[0..{count}]")
+
+
 def by_name(*shapes):
     return {it.__name__: it for it in shapes}
 
 
 SHAPES = by_name(choice, own_ranks, offsets, offsets_to_one, cuts, told_in_turn, loops, tree, gaps, gaps_from_both, two_sources, cross_loop,
                  loops_joint, each_stays, low_ranges, wide_ranges, loops_choices, choices_split, choices_gaps, choices_told, continues,
-                 continues_told, loops_cross, cross_each, each_holes, each_met, told_by_many, one_rank, each_labels, loops_gaps)
+                 continues_told, loops_cross, cross_each, each_holes, each_met, told_by_many, one_rank, each_labels, loops_gaps, cross_sources,
+                 cross_labels, cross_inner, cross_send, cross_relayed)
 HARD = by_name(cross_told, choices_cross, each_gaps)
 
 
