@@ -468,6 +468,17 @@ def cross_relayed(rng):
     return protocol(2 * count + 1, choice_of(blocks), f"role W[0..N-1], role S[0..{count}]")
 
 
+def choices_behind(rng):
+    """A branch that tells ranks that cross, has choices one after the other, each of which tells a rank, and then tells all."""
+    count = crossed(rng, 1)
+    choices = large(rng, (STATEMENTS - 2 * count) // 3 - 2)
+    body = [line for k in range(1, count) for line in (f"L() from W[0] to W[{2 * k}];", f"L() from W[0] to W[N-{2 * k}];")]
+    for k in range(choices):
+        told = 2 * (k % count) + 1
+        body += [f"choice Q{k} at W[0] {{", f"A{k}() from W[0] to W[{told}];", "} or {", f"B{k}() from W[0] to W[{told}];", "}"]
+    return 2 * count + 1, choice_of([body + ["G() from W[0] to W[i:1..N-1];"], ["M() from W[0] to W[i:1..N-1];"]])
+
+
 def by_name(*shapes):
     return {it.__name__: it for it in shapes}
 
@@ -476,7 +487,7 @@ SHAPES = by_name(choice, own_ranks, offsets, offsets_to_one, cuts, told_in_turn,
                  loops_joint, each_stays, low_ranges, wide_ranges, loops_choices, choices_split, choices_gaps, choices_told, continues,
                  continues_told, loops_cross, cross_each, each_holes, each_met, told_by_many, one_rank, each_labels, loops_gaps, cross_sources,
                  cross_labels, cross_inner, cross_send, cross_relayed)
-HARD = by_name(cross_told, choices_cross, each_gaps)
+HARD = by_name(cross_told, choices_cross, each_gaps, choices_behind)
 
 
 def made(shape, seed):
