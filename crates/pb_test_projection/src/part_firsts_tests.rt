@@ -84,8 +84,8 @@ fn crossed_counts(alloc: Global, count: i8) -> Result<(usize, usize), NoMemory> 
 #[test]
 fn ends_that_move_leave_few_areas(rt: HostRuntime) -> Result<(), NoMemory> {
     let (entries, left) = crossed_counts(rt.alloc(), 100)?;
-    assert!(rt; entries < 250);
-    assert!(rt; left == 2);
+    assert!(rt; entries < 300);
+    assert!(rt; left < 4);
     Ok(())
 }
 
