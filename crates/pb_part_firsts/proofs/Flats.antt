@@ -19,7 +19,7 @@ flat_append (p ∷ xs) ys = ap (λ z. p.areas.items ++ z) (flat_append xs ys) �
 flat_pushed : (old new : List Part) (p : Part) → new ≡ old ++ p ∷ [] → flat new ≡ flat old ++ p.areas.items
 flat_pushed old new p e = ap flat e ∙ flat_append old (p ∷ []) ∙ ap (λ z. flat old ++ z) (append-nil p.areas.items)
 
-part_pushed : (old new : List Part) (p : Part) → new ≡ old ++ p ∷ [] → (n : ℤ) (role : ℕ) (x : ℤ) → have (flat new) n role x ≡ have (flat old) n role x || have p.areas.items n role x
+pub part_pushed : (old new : List Part) (p : Part) → new ≡ old ++ p ∷ [] → (n : ℤ) (role : ℕ) (x : ℤ) → have (flat new) n role x ≡ have (flat old) n role x || have p.areas.items n role x
 part_pushed old new p e n role x = ap (λ z. have z n role x) (flat_pushed old new p e) ∙ have_append (flat old) p.areas.items n role x
 
 pub pushed_fits : (P : Area → Type 0) (old new : List Part) (p : Part) → new ≡ old ++ p ∷ [] → All P (flat old) → All P p.areas.items → All P (flat new)
@@ -189,15 +189,19 @@ others_fit P parts rest p is h = all_right P p.areas.items (flat rest) (subst (�
 pub part_ahead : (parts : List Part) (i : ℕ) (p : Part) → i < length parts → p ≡ get_or parts i p → drop i parts ≡ p ∷ drop (i + 1) parts
 part_ahead parts i p lt is = at_drop_more (λ z. z) parts i p lt ∙ ap (λ z. z ∷ drop (i + 1) parts) (sym is)
 
-copy_bools : (o o2 p d l : Bool) → o2 ≡ o || p → o || (p || d) ≡ l → o2 || d ≡ l
-copy_bools o o2 p d l e h = grind (arith, nat_tests)
+taken_bools : (o o2 p d l : Bool) → o2 ≡ o || p → o || (p || d) ≡ l → o2 || d ≡ l
+taken_bools o o2 p d l e h = grind (arith, nat_tests)
+
+pub taken_step : (parts rest : List Part) (p : Part) (o o2 l : Bool) (n : ℤ) (role : ℕ) (x : ℤ) → parts ≡ p ∷ rest → o2 ≡ o || have p.areas.items n role x →
+    o || have (flat parts) n role x ≡ l → o2 || have (flat rest) n role x ≡ l
+taken_step parts rest p o o2 l n role x is e h =
+    taken_bools o o2 (have p.areas.items n role x) (have (flat rest) n role x) l e (sym (ap (λ z. o || z) (have_more parts rest p n role x is)) ∙ h)
 
 pub copy_step : (parts rest : List Part) (p q : Part) (old new : List Part) (l : Bool) (n : ℤ) (role : ℕ) (x : ℤ) → parts ≡ p ∷ rest → new ≡ old ++ q ∷ [] → have q.areas.items n role x ≡ have p.areas.items n role x →
     have (flat old) n role x || have (flat parts) n role x ≡ l → have (flat new) n role x || have (flat rest) n role x ≡ l
 copy_step parts rest p q old new l n role x is e same h =
-    copy_bools (have (flat old) n role x) (have (flat new) n role x) (have p.areas.items n role x) (have (flat rest) n role x) l
-    (part_pushed old new q e n role x ∙ ap (λ z. have (flat old) n role x || z) same)
-    (sym (ap (λ z. have (flat old) n role x || z) (have_more parts rest p n role x is)) ∙ h)
+    taken_step parts rest p (have (flat old) n role x) (have (flat new) n role x) l n role x is
+    (part_pushed old new q e n role x ∙ ap (λ z. have (flat old) n role x || z) same) h
 
 pub copy_end : (parts : List Part) (i : ℕ) (o l : Bool) (n : ℤ) (role : ℕ) (x : ℤ) → length parts ≤ i → o || have (flat (drop i parts)) n role x ≡ l → o ≡ l
 copy_end parts i o l n role x le h = sym (or-false o) ∙ sym (ap (λ z. o || have (flat z) n role x) (drop_of_length-le parts le)) ∙ h

@@ -7,6 +7,7 @@ pub mod LastEntries
 pub mod Flats
 pub mod Groups
 pub mod Comes
+pub mod Asides
 pub mod Steps
 pub mod TakersAs
 pub mod Searches

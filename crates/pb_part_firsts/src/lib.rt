@@ -11,6 +11,7 @@ mod firsts;
 mod parts;
 mod plain;
 mod search;
+mod sides;
 mod single;
 mod stop;
 mod takers;

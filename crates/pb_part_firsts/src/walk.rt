@@ -20,11 +20,12 @@ ghost use Rattle.pb_part_firsts.specs.Parts.{flat, AreAround};
 use crate::firsts::Entry;
 use crate::parts::{Part, areas_of, copied, parts_of, together};
 use crate::plain::add_plain;
+use crate::sides::{both_sides, sides_of};
 use crate::single::{again_firsts, all_firsts, run_firsts};
 use crate::turns::stop_each;
 use pb_core_language::{CoreBlock, CoreEnd, CoreKind, CoreStmt};
 use pb_part_areas::{Area, NoMemory};
-use pb_part_takers::{Held, takers_in, with_loop};
+use pb_part_takers::{Held, takers_at, takers_in, with_loop};
 use std::alloc::Global;
 
 /// Gives what the ranks that reach the block find first in it, and leaves those that find nothing.
@@ -84,6 +85,12 @@ fn firsts_of(
     Ok(rest)
 }
 
+/// How many parts come to a statement at most, where nobody asks who takes part in it.
+const FEW_PARTS: usize = 64;
+
+/// How many areas of those who take part each part is compared with at most.
+const FEW_TAKERS: usize = 16;
+
 /// Adds the stops of a plain statement. Another one comes behind the stops that were gathered, which are taken first.
 #[cycle(firsts)]
 fn firsts_at(
@@ -115,7 +122,40 @@ fn firsts_at(
     if come.is_empty() {
         return Ok(come);
     }
-    other_firsts(stmt, alloc, whole, held, come, out)
+    met_firsts(stmt, alloc, whole, held, come, out)
+}
+
+/// The first outcomes of a statement that isn't plain. Where many parts come to a statement in which few areas take part, those
+/// without a rank of these areas pass it as they are.
+#[cycle(firsts)]
+fn met_firsts(
+    stmt: &CoreStmt,
+    alloc: Global,
+    whole: &[Area],
+    held: &[Held],
+    reach: Vec<Part>,
+    out: &mut Vec<Entry>,
+) -> Result<Vec<Part>, NoMemory>
+    ensures gives { IfOk result (λ left. is_plain (plain_stmt stmt.now).stmt ≡ false → (range : NRange) (roles : List CoreRole) (rows : Rows) → IsWhole range roles whole.now →
+        is_stmt rows false (ids_of held.now) (plain_stmt stmt.now).stmt ≡ true →
+        AreAround reach.items → Gives range roles (flat reach.items) (flat left.items) out.old.items out.new.items (first_at roles held.now (plain_stmt stmt.now).mark (plain_stmt stmt.now).stmt)) }
+    ensures around { IfOk result (λ left. AreAround reach.items → AreAround left.items) }
+    ensures small { IfOk result (λ left. (rows : Rows) → is_stmt rows false (ids_of held.now) (plain_stmt stmt.now).stmt ≡ true →
+        are_small out.old.items ≡ true → are_small out.new.items ≡ true) }
+    ensures fits { IfOk result (λ left. (range : NRange) (cuts : List Lin) (rows : Rows) → is_stmt rows false (ids_of held.now) (plain_stmt stmt.now).stmt ≡ true → AreAmong (stmt_cuts None (plain_stmt stmt.now).stmt) cuts →
+        All (Fits range cuts) whole.now → HeldFit range cuts held.now → All (Fits range cuts) (flat reach.items) → EntriesFit range cuts out.old.items → AllFit range cuts (flat left.items) out.new.items) }
+{
+    if reach.len() <= FEW_PARTS {
+        return other_firsts(stmt, alloc, whole, held, reach, out);
+    }
+    let mut takers = Vec::new(alloc);
+    takers_at(stmt, alloc, whole, held, &mut takers)?;
+    if takers.len() > FEW_TAKERS {
+        return other_firsts(stmt, alloc, whole, held, reach, out);
+    }
+    let sides = sides_of(alloc, reach, &takers)?;
+    let left = other_firsts(stmt, alloc, whole, held, sides.met, out)?;
+    both_sides(sides.others, left)
 }
 
 /// The first outcomes of a statement that isn't plain.

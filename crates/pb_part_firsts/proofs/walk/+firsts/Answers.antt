@@ -4,6 +4,7 @@ use Rattle.std.proofs.lemmas.Result.{IfOk-weaker}
 use Rattle.pb_core_language.specs.Plain.{plain_block, plain_stmt}
 use Rattle.pb_part_firsts.specs.Firsts.{are_small}
 use Rattle.pb_part_firsts.specs.Parts.{flat, IsAround}
+use Rattle.pb_part_firsts.specs.Stopping.{first_at}
 use Rattle.pb_part_takers.specs.Loops.{ids_of}
 use Rattle.pb_core_language.proofs.Plains.{plain_loop, plain_again, plain_choice}
 use Rattle.pb_part_firsts.proofs.Outcomes.{nobody_comes}
@@ -14,6 +15,7 @@ use Rattle.pb_part_areas.specs.Fits.{Fits}
 use Rattle.pb_core_language.specs.Cuts.{end_cuts, branches_cuts}
 use Rattle.pb_part_takers.proofs.Among.{among_left, among_right}
 use Rattle.pb_part_firsts.proofs.TakersAs.{takers_as}
+use Rattle.pb_part_firsts.proofs.Asides.{bystanders, aside_gives}
 use Rattle.pb_part_firsts.proofs.Steps.{trees_of, stmt_sound, rest_sound, tree_sound, branch_sound, others_sound, first_behind, block_begins, block_step, block_cut, block_done, given_at, plain_passes, other_passes, nobody_passes, plain_goes_on, stops_fit, none_fit, of_tree, of_stmt, turned_sound, body_sound, loop_gives, choice_gives, choice_end, choice_some, choice_sound, branch_step, branches_done, stmt_among, rest_among, tree_among, branch_among, others_among, turned_among, choice_is_end}
 use Rattle.pb_part_firsts.proofs.walk.+firsts.Goals as goal
 
@@ -177,25 +179,46 @@ firsts_at-returns-then-is_empty-clause-fits t c = λ range cuts rows h a w d r s
 )
 
 pub firsts_at-returns-clause-gives : goal.firsts_at-returns-clause-gives
-firsts_at-returns-clause-gives t c = IfOk-weaker c.other_firsts.result _ _ (λ left f range roles rows w h around.
+firsts_at-returns-clause-gives t c = IfOk-weaker c.met_firsts.result _ _ (λ left f range roles rows w h around.
     other_passes _ c.clear.ensures.items (given_at (c.deref.ensures.value ∙ c.in_ok-is_plain.ensures.other c.if-is_plain.false) (c.in_ok-come.ensures.gives range roles around))
-    (f (sym c.in_ok-is_plain.ensures.is ∙ c.if-is_plain.false) range roles rows w h (c.in_ok-come.ensures.around around))) c.other_firsts.ensures.gives
+    (f (sym c.in_ok-is_plain.ensures.is ∙ c.if-is_plain.false) range roles rows w h (c.in_ok-come.ensures.around around))) c.met_firsts.ensures.gives
 
 pub firsts_at-returns-clause-none : goal.firsts_at-returns-clause-none
-firsts_at-returns-clause-none t c = IfOk-weaker c.other_firsts.result _ _ (λ left f e. c.clear.ensures.items) c.other_firsts.ensures.around
+firsts_at-returns-clause-none t c = IfOk-weaker c.met_firsts.result _ _ (λ left f e. c.clear.ensures.items) c.met_firsts.ensures.around
 
 pub firsts_at-returns-clause-around : goal.firsts_at-returns-clause-around
-firsts_at-returns-clause-around t c = IfOk-weaker c.other_firsts.result _ _ (λ left f h. f (c.in_ok-come.ensures.around h)) c.other_firsts.ensures.around
+firsts_at-returns-clause-around t c = IfOk-weaker c.met_firsts.result _ _ (λ left f h. f (c.in_ok-come.ensures.around h)) c.met_firsts.ensures.around
 
 pub firsts_at-returns-clause-small : goal.firsts_at-returns-clause-small
-firsts_at-returns-clause-small t c = IfOk-weaker c.other_firsts.result _ _ (λ left f rows h s q.
+firsts_at-returns-clause-small t c = IfOk-weaker c.met_firsts.result _ _ (λ left f rows h s q.
     (ap are_small c.clear.ensures.items, f rows h (c.in_ok-come.ensures.small (ap are_small (c.deref.ensures.value ∙ c.in_ok-is_plain.ensures.other c.if-is_plain.false) ∙ s) q)))
-    c.other_firsts.ensures.small
+    c.met_firsts.ensures.small
 
 pub firsts_at-returns-clause-fits : goal.firsts_at-returns-clause-fits
-firsts_at-returns-clause-fits t c = IfOk-weaker c.other_firsts.result _ _ (λ left f range cuts rows h a w d r s q.
+firsts_at-returns-clause-fits t c = IfOk-weaker c.met_firsts.result _ _ (λ left f range cuts rows h a w d r s q.
     let now = c.in_ok-come.ensures.fits range cuts r (stops_fit range cuts _ _ (c.deref.ensures.value ∙ c.in_ok-is_plain.ensures.other c.if-is_plain.false) s) q in
-    (none_fit range cuts _ c.clear.ensures.items, f range cuts rows h a w d now.areas now.entries)) c.other_firsts.ensures.fits
+    (none_fit range cuts _ c.clear.ensures.items, f range cuts rows h a w d now.areas now.entries)) c.met_firsts.ensures.fits
+
+pub met_firsts-returns-clause-gives : goal.met_firsts-returns-clause-gives
+met_firsts-returns-clause-gives t c = IfOk-weaker c.both_sides.result _ _ (λ all f k range roles rows w h around.
+    let s = plain_stmt c.args.stmt.now in
+    aside_gives _ _ (first_at roles c.args.held.now s.mark s.stmt) c.in_ok-sides.ensures.is ((rw c.deref.ensures.value at c.in_ok-sides.ensures.apart) around) f
+    (bystanders s rows w h c.new-takers.ensures.items c.in_ok-takers_at.ensures)
+    (c.in_ok-left.ensures.gives k range roles rows w h (c.in_ok-sides.ensures.around around).0)) c.both_sides.ensures.is
+
+pub met_firsts-returns-clause-around : goal.met_firsts-returns-clause-around
+met_firsts-returns-clause-around t c = IfOk-weaker c.both_sides.result _ _ (λ all f h.
+    let sides = c.in_ok-sides.ensures.around h in
+    f sides.1 (c.in_ok-left.ensures.around sides.0)) c.both_sides.ensures.around
+
+pub met_firsts-returns-clause-small : goal.met_firsts-returns-clause-small
+met_firsts-returns-clause-small t c = IfOk-weaker c.both_sides.result _ _ (λ all f rows h s. c.in_ok-left.ensures.small rows h s) c.both_sides.ensures.is
+
+pub met_firsts-returns-clause-fits : goal.met_firsts-returns-clause-fits
+met_firsts-returns-clause-fits t c = IfOk-weaker c.both_sides.result _ _ (λ all f range cuts rows h a w d r q.
+    let sides = c.in_ok-sides.ensures.fits range cuts r in
+    let now = c.in_ok-left.ensures.fits range cuts rows h a w d sides.0 q in
+    record { areas = f range cuts sides.1 now.areas; entries = now.entries }) c.both_sides.ensures.fits
 
 pub loop_firsts-returns-clause-gives : goal.loop_firsts-returns-clause-gives
 loop_firsts-returns-clause-gives t c = λ range roles rows m k w h around.
