@@ -3,7 +3,7 @@ use Rattle.std.proofs.Common.{◌≡◌, ◌<◌, ◌≤◌, ◌+◌, inl, inr, 
 use Rattle.std.specs.List.{All}
 use Rattle.std.proofs.lemmas.List.{drop_more}
 use Rattle.std.proofs.lemmas.List.Elements.{All-push, All-nil, All-weaker, All-tail, All-head}
-use Rattle.std.proofs.lemmas.Bool.{and_parts, and_from, or_cases, or_left, or_right, true≢false, false≢true, eqb-true, eq-eqb, lt-ltb}
+use Rattle.std.proofs.lemmas.Bool.{and_parts, and_from, or_cases, or_left, or_right, true≢false, false≢true, eqb-true, eq-eqb}
 use Rattle.std.proofs.lemmas.Bool.Decides.{nat_tests}
 use Rattle.std.proofs.Math.Bool.{and_assoc, or-false, and-false}
 use Rattle.pb_affine.specs.declared.guard.Guard.{Guard}
@@ -42,7 +42,7 @@ use Rattle.pb_shape.specs.Places.{Scope}
 use Rattle.pb_shape.specs.Loops.{Around}
 use Rattle.pb_shape.specs.Choices.{guards_of, is_told}
 use Rattle.pb_project_choice.specs.declared.entries.Branch.{Branch}
-use Rattle.pb_project_choice.specs.Found.{entries_at, IsFoundIn, has_label, tells, AreKnown}
+use Rattle.pb_project_choice.specs.Found.{entries_at, IsFoundIn, tells, AreKnown}
 use Rattle.pb_project_choice.specs.Sayable.{AreSayable}
 use Rattle.pb_project_choice.specs.Tested.{HasHolder, HaveHolders, TellSuch, IsTested, IsBefore, AscendTo}
 use Rattle.pb_project_choice.proofs.Labels.{label_known}
@@ -69,14 +69,6 @@ fit_at range cuts [] i e lt h = absurd (no_place i lt)
     no_place i lt = omega (arith, lt)
 fit_at range cuts (f ∷ es) zero e lt h = h.0
 fit_at range cuts (f ∷ es) (suc i) e lt h = fit_at range cuts es i e (omega (arith, lt)) h.1
-
-none_bools : (a h c d t : Bool) → a || c ≡ false → d ≡ t → (c ≡ false → t ≡ false) → (a && h) || d ≡ false
-none_bools true h c d t e f k = absurd (true≢false e)
-none_bools false h c d t e f k = f ∙ k e
-
-no_label : (l : ℕ) (es : List Entry) (n : ℤ) (role : ℕ) (x : ℤ) → has_label l es ≡ false → tells l es n role x ≡ false
-no_label l [] n role x h = refl
-no_label l (e ∷ es) n role x h = none_bools (is_label l e.kind) (has e.area n role x) (has_label l es) (tells l es n role x) (tells l es n role x) h refl (no_label l es n role x)
 
 -- ---- by entries, and by first outcomes
 
@@ -243,45 +235,6 @@ test_gone range roles whole areas k m es old is none = record {
       nothing_bools _ (nat_eq j k) l m (λ q. tells q es n role x) (sym (is n role x) ∙ none n role x within (st.whole_is.is n role x within ∙ is_one));
   each = λ p b sc cuts st r h f known same lt all. all;
   held = λ such sc cuts st r h f tell all. all;
-}
-
--- ---- the tests of a branch, label after label
-
-next_bools : (o m n jk t : Bool) (l from label : ℕ) → from ≤ label → m ≡ o || (jk && (nat_lt l from && t)) → n ≡ m || (jk && (nat_eq l label && t)) → (from ≤ l → l < label → t ≡ false) →
-    n ≡ o || (jk && (nat_lt l (label + 1) && t))
-next_bools o m n jk true l from label le e f h = grind (arith, nat_tests)
-next_bools o m n jk false l from label le e f h = grind (arith, nat_tests)
-
-pub tested_next : (range : NRange) (roles : ℕ) (whole : List Area) (k from label next : ℕ) (es : List Entry) (old now new : List Test) → next ≡ label + 1 → from ≤ label → ((l : ℕ) → from ≤ l → nat_lt l label ≡ true → has_label l es ≡ false) →
-    IsTested range roles whole k (λ l. nat_lt l from) es old now → IsTested range roles whole k (λ l. nat_eq l label) es now new → IsTested range roles whole k (λ l. nat_lt l next) es old new
-tested_next range roles whole k from label next es old now new e le none one two = subst (λ z. IsTested range roles whole k (λ l. nat_lt l z) es old new) (sym e) (record {
-  holds = λ sc cuts st r h f j l n i role x within is.
-      next_bools _ _ _ (nat_eq j k) (tells l es n role x) l from label le (one.holds sc cuts st r h f j l n i role x within is) (two.holds sc cuts st r h f j l n i role x within is)
-      (λ at_least under. no_label l es n role x (none l at_least (lt-ltb l label under)));
-  each = λ p b sc cuts st r h f known same lt all. two.each p b sc cuts st r h f known same lt (one.each p b sc cuts st r h f known same lt all);
-  held = λ such sc cuts st r h f tell all. two.held such sc cuts st r h f tell (one.held such sc cuts st r h f tell all);
-})
-
-start_bools : (o jk t : Bool) (l : ℕ) → o ≡ o || (jk && (nat_lt l 0 && t))
-start_bools o jk t l = grind (arith, nat_tests)
-
-pub tested_start : (range : NRange) (roles : ℕ) (whole : List Area) (k : ℕ) (es : List Entry) (old : List Test) → IsTested range roles whole k (λ l. nat_lt l 0) es old old
-tested_start range roles whole k es old = record {
-  holds = λ sc cuts st r h f j l n i role x within is. start_bools _ (nat_eq j k) (tells l es n role x) l;
-  each = λ p b sc cuts st r h f known same lt all. all;
-  held = λ such sc cuts st r h f tell all. all;
-}
-
-end_bools : (o n jk t : Bool) (l from : ℕ) → n ≡ o || (jk && (nat_lt l from && t)) → (from ≤ l → t ≡ false) → n ≡ o || (jk && (true && t))
-end_bools o n jk true l from e h = grind (arith, nat_tests)
-end_bools o n jk false l from e h = grind (arith, nat_tests)
-
-pub tested_end : (range : NRange) (roles : ℕ) (whole : List Area) (k from : ℕ) (es : List Entry) (old new : List Test) → ((l : ℕ) → from ≤ l → has_label l es ≡ false) →
-    IsTested range roles whole k (λ l. nat_lt l from) es old new → IsTested range roles whole k (λ l. true) es old new
-tested_end range roles whole k from es old new none it = record {
-  holds = λ sc cuts st r h f j l n i role x within is. end_bools _ _ (nat_eq j k) (tells l es n role x) l from (it.holds sc cuts st r h f j l n i role x within is) (λ le. no_label l es n role x (none l le));
-  each = it.each;
-  held = it.held;
 }
 
 -- ---- in order

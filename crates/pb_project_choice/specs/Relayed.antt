@@ -1,5 +1,5 @@
 -- Relays that are added for sources.
-use Rattle.std.specs.Prelude.{◌≡◌, ◌<◌, ℕ, ℤ, pos, Bool, true, ◌&&◌, ◌||◌, not, List, length}
+use Rattle.std.specs.Prelude.{◌≡◌, ◌<◌, ℕ, ℤ, pos, Bool, true, ◌||◌, not, List, length}
 use Rattle.std.specs.List.{All, list_any}
 use Rattle.pb_affine.specs.declared.lin.Lin.{Lin}
 use Rattle.pb_affine.specs.declared.range.NRange.{NRange}

@@ -1,5 +1,5 @@
 -- Tests that are added for the labels of a branch.
-use Rattle.std.specs.Prelude.{◌≡◌, ◌<◌, ◌≤◌, ◌⊎◌, ℕ, ℤ, Bool, true, ◌&&◌, ◌||◌, nat_eq, nat_lt, Option, Some, None, List, length}
+use Rattle.std.specs.Prelude.{◌≡◌, ◌<◌, ◌≤◌, ◌⊎◌, ℕ, ℤ, Bool, true, ◌&&◌, ◌||◌, nat_eq, List, [], ◌∷◌, ◌++◌, length}
 use Rattle.std.specs.List.{All}
 use Rattle.pb_text.specs.declared.limits.TheConstants.{MOST_NUMBER}
 use Rattle.pb_affine.specs.declared.guard.Guard.{Guard}
@@ -13,6 +13,7 @@ use Rattle.pb_core_language.specs.Ranks.{total}
 use Rattle.pb_core_language.specs.Verdict.{IsIn}
 use Rattle.pb_part_firsts.specs.declared.firsts.Entry.{Entry}
 use Rattle.pb_part_firsts.specs.Fitting.{EntriesFit}
+use Rattle.pb_choice_entries.specs.Clashes.{is_label}
 use Rattle.pb_core_flat.specs.Seated.{is_rank}
 use Rattle.pb_local.specs.declared.stmt.Test.{Test}
 use Rattle.pb_local.specs.Tree.{Program}
@@ -20,12 +21,17 @@ use Rattle.pb_local.specs.WellMade.{IsRange, IsTest, Ascend}
 use Rattle.pb_project_piece.specs.Standing.{Stands}
 use Rattle.pb_shape.specs.Places.{Scope}
 use Rattle.pb_shape.specs.Choices.{guards_of}
-use Rattle.pb_project_choice.specs.Found.{tells, AreKnown}
+use Rattle.pb_project_choice.specs.Found.{has_label, tells, AreKnown}
 
--- less than the number, if there is one
-abbrev pub is_under : ℕ → Option ℕ → Bool
-is_under l None = true
-is_under l (Some m) = nat_lt l m
+-- the labels of the receives are from this number to that
+abbrev pub LabelsWithin : ℕ → ℕ → List Entry → Type 0
+LabelsWithin least most es = (l : ℕ) → has_label l es ≡ true → (least ≤ l) × (l ≤ most)
+
+-- an entry whose labels are up to the middle is added to the first list, and one whose labels are above to the second
+abbrev pub IsPut : ℕ → Entry → List Entry → List Entry → List Entry → List Entry → Type 0
+IsPut middle e low high new_low new_high =
+    ((new_low ≡ low ++ e ∷ []) × (new_high ≡ high) × ((l : ℕ) → is_label l e.kind ≡ true → l ≤ middle))
+    ⊎ ((new_low ≡ low) × (new_high ≡ high ++ e ∷ []) × ((l : ℕ) → is_label l e.kind ≡ true → middle < l))
 
 -- the guards hold of such a rank, at some N of the range with at most 2,000,000,000 ranks
 pub record HasHolder (range : NRange) (roles : List CoreRole) (such : ℤ → ℕ → ℤ → Bool) (gs : List Guard) : Type 0 where

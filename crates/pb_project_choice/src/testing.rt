@@ -1,4 +1,4 @@
-ghost use Rattle.std.specs.Prelude.{◌≡◌, ◌≤◌, ◌<◌, ◌+◌, ◌^◌, ℕ, ℤ, pos, Bool, length, List, nat_eq, ◌&&◌, ◌||◌, true, false, IfOk, OnOk, IfSome};
+ghost use Rattle.std.specs.Prelude.{◌≡◌, ◌≤◌, ◌<◌, ◌+◌, ℕ, ℤ, pos, Bool, length, List, nat_eq, ◌&&◌, ◌||◌, true, false, IfOk, OnOk};
 ghost use Rattle.std.specs.List.{All};
 ghost use Rattle.pb_affine.specs.declared.lin.Lin.{Lin};
 ghost use Rattle.pb_affine.specs.declared.range.NRange.{NRange};
@@ -16,8 +16,8 @@ ghost use Rattle.pb_project_piece.specs.Standing.{Stands, IsOpen};
 ghost use Rattle.pb_shape.specs.Places.{Scope, Here};
 ghost use Rattle.pb_shape.specs.Loops.{Around};
 ghost use Rattle.pb_shape.specs.Choices.{Tests, is_told};
-ghost use Rattle.pb_project_choice.specs.Found.{IsFoundIn, has_label, tells};
-ghost use Rattle.pb_project_choice.specs.Tested.{is_under, HaveHolders, IsTested, AscendTo};
+ghost use Rattle.pb_project_choice.specs.Found.{IsFoundIn, tells};
+ghost use Rattle.pb_project_choice.specs.Tested.{HaveHolders, IsTested, IsPut, LabelsWithin, AscendTo};
 
 use crate::entries::Branch;
 use crate::guards::guards_in;
@@ -28,56 +28,23 @@ use pb_project_piece::{Setting, is_somebody};
 use pb_text::NoMemory;
 use std::alloc::Global;
 
-fn is_less(label: u32, best: Option<u32>) -> bool
-    ensures { result ≡ is_under label best }
-{
-    match best {
-        None => true,
-        Some(best) => label < best,
-    }
-}
-
-/// The label, if it is at least `from` and less than the best one.
-fn lesser(best: Option<u32>, label: u32, from: u64) -> Option<u32>
-    ensures from { IfSome best (λ m. from ≤ m) → IfSome result (λ m. from ≤ m) }
-    ensures under { (l : ℕ) → from ≤ l → is_under l result ≡ true → (is_under l best ≡ true) × (nat_eq l label ≡ false) }
-{
-    if from <= u64::from(label) && is_less(label, best) {
-        Some(label)
-    } else {
-        best
-    }
-}
-
-/// The label of a receive, if it is at least `from` and less than the best one.
-fn nearer(best: Option<u32>, kind: Kind, from: u64) -> Option<u32>
-    ensures from { IfSome best (λ m. from ≤ m) → IfSome result (λ m. from ≤ m) }
-    ensures under { (l : ℕ) → from ≤ l → is_under l result ≡ true → (is_under l best ≡ true) × (is_label l kind ≡ false) }
-{
-    match kind {
-        Kind::Receive { label, .. } => lesser(best, label, from),
-        Kind::Other => best,
-        Kind::Again => best,
-    }
-}
-
-/// The least label of a receive that is at least `from`.
-fn next_label(entries: &[Entry], from: u64) -> Option<u32>
-    ensures from { IfSome result (λ m. from ≤ m) }
-    ensures under { (l : ℕ) → from ≤ l → is_under l result ≡ true → has_label l entries.now ≡ false }
-{
-    let mut best = None;
-    for entry in entries {
-        best = nearer(best, entry.kind, from);
-    }
-    best
-}
-
 fn is_of(kind: Kind, wanted: u32) -> bool
     ensures { result ≡ is_label wanted kind }
 {
     match kind {
         Kind::Receive { label, .. } => wanted == label,
+        Kind::Other => false,
+        Kind::Again => false,
+    }
+}
+
+/// True where it is a receive of a label up to `middle`.
+fn is_up_to(kind: Kind, middle: u32) -> bool
+    ensures up { result ≡ true → (l : ℕ) → is_label l kind ≡ true → l ≤ middle }
+    ensures above { result ≡ false → (l : ℕ) → is_label l kind ≡ true → middle < l }
+{
+    match kind {
+        Kind::Receive { label, .. } => label <= middle,
         Kind::Other => false,
         Kind::Again => false,
     }
@@ -131,11 +98,106 @@ fn put_test(
     Ok(())
 }
 
-fn behind(label: u32) -> u64
-    ensures is { result ≡ label + 1 }
-    ensures near { result ≤ 2 ^ 32 }
+/// Entries whose labels are up to some middle, and those whose labels are above it.
+#[derive(Drop)]
+struct Halves {
+    low: Vec<Entry>,
+    high: Vec<Entry>,
+}
+
+/// Adds an entry to the half of its label.
+fn put_in_half(halves: &mut Halves, entry: Entry, middle: u32) -> Result<(), NoMemory>
+    ensures { OnOk result (IsPut middle entry halves.old.low.items halves.old.high.items halves.new.low.items halves.new.high.items) }
 {
-    u64::from(label) + 1
+    if is_up_to(entry.kind, middle) {
+        halves.low.push(entry)?;
+        return Ok(());
+    }
+    halves.high.push(entry)?;
+    Ok(())
+}
+
+/// The entries in halves by their labels.
+fn halves_of(alloc: Global, entries: Vec<Entry>, middle: u32) -> Result<Halves, NoMemory>
+    ensures is { IfOk result (λ h. (l : ℕ) (n : ℤ) (role : ℕ) (x : ℤ) → tells l h.low.items n role x || tells l h.high.items n role x ≡ tells l entries.items n role x) }
+    ensures within { IfOk result (λ h. (least most : ℕ) → LabelsWithin least most entries.items → LabelsWithin least middle h.low.items × LabelsWithin (middle + 1) most h.high.items) }
+    ensures fits { IfOk result (λ h. (range : NRange) (cuts : List Lin) → EntriesFit range cuts entries.items → EntriesFit range cuts h.low.items × EntriesFit range cuts h.high.items) }
+{
+    let mut halves = Halves {
+        low: Vec::new(alloc),
+        high: Vec::new(alloc),
+    };
+    for entry in entries {
+        put_in_half(&mut halves, entry, middle)?;
+    }
+    Ok(halves)
+}
+
+/// The number in the middle, not the greatest.
+fn middle_of(least: u32, most: u32) -> u32
+    requires { least < most }
+    ensures low { least ≤ result }
+    ensures high { result < most }
+{
+    least + (most - least) / 2
+}
+
+/// Adds the tests of a branch by ascending labels, where all labels are from `least` to `most`.
+fn put_tests_within(
+    alloc: Global,
+    setting: &Setting,
+    entries: Vec<Entry>,
+    branch: u32,
+    least: u32,
+    most: u32,
+    tests: &mut Vec<Test>,
+) -> Result<(), NoMemory>
+    ensures is { OnOk result (LabelsWithin least most entries.items → IsTested setting.now.range setting.now.roles setting.now.whole.now branch (λ l. true) entries.items tests.old.items tests.new.items) }
+    ensures ascend { OnOk result (least ≤ most → AscendTo branch least tests.old.items → AscendTo branch (most + 1) tests.new.items) }
+{
+    if entries.is_empty() {
+        return Ok(());
+    }
+    if most <= least {
+        return put_test(alloc, setting, &entries, branch, least, tests);
+    }
+    let middle = middle_of(least, most);
+    let halves = halves_of(alloc, entries, middle)?;
+    put_tests_within(alloc, setting, halves.low, branch, least, middle, tests)?;
+    put_tests_within(alloc, setting, halves.high, branch, middle + 1, most, tests)
+}
+
+fn greater(best: u32, kind: Kind) -> u32
+    ensures best { best ≤ result }
+    ensures label { (l : ℕ) → is_label l kind ≡ true → l ≤ result }
+{
+    match kind {
+        Kind::Receive { label, .. } => best.max(label),
+        Kind::Other => best,
+        Kind::Again => best,
+    }
+}
+
+/// The greatest label of a receive, or 0.
+fn most_label(entries: &[Entry]) -> u32
+    ensures { LabelsWithin 0 result entries.now }
+{
+    let mut best = 0;
+    for entry in entries {
+        best = greater(best, entry.kind);
+    }
+    best
+}
+
+/// The same entries once more.
+fn copied(alloc: Global, entries: &[Entry]) -> Result<Vec<Entry>, NoMemory>
+    ensures { IfOk result (λ v. v.items ≡ entries.now) }
+{
+    let mut copy = Vec::new(alloc);
+    for entry in entries {
+        copy.push(*entry)?;
+    }
+    Ok(copy)
 }
 
 /// Adds the tests of a branch, by ascending labels.
@@ -149,12 +211,9 @@ fn put_tests(
     ensures is { OnOk result (IsTested setting.now.range setting.now.roles setting.now.whole.now branch (λ l. true) entries.now tests.old.items tests.new.items) }
     ensures ascend { OnOk result (AscendTo branch 0 tests.old.items → AscendTo (branch + 1) 0 tests.new.items) }
 {
-    let mut from: u64 = 0;
-    while let Some(label) = next_label(entries, from) {
-        put_test(alloc, setting, entries, branch, label, tests)?;
-        from = behind(label);
-    }
-    Ok(())
+    let most = most_label(entries);
+    let all = copied(alloc, entries)?;
+    put_tests_within(alloc, setting, all, branch, 0, most, tests)
 }
 
 fn next(number: u32) -> u32

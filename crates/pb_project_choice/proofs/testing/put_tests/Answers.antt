@@ -1,21 +1,19 @@
-use Rattle.std.proofs.Common.{◌≤◌, sym, subst, refl}
-use Rattle.pb_project_choice.specs.Tested.{AscendTo}
-use Rattle.pb_project_choice.proofs.Telling.{tested_next, tested_end, ascend_later}
+use Rattle.std.proofs.Common.{◌≤◌, ◌+◌, true, sym, subst, arith}
+use Rattle.std.proofs.lemmas.Result.{on_ok_weaker}
+use Rattle.pb_project_choice.specs.Tested.{IsTested, LabelsWithin}
+use Rattle.pb_project_choice.proofs.Telling.{ascend_branch}
 use Rattle.pb_project_choice.proofs.testing.put_tests.Goals as goal
-
-pub loop-label-preserved : goal.loop-label-preserved
-loop-label-preserved c =
-    let s = c.args.setting.now in
-    let le : c.loop-label.from ≤ c.in-Some.label = c.in-Some.ensures.from in
-    record {
-      is = tested_next s.range s.roles s.whole.now c.args.branch c.loop-label.from c.in-Some.label c.behind-from.result c.args.entries.now c.args.tests.now.items c.loop-label.tests.items c.put_test.new.tests.items c.behind-from.ensures.is le
-          (λ l at_least under. c.in-Some.ensures.under l at_least under) c.loop-label.invariant.is c.in_ok-put_test.ensures.is;
-      ascend = λ h. subst (λ z. AscendTo c.args.branch z c.put_test.new.tests.items) (sym c.behind-from.ensures.is)
-          (c.in_ok-put_test.ensures.ascend (ascend_later c.args.branch c.loop-label.from c.in-Some.label c.loop-label.tests.items le (c.loop-label.invariant.ascend h)));
-      near = c.behind-from.ensures.near;
-    }
 
 pub returns-clause-is : goal.returns-clause-is
 returns-clause-is c =
     let s = c.args.setting.now in
-    tested_end s.range s.roles s.whole.now c.args.branch c.loop-label.from c.args.entries.now c.args.tests.now.items c.loop-label.tests.items (λ l le. c.in_default.ensures.under l le refl) c.loop-label.invariant.is
+    let most = c.most_label-most.result in
+    let within : LabelsWithin 0 most c.in_ok-all.all.items = subst (LabelsWithin 0 most) (sym c.in_ok-all.ensures) c.most_label-most.ensures in
+    on_ok_weaker c.put_tests_within.result
+    (λ it. subst (λ es. IsTested s.range s.roles s.whole.now c.args.branch (λ l. true) es c.args.tests.now.items c.put_tests_within.new.tests.items) c.in_ok-all.ensures (it within))
+    c.put_tests_within.ensures.is
+
+pub returns-clause-ascend : goal.returns-clause-ascend
+returns-clause-ascend c =
+    let least : 0 ≤ c.most_label-most.result = omega arith in
+    on_ok_weaker c.put_tests_within.result (λ it h. ascend_branch c.args.branch (c.most_label-most.result + 1) c.put_tests_within.new.tests.items (it least h)) c.put_tests_within.ensures.ascend
