@@ -41,17 +41,14 @@ small_both xs ys h k = are_small_append xs ys ∙ and_from (are_small xs) (are_s
 small_parts : (xs ys : List Entry) → are_small (xs ++ ys) ≡ true → (are_small xs ≡ true) × (are_small ys ≡ true)
 small_parts xs ys h = and_parts (are_small xs) (are_small ys) (sym (are_small_append xs ys) ∙ h)
 
-pub alike_more : (sources mine both seen all entries here : List Entry) → both ≡ sources ++ mine → seen ≡ both → AreSmallToo all seen → AreSecond all seen →
-    AreAlike sources entries → AreAlike mine here → AreAlike all (entries ++ here)
-alike_more sources mine both seen all entries here is same small second a b =
-    let e : seen ≡ sources ++ mine = same ∙ is in
-    record {
-      small = λ h. let p = small_parts entries here h in
-          small (ap are_small e ∙ small_both sources mine (a.small p.0) (b.small p.1));
-      same = λ others n role x.
-          second others n role x ∙ ap (λ l. forks others l n role x) e ∙ forks_append others sources mine n role x
-          ∙ ap₂ (λ u v. u || v) (a.same others n role x) (b.same others n role x) ∙ sym (forks_append others entries here n role x);
-    }
+pub alike_appended : (sources mine both entries here : List Entry) → both ≡ sources ++ mine → AreAlike sources entries → AreAlike mine here → AreAlike both (entries ++ here)
+alike_appended sources mine both entries here e a b = record {
+  small = λ h. let p = small_parts entries here h in
+      ap are_small e ∙ small_both sources mine (a.small p.0) (b.small p.1);
+  same = λ others n role x.
+      ap (λ l. forks others l n role x) e ∙ forks_append others sources mine n role x
+      ∙ ap₂ (λ u v. u || v) (a.same others n role x) (b.same others n role x) ∙ sym (forks_append others entries here n role x);
+}
 
 -- ---- who receives from a second rank
 

@@ -6,11 +6,12 @@ ghost use Rattle.pb_part_firsts.specs.Firsts.{are_small};
 ghost use Rattle.pb_choice_entries.specs.Clashes.{AreSplit};
 ghost use Rattle.pb_choice.specs.Senders.{AreAlike, AreCurrent};
 
-use pb_choice_entries::{forks, have_one_source, less, sources_of};
+use pb_choice_entries::{distinct, forks, have_one_source, less, sources_of};
 use pb_part_areas::Area;
 use pb_part_firsts::Entry;
 use pb_text::NoMemory;
 use std::alloc::Global;
+use std::mem;
 
 /// Adds the entries behind the others.
 pub fn add_entries(entries: &mut Vec<Entry>, here: &[Entry]) -> Result<(), NoMemory>
@@ -22,24 +23,16 @@ pub fn add_entries(entries: &mut Vec<Entry>, here: &[Entry]) -> Result<(), NoMem
     Ok(())
 }
 
-// Where the sources aren't known, they are those of the entries.
-fn make_current(alloc: Global, sources: &mut Vec<Entry>, entries: &[Entry]) -> Result<(), NoMemory>
-    ensures { OnOk result (AreCurrent sources.old.items entries.now → AreAlike sources.new.items entries.now) }
+// The sources of the entries, by those known where some are. They come in order, each once.
+fn current_of(alloc: Global, known: Vec<Entry>, entries: &[Entry]) -> Result<Vec<Entry>, NoMemory>
+    ensures { IfOk result (λ v. AreCurrent known.items entries.now → AreAlike v.items entries.now) }
 {
-    if sources.is_empty() {
+    if known.is_empty() {
         let all = sources_of(alloc, entries)?;
-        *sources = all;
+        return Ok(all);
     }
-    Ok(())
-}
-
-fn add_sources(alloc: Global, sources: &mut Vec<Entry>, mine: &[Entry]) -> Result<(), NoMemory>
-    ensures { OnOk result ((entries here : List Entry) → AreAlike sources.old.items entries → AreAlike mine.now here → AreAlike sources.new.items (entries ++ here)) }
-{
-    add_entries(sources, mine)?;
-    let all = sources_of(alloc, sources)?;
-    *sources = all;
-    Ok(())
+    let all = distinct(alloc, known)?;
+    Ok(all)
 }
 
 // The areas of those that receive from a second rank by these entries, and didn't before.
@@ -72,9 +65,11 @@ pub fn split_of(
         sources.clear();
         return Ok(Vec::new(alloc));
     }
-    make_current(alloc, sources, before)?;
+    let known = mem::replace(sources, Vec::new(alloc));
+    let current = current_of(alloc, known, before)?;
     let mine = sources_of(alloc, here)?;
-    let split = split_by(alloc, &mine, sources, mixed)?;
-    add_sources(alloc, sources, &mine)?;
+    let split = split_by(alloc, &mine, &current, mixed)?;
+    *sources = current;
+    add_entries(sources, &mine)?;
     Ok(split)
 }

@@ -76,7 +76,7 @@ pub(crate) fn widened(a: Area, b: Area) -> Option<Area>
 }
 
 /// An area that holds of all that these entries' areas hold of.
-pub(crate) fn around(here: &[Entry]) -> Option<Area>
+fn around(here: &[Entry]) -> Option<Area>
     ensures { IfSome result (λ a. IsAround a here.now) }
 {
     let mut all = here.first()?.area;
@@ -87,7 +87,7 @@ pub(crate) fn around(here: &[Entry]) -> Option<Area>
 }
 
 /// The entries that may have a rank in common with the area.
-pub(crate) fn close_to(alloc: Global, others: &[Entry], area: Area) -> Result<Vec<Entry>, NoMemory>
+fn close_to(alloc: Global, others: &[Entry], area: Area) -> Result<Vec<Entry>, NoMemory>
     ensures is { IfOk result (λ v. (p : Pairing) (here : List Entry) → IsAround area here → (n : ℤ) (role : ℕ) (x : ℤ) → pairs p here v.items n role x ≡ pairs p here others.now n role x) }
     ensures small { IfOk result (λ v. are_small others.now ≡ true → are_small v.items ≡ true) }
 {
@@ -98,4 +98,25 @@ pub(crate) fn close_to(alloc: Global, others: &[Entry], area: Area) -> Result<Ve
         }
     }
     Ok(out)
+}
+
+/// The others that may have a rank in common with the entries, unless they are nearly all or no area is known around these.
+pub(crate) fn few_close(
+    alloc: Global,
+    here: &[Entry],
+    others: &[Entry],
+) -> Result<Option<Vec<Entry>>, NoMemory>
+    ensures is { IfOk result (λ o. IfSome o (λ v. (p : Pairing) (n : ℤ) (role : ℕ) (x : ℤ) → pairs p here.now v.items n role x ≡ pairs p here.now others.now n role x)) }
+    ensures small { IfOk result (λ o. IfSome o (λ v. are_small others.now ≡ true → are_small v.items ≡ true)) }
+{
+    match around(here) {
+        None => Ok(None),
+        Some(area) => {
+            let close = close_to(alloc, others, area)?;
+            if close.len() > others.len() / 4 * 3 {
+                return Ok(None);
+            }
+            Ok(Some(close))
+        }
+    }
 }

@@ -22,6 +22,22 @@ fn around(list: &[Area]) -> Option<Area>
     Some(all)
 }
 
+/// The others that may have something in common with the list, unless they are nearly all or no area is known around the list.
+fn few_near(alloc: Global, list: &[Area], others: &[Area]) -> Result<Option<Vec<Area>>, NoMemory>
+    ensures { IfOk result (λ o. IfSome o (λ v. (n : ℤ) (role : ℕ) (x : ℤ) → have list.now n role x && not (have v.items n role x) ≡ have list.now n role x && not (have others.now n role x))) }
+{
+    match around(list) {
+        None => Ok(None),
+        Some(area) => {
+            let met = near(alloc, others, area)?;
+            if met.len() > others.len() / 4 * 3 {
+                return Ok(None);
+            }
+            Ok(Some(met))
+        }
+    }
+}
+
 /// What some area of `list` holds of and none of `others`.
 pub fn less(alloc: Global, list: &[Area], others: &[Area]) -> Result<Vec<Area>, NoMemory>
     ensures { IfOk result (λ v. (n : ℤ) (role : ℕ) (x : ℤ) → have v.items n role x ≡ have list.now n role x && not (have others.now n role x)) }
@@ -57,12 +73,9 @@ fn add_near(
 ) -> Result<(), NoMemory>
     ensures { OnOk result ((n : ℤ) (role : ℕ) (x : ℤ) → have out.new.items n role x ≡ have out.old.items n role x || (have list.now n role x && not (have others.now n role x))) }
 {
-    match around(list) {
+    match few_near(alloc, list, others)? {
         None => add_less(alloc, out, list, others),
-        Some(area) => {
-            let met = near(alloc, others, area)?;
-            add_less(alloc, out, list, &met)
-        }
+        Some(met) => add_less(alloc, out, list, &met),
     }
 }
 

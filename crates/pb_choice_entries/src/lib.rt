@@ -15,4 +15,4 @@ pub use agree::agreement;
 pub use alike::have_one_source;
 pub use difference::less;
 pub use pairs::{clashes, forks};
-pub use sources::sources_of;
+pub use sources::{distinct, sources_of};

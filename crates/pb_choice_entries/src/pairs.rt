@@ -5,7 +5,7 @@ ghost use Rattle.pb_part_areas.specs.Areas.{has, have};
 ghost use Rattle.pb_part_firsts.specs.Firsts.{is_small_kind, are_small};
 ghost use Rattle.pb_choice_entries.specs.Clashes.{AddsWhere, AreWhere, clashes, forks, pair_any, pairs};
 
-use crate::close::{around, close_to};
+use crate::close::few_close;
 use crate::labels::shared;
 use crate::order::in_order;
 use crate::pair::{Pairing, add_pair};
@@ -81,12 +81,9 @@ fn add_pairs_close(
 ) -> Result<(), NoMemory>
     ensures { OnOk result (are_small here.now ≡ true → are_small others.now ≡ true → AddsWhere out.old.items out.new.items (pairs pairing here.now others.now)) }
 {
-    match around(here) {
+    match few_close(alloc, here, others)? {
         None => add_pairs_among(alloc, out, pairing, here, others),
-        Some(area) => {
-            let close = close_to(alloc, others, area)?;
-            add_pairs_among(alloc, out, pairing, here, &close)
-        }
+        Some(close) => add_pairs_among(alloc, out, pairing, here, &close),
     }
 }
 

@@ -53,15 +53,14 @@ fn is_repeated(list: &[Entry], entry: Entry) -> bool
     is_same_area(entry.area, last.area) && is_same_sender(entry.kind, last.kind)
 }
 
-/// The receives among the entries in an order in which those whose areas are near stand together. Of those of the same ranks from
-/// one source one is left.
-pub fn sources_of(alloc: Global, entries: &[Entry]) -> Result<Vec<Entry>, NoMemory>
-    ensures first { IfOk result (λ v. (others : List Entry) (n : ℤ) (role : ℕ) (x : ℤ) → forks v.items others n role x ≡ forks entries.now others n role x) }
-    ensures second { IfOk result (λ v. (here : List Entry) (n : ℤ) (role : ℕ) (x : ℤ) → forks here v.items n role x ≡ forks here entries.now n role x) }
-    ensures small { IfOk result (λ v. are_small entries.now ≡ true → are_small v.items ≡ true) }
+/// The entries in an order in which those whose areas are near stand together. Of receives of the same ranks from one source one is
+/// left.
+pub fn distinct(alloc: Global, entries: Vec<Entry>) -> Result<Vec<Entry>, NoMemory>
+    ensures first { IfOk result (λ v. (others : List Entry) (n : ℤ) (role : ℕ) (x : ℤ) → forks v.items others n role x ≡ forks entries.items others n role x) }
+    ensures second { IfOk result (λ v. (here : List Entry) (n : ℤ) (role : ℕ) (x : ℤ) → forks here v.items n role x ≡ forks here entries.items n role x) }
+    ensures small { IfOk result (λ v. are_small entries.items ≡ true → are_small v.items ≡ true) }
 {
-    let all = receives(alloc, entries)?;
-    let list = in_order(all);
+    let list = in_order(entries);
     let mut out = Vec::new(alloc);
     for entry in &list {
         if !is_repeated(&out, *entry) {
@@ -69,4 +68,15 @@ pub fn sources_of(alloc: Global, entries: &[Entry]) -> Result<Vec<Entry>, NoMemo
         }
     }
     Ok(out)
+}
+
+/// The receives among the entries, in this order and each once.
+pub fn sources_of(alloc: Global, entries: &[Entry]) -> Result<Vec<Entry>, NoMemory>
+    ensures first { IfOk result (λ v. (others : List Entry) (n : ℤ) (role : ℕ) (x : ℤ) → forks v.items others n role x ≡ forks entries.now others n role x) }
+    ensures second { IfOk result (λ v. (here : List Entry) (n : ℤ) (role : ℕ) (x : ℤ) → forks here v.items n role x ≡ forks here entries.now n role x) }
+    ensures small { IfOk result (λ v. are_small entries.now ≡ true → are_small v.items ≡ true) }
+{
+    let all = receives(alloc, entries)?;
+    let list = distinct(alloc, all)?;
+    Ok(list)
 }
