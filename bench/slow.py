@@ -468,6 +468,15 @@ def cross_relayed(rng):
     return protocol(2 * count + 1, choice_of(blocks), f"role W[0..N-1], role S[0..{count}]")
 
 
+def cross_own(rng):
+    """Branches that tell ranks that cross, each by a label of its own."""
+    branches = rng.choice([2, 4])
+    count = crossed(rng, branches)
+    blocks = [[line for k in range(1, count) for line in (f"L{b}x{k}() from W[0] to W[{2 * k}];", f"M{b}x{k}() from W[0] to W[N-{2 * k}];")]
+              + [f"G{b}() from W[0] to W[i:1..N-1];"] for b in range(branches)]
+    return 2 * count + 1, choice_of(blocks)
+
+
 def choices_behind(rng):
     """A branch that tells ranks that cross, has choices one after the other, each of which tells a rank, and then tells all."""
     count = crossed(rng, 1)
@@ -486,8 +495,8 @@ def by_name(*shapes):
 SHAPES = by_name(choice, own_ranks, offsets, offsets_to_one, cuts, told_in_turn, loops, tree, gaps, gaps_from_both, two_sources, cross_loop,
                  loops_joint, each_stays, low_ranges, wide_ranges, loops_choices, choices_split, choices_gaps, choices_told, continues,
                  continues_told, loops_cross, cross_each, each_holes, each_met, told_by_many, one_rank, each_labels, loops_gaps, cross_sources,
-                 cross_labels, cross_inner, cross_send, cross_relayed)
-HARD = by_name(cross_told, choices_cross, each_gaps, choices_behind)
+                 cross_labels, cross_inner, cross_send, cross_relayed, cross_own, choices_behind)
+HARD = by_name(cross_told, choices_cross, each_gaps)
 
 
 def made(shape, seed):
