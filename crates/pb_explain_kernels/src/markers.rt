@@ -12,6 +12,8 @@ enum Marker<'a> {
     Closes,
     /// It begins as a marker, and is none.
     Malformed,
+    /// It would begin as a marker, but blanks stand in front.
+    Indented,
     /// It is no marker.
     Other,
 }
@@ -38,18 +40,35 @@ pub struct Marks<'a> {
     pub names: Vec<&'a [u8]>,
     /// The first fault, and its line, from 1.
     pub slip: Option<(Slip, u32)>,
+    /// The first line that has blanks in front of `/*@`.
+    pub indented: Option<u32>,
     /// The line that opened the body that is open.
     open: Option<u32>,
 }
 
-/// Whether only blanks follow.
-fn is_blank(bytes: &[u8]) -> bool {
+/// How many blanks stand in front.
+fn blanks_len(bytes: &[u8]) -> usize {
+    let mut len = 0;
     for byte in bytes {
         if *byte != b' ' && *byte != b'\t' && *byte != b'\r' {
-            return false;
+            return len;
         }
+        len = len.saturating_add(1);
     }
-    true
+    len
+}
+
+/// Whether only blanks follow.
+fn is_blank(bytes: &[u8]) -> bool {
+    blanks_len(bytes) == bytes.len()
+}
+
+/// What a line is that doesn't begin with `/*@`.
+fn without_front(line: &[u8]) -> Marker<'_> {
+    match line.get(blanks_len(line)..) {
+        Some(rest) if rest.starts_with(b"/*@") => Marker::Indented,
+        _ => Marker::Other,
+    }
 }
 
 /// The bytes before the first space.
@@ -110,7 +129,7 @@ fn named(rest: &[u8]) -> Marker<'_> {
 
 fn marker_of(line: &[u8]) -> Marker<'_> {
     let Some(rest) = line.strip_prefix(b"/*@") else {
-        return Marker::Other;
+        return without_front(line);
     };
     if let Some(behind) = rest.strip_prefix(b" kernel ") {
         return named(behind);
@@ -177,6 +196,12 @@ impl<'a> Marks<'a> {
                 self.note(Slip::Malformed, line);
                 Ok(())
             }
+            Marker::Indented => {
+                if self.indented.is_none() {
+                    self.indented = Some(line);
+                }
+                Ok(())
+            }
             Marker::Other => Ok(()),
         }
     }
@@ -187,6 +212,7 @@ pub fn marks_of(alloc: Global, bytes: &[u8]) -> Result<Marks<'_>, NoMemory> {
     let mut marks = Marks {
         names: Vec::new(alloc),
         slip: None,
+        indented: None,
         open: None,
     };
     let mut lines = Lines::of(bytes);

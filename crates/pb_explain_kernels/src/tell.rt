@@ -68,6 +68,20 @@ fn say_stub(page: &mut Page, function: &Function) -> Result<(), NoMemory> {
     ])
 }
 
+/// Tells of the first line that would begin as a marker, if there is one.
+fn tell_indented(page: &mut Page, marks: &Marks) -> Result<(), NoMemory> {
+    let Some(line) = marks.indented else {
+        return Ok(());
+    };
+    page.point(
+        Place { line, col: 1 },
+        &[Part::Text("this line looks like a marker, and is none: blanks stand in front of it")],
+    )?;
+    page.help(&[Part::Text(
+        "take the blanks in front away; `// clang-format off` as the first line of the prelude keeps a formatter from what follows",
+    )])
+}
+
 fn tell_missing(
     page: &mut Page,
     source: &Source,
@@ -80,6 +94,7 @@ fn tell_missing(
             continue;
         }
         if is_first {
+            tell_indented(page, marks)?;
             page.say(&[
                 Part::Text(source.file),
                 Part::Text(
