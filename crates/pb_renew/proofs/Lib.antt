@@ -1,3 +1,3 @@
-pub mod Outcomes
+mod Contents
 pub mod Reasons
-pub mod Rest
+pub mod Renewing

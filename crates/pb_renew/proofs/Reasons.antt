@@ -1,44 +1,32 @@
--- From what a call below told to why a text wasn't renewed.
-use Rattle.std.proofs.Common.{◌≡◌, ℕ, zero, suc, ◌+◌, ◌-◌, ◌^◌, ◌<◌, ◌≤◌, ◌⊎◌, inl, inr, Bool, true, false, List, [], ◌∷◌, length, Option, None, Some, is_some, unwrap_or, Result, Ok, Err, min, refl, sym, ap, subst, ◌∙◌, arith, true≢false}
-use Rattle.std.specs.Prelude.{IfErr, IfSome}
-use Rattle.pb_io.specs.Faults.{Rose, next_count}
-use Rattle.pb_io.specs.Files.{File, IsContent, content_of, file_of}
+-- From what a call below told to why a text isn't renewed.
+use Rattle.std.proofs.Common.{◌≡◌, ◌≢◌, ℕ, ◌<◌, ◌≤◌, ◌⊎◌, inl, inr, Bool, true, false, List, [], ◌∷◌, length, Option, None, Some, unwrap_or, refl, sym, ap, subst, ◌∙◌, arith, Ok, true≢false}
+use Rattle.std.specs.Prelude.{IfSome}
+use Rattle.std.specs.String.{string_bytes}
+use Rattle.pb_io.specs.Files.{File, content_of, file_of}
+use Rattle.pb_ctree.specs.declared.body.Bodies.{Bodies}
+use Rattle.pb_ctree.specs.Texts.{Spells}
+use Rattle.pb_renew_lines.specs.Outside.{AreBlank, IsOutside}
+use Rattle.pb_renew_lines.specs.declared.outside.Outside.{Outside}
+use Rattle.pb_renew_lines.specs.declared.outside.Outside.TheVariants as outside
+use Rattle.pb_renew.specs.Made.{IsMade, IsMarked, IsTold, is_line}
+use Rattle.pb_renew.specs.Places.{Agrees, IsThere}
+use Rattle.pb_renew.specs.Plans.{IsPlan, IsPutTogether, LeavesAs, SparesLines, WasBefore, WasTold, bytes_of, left_bytes}
+use Rattle.pb_renew.specs.declared.made.Made.{Made}
+use Rattle.pb_renew.specs.declared.plan.Plan.{Plan}
+use Rattle.pb_renew_merge.specs.Lost.{NothingLost}
+use Rattle.pb_renew_put.specs.Jobs.{Behind, task_of}
+use Rattle.pb_renew.specs.declared.place.Place.{Place}
 use Rattle.pb_ctree.specs.declared.tree.CTree.{CTree}
 use Rattle.pb_kernels.specs.declared.fault.KernelFault.{KernelFault}
 use Rattle.pb_kernels.specs.declared.fault.KernelFault.TheVariants as kernels
-use Rattle.pb_kernels.specs.declared.file.NamedBody.{NamedBody}
-use Rattle.pb_kernels.specs.Files.{kernel_file}
 use Rattle.pb_kernels.specs.Marks.{prelude_name}
 use Rattle.pb_renew_merge.specs.declared.renewed.Renewed.{Renewed}
 use Rattle.pb_renew_merge.specs.Renewed.{IsLeftFault, IsRenewal, IsTextFault}
-use Rattle.pb_renew_put.specs.Names.{left_name}
-use Rattle.pb_renew_put.specs.Puts.{HasFailed}
-use Rattle.pb_renew_put.specs.declared.fault.PutFault.{PutFault}
-use Rattle.pb_renew_put.specs.declared.fault.PutFault.TheVariants as put
-use Rattle.pb_renew.specs.Faults.{no_left, no_text, unput}
-use Rattle.pb_renew.specs.Reasons.{IsNoContent, IsNoLeft, IsNoRenewal, IsReason, IsReasonUntold, IsReasonWith, IsTooLong, most_bytes}
+use Rattle.pb_renew.specs.Faults.{no_left, no_text}
+use Rattle.pb_renew.specs.Reasons.{IsLosing, IsNoContent, IsNoLeft, IsNoRenewal, IsRead, IsReasonWith, most_bytes}
+use Rattle.pb_renew.specs.declared.losing.Losing.{Losing}
 use Rattle.pb_renew.specs.declared.unrenewed.Unrenewed.{Unrenewed}
 use Rattle.pb_renew.specs.declared.unrenewed.Unrenewed.TheVariants as why
-
--- ---- the content of a file
-
-content_some : (bytes : List ℕ) (o : Option (List ℕ)) → true ≡ is_some o → bytes ≡ unwrap_or o [] → Some bytes ≡ o
-content_some bytes None there is = absurd (true≢false there)
-content_some bytes (Some had) there is = ap Some is
-
-content_none : (o : Option (List ℕ)) → false ≡ is_some o → None ≡ o
-content_none None there = refl
-content_none (Some had) there = absurd (true≢false (sym there))
-
-pub content_there : (h0 h1 : Option (List File)) (name bytes : List ℕ) → h1 ≡ h0 → IfSome h0 (λ files. true ≡ is_some (file_of files name)) → IsContent h1 name bytes → IfSome h0 (λ files. Some bytes ≡ file_of files name)
-content_there None h1 name bytes e there is = tt
-content_there (Some files) h1 name bytes e there is = content_some bytes (file_of files name) there (subst (λ (h : Option (List File)). IsContent h name bytes) e is)
-
-pub content_missing : (h : Option (List File)) (name : List ℕ) → IfSome h (λ files. false ≡ is_some (file_of files name)) → IfSome h (λ files. None ≡ file_of files name)
-content_missing None name there = tt
-content_missing (Some files) name there = content_none (file_of files name) there
-
--- ---- a new text
 
 pub none_in : {A : Type 0} (list : List A) → length list ≡ 0 → list ≡ []
 none_in [] e = refl
@@ -58,156 +46,258 @@ untexted (kernels.Extra name) bytes tree (inr is) = inl is
 pub bodiless : (bytes : List ℕ) (tree : CTree) (renewed : Renewed) → IsRenewal bytes tree renewed → 0 < length bytes → renewed.old ≡ [] → IsNoRenewal (why.Out (kernels.Missing prelude_name)) bytes tree
 bodiless bytes tree renewed is some none = inr (record { some = some; none = is.read ∙ ap Ok none }, refl)
 
-pub unleft : (fault : KernelFault) (renewed : Renewed) (before : List ℕ) → (fault ≡ kernels.NoMemory) ⊎ IsLeftFault renewed before fault → IsNoLeft (no_left fault) renewed before
-unleft kernels.NoMemory renewed before is = tt
-unleft (kernels.BadMarker line) renewed before (inl e) = absurd cc
-unleft (kernels.BadMarker line) renewed before (inr is) = is
-unleft (kernels.Twice name) renewed before (inl e) = absurd cc
-unleft (kernels.Twice name) renewed before (inr is) = is
-unleft (kernels.Missing name) renewed before (inl e) = absurd cc
-unleft (kernels.Missing name) renewed before (inr is) = is
-unleft (kernels.Extra name) renewed before (inl e) = absurd cc
-unleft (kernels.Extra name) renewed before (inr is) = is
+pub unleft : (fault : KernelFault) (losing : Losing) (renewed : Renewed) (before : List ℕ) → (fault ≡ kernels.NoMemory) ⊎ IsLeftFault renewed before fault → IsNoLeft (no_left fault) losing renewed before
+unleft kernels.NoMemory losing renewed before is = tt
+unleft (kernels.BadMarker line) losing renewed before (inl e) = absurd cc
+unleft (kernels.BadMarker line) losing renewed before (inr is) = is
+unleft (kernels.Twice name) losing renewed before (inl e) = absurd cc
+unleft (kernels.Twice name) losing renewed before (inr is) = is
+unleft (kernels.Missing name) losing renewed before (inl e) = absurd cc
+unleft (kernels.Missing name) losing renewed before (inr is) = is
+unleft (kernels.Extra name) losing renewed before (inl e) = absurd cc
+unleft (kernels.Extra name) losing renewed before (inr is) = is
 
--- ---- counts of faults
+-- ---- what OUT gets
 
-rose_then : (a b c : ℕ) → a ≤ b → Rose b c → Rose a c
-rose_then a b c later rose = omega (arith, later, rose)
+pub long_text : (losing : Losing) (renewed : Renewed) (old : List ℕ) (tree : CTree) → IsRenewal old tree renewed → most_bytes < length renewed.text.items → (left : List ℕ) → IsReasonWith losing old left tree why.TooLong
+long_text losing renewed old tree is long left = inr (inl (renewed, is, long))
 
-twice_then : (a b c : ℕ) → a ≤ b → Rose (next_count b) c → Rose (next_count a) c
-twice_then a b c later rose = omega (arith, later, rose)
+pub losing_so : (losing : Losing) (old : List ℕ) (tree : CTree) (reason : Unrenewed) → IsLosing reason losing old → (left : List ℕ) → IsReasonWith losing old left tree reason
+losing_so losing old tree why.ReadFault is left = absurd is
+losing_so losing old tree why.NoFile is left = absurd is
+losing_so losing old tree why.Shared is left = absurd is
+losing_so losing old tree why.TooLong is left = absurd is
+losing_so losing old tree why.NoMemory is left = tt
+losing_so losing old tree (why.Indented line) is left = is
+losing_so losing old tree (why.Out fault) is left = absurd is
+losing_so losing old tree (why.Outside line) is left = is
+losing_so losing old tree (why.LeftIndented line) is left = absurd is
+losing_so losing old tree (why.Left fault) is left = absurd is
+losing_so losing old tree why.Busy is left = absurd is
+losing_so losing old tree why.Changed is left = absurd is
+losing_so losing old tree why.Olds is left = absurd is
+losing_so losing old tree why.WriteFault is left = absurd is
+losing_so losing old tree why.Halfway is left = absurd is
 
-pub rose_before : (a b c : ℕ) → Rose a b → b ≤ c → Rose a c
-rose_before a b c rose later = omega (arith, rose, later)
+-- ---- what OUT.left gets
 
--- ---- why a text isn't put
+pub gone_some : {A : Type 0} (list : List A) → 0 < length list → list ≢ []
+gone_some [] some e = omega (arith, some)
+gone_some (x ∷ xs) some e = true≢false (ap (λ (l : List _). is_more l) e) where
+  is_more : {A : Type 0} → List A → Bool
+  is_more [] = false
+  is_more (y ∷ ys) = true
 
-pub sooner : (reason : Unrenewed) (bytes out : List ℕ) (tree : CTree) (h0 h1 : Option (List File)) (a b c : ℕ) → h1 ≡ h0 → a ≤ b → IsReasonWith bytes reason out tree h1 b c → IsReasonWith bytes reason out tree h0 a c
-sooner reason bytes out tree h0 h1 a b c e later is = counted reason (subst (λ (h : Option (List File)). IsReasonWith bytes reason out tree h b c) e is) where
-  counted : (r : Unrenewed) → IsReasonWith bytes r out tree h0 b c → IsReasonWith bytes r out tree h0 a c
-  counted why.ReadFault it = rose_then a b c later it
-  counted why.TooLong it = it
-  counted why.NoMemory it = it
-  counted (why.Out fault) it = it
-  counted (why.Left fault) it = it
-  counted why.WriteFault it = rose_then a b c later it
-  counted why.Halfway it = twice_then a b c later it
+module _ (losing : Losing) (renewed : Renewed) (some : renewed.gone.items ≢ []) where
+  -- so it is of each old text that is renewed so
+  abbrev Each : List ℕ → Unrenewed → Type 0
+  Each left reason = (old : List ℕ) (tree : CTree) → IsRenewal old tree renewed → IsReasonWith losing old left tree reason
 
-pub put_reason : (fault : PutFault) (bytes out : List ℕ) (tree : CTree) (h : Option (List File)) (a b : ℕ) → HasFailed fault a b → IsReasonWith bytes (unput fault) out tree h a b
-put_reason put.NoMemory bytes out tree h a b is = tt
-put_reason put.WriteFault bytes out tree h a b is = is
-put_reason put.Halfway bytes out tree h a b is = is
+  pub left_unread : (reason : Unrenewed) (h : Option (List File)) (name left : List ℕ) (it : Bool) (a b : ℕ) → name ≡ left → IsNoContent reason name h a b
+      → IfSome h (λ files. IsThere left it files → Each (content_of files left) reason)
+  left_unread why.ReadFault None name left it a b e is = tt
+  left_unread why.ReadFault (Some files) name left it a b e is = λ there old tree r. tt
+  left_unread why.NoFile h name left it a b e is = absurd is
+  left_unread why.Shared h name left it a b e is = absurd is
+  left_unread why.TooLong None name left it a b e is = tt
+  left_unread why.TooLong (Some files) name left it a b e is = λ there old tree r. inr (inr (renewed, r, some, inl (subst (λ (n : List ℕ). most_bytes < length (content_of files n)) e is)))
+  left_unread why.NoMemory None name left it a b e is = tt
+  left_unread why.NoMemory (Some files) name left it a b e is = λ there old tree r. tt
+  left_unread (why.Indented line) h name left it a b e is = absurd is
+  left_unread (why.Out fault) h name left it a b e is = absurd is
+  left_unread (why.Outside line) h name left it a b e is = absurd is
+  left_unread (why.LeftIndented line) h name left it a b e is = absurd is
+  left_unread (why.Left fault) h name left it a b e is = absurd is
+  left_unread why.Busy h name left it a b e is = absurd is
+  left_unread why.Changed h name left it a b e is = absurd is
+  left_unread why.Olds h name left it a b e is = absurd is
+  left_unread why.WriteFault h name left it a b e is = absurd is
+  left_unread why.Halfway h name left it a b e is = absurd is
 
-on_left : (P Q : List ℕ → Type 0) (out : List ℕ) (h : Option (List File)) → ((left : List ℕ) → P left → Q left) → IfSome h (λ files. P (content_of files (left_name out))) → IfSome h (λ files. Q (content_of files (left_name out)))
-on_left P Q out None give is = tt
-on_left P Q out (Some files) give is = give _ is
+  no_left_so : (reason : Unrenewed) (left : List ℕ) → IsNoLeft reason losing renewed left → Each left reason
+  no_left_so why.ReadFault left is = absurd is
+  no_left_so why.NoFile left is = absurd is
+  no_left_so why.Shared left is = absurd is
+  no_left_so why.TooLong left is = λ old tree r. inr (inr (renewed, r, some, inr is))
+  no_left_so why.NoMemory left is = λ old tree r. tt
+  no_left_so (why.Indented line) left is = absurd is
+  no_left_so (why.Out fault) left is = absurd is
+  no_left_so (why.Outside line) left is = absurd is
+  no_left_so (why.LeftIndented line) left is = λ old tree r. (is.0, is.1, (renewed, r, some, tt))
+  no_left_so (why.Left fault) left is = λ old tree r. (renewed, r, some, is)
+  no_left_so why.Busy left is = absurd is
+  no_left_so why.Changed left is = absurd is
+  no_left_so why.Olds left is = absurd is
+  no_left_so why.WriteFault left is = absurd is
+  no_left_so why.Halfway left is = absurd is
 
-always_left : (P : List ℕ → Type 0) (out : List ℕ) (h : Option (List File)) → ((left : List ℕ) → P left) → IfSome h (λ files. P (content_of files (left_name out)))
-always_left P out None give = tt
-always_left P out (Some files) give = give _
+  pub left_unmade : (reason : Unrenewed) (h : Option (List File)) (name left bytes : List ℕ) (before : Option (List ℕ)) (it : Bool) → name ≡ left → IfSome h (λ files. IsThere name it files → before ≡ file_of files name)
+      → bytes ≡ unwrap_or before [] → IsNoLeft reason losing renewed bytes → IfSome h (λ files. IsThere left it files → Each (content_of files left) reason)
+  left_unmade reason None name left bytes before it e was are is = tt
+  left_unmade reason (Some files) name left bytes before it e was are is = λ there.
+      let was_there = subst (λ (n : List ℕ). IsThere n it files → before ≡ file_of files n) e was in
+      let content : bytes ≡ content_of files left = are ∙ ap (λ (o : Option (List ℕ)). unwrap_or o []) (was_there there) in
+      subst (λ (l : List ℕ). Each l reason) content (no_left_so reason bytes is)
 
-pub long_text : (renewed : Renewed) (bytes out : List ℕ) (tree : CTree) (h : Option (List File)) (a b : ℕ) → IsRenewal bytes tree renewed → most_bytes < length renewed.text.items → IsReasonWith bytes why.TooLong out tree h a b
-long_text renewed bytes out tree h a b is long = always_left (λ left. IsTooLong bytes left tree) out h (λ left. inr (inr (renewed, is, inl long)))
+-- ---- which reasons there can be
 
-pub left_unread : (reason : Unrenewed) (bytes out : List ℕ) (tree : CTree) (h : Option (List File)) (a b : ℕ) → IsNoContent reason (left_name out) h a b → IsReasonWith bytes reason out tree h a b
-left_unread why.ReadFault bytes out tree h a b is = is
-left_unread why.TooLong bytes out tree h a b is = on_left (λ left. most_bytes < length left) (λ left. IsTooLong bytes left tree) out h (λ left long. inr (inl long)) is
-left_unread why.NoMemory bytes out tree h a b is = tt
-left_unread (why.Out fault) bytes out tree h a b is = absurd is
-left_unread (why.Left fault) bytes out tree h a b is = absurd is
-left_unread why.WriteFault bytes out tree h a b is = absurd is
-left_unread why.Halfway bytes out tree h a b is = absurd is
+pub read_content : (reason : Unrenewed) (name : List ℕ) (h : Option (List File)) (a b : ℕ) → IsNoContent reason name h a b → IsRead reason a b
+read_content why.ReadFault name h a b is = is
+read_content why.NoFile name h a b is = absurd is
+read_content why.Shared name h a b is = absurd is
+read_content why.TooLong name h a b is = tt
+read_content why.NoMemory name h a b is = tt
+read_content (why.Indented line) name h a b is = absurd is
+read_content (why.Out fault) name h a b is = absurd is
+read_content (why.Outside line) name h a b is = absurd is
+read_content (why.LeftIndented line) name h a b is = absurd is
+read_content (why.Left fault) name h a b is = absurd is
+read_content why.Busy name h a b is = absurd is
+read_content why.Changed name h a b is = absurd is
+read_content why.Olds name h a b is = absurd is
+read_content why.WriteFault name h a b is = absurd is
+read_content why.Halfway name h a b is = absurd is
 
--- what was read of OUT.left is its content
-same_content : (before : Option (List ℕ)) (out : List ℕ) (h : Option (List File)) → IfSome h (λ files. before ≡ file_of files (left_name out)) → IfSome h (λ files. unwrap_or before [] ≡ content_of files (left_name out))
-same_content before out None is = tt
-same_content before out (Some files) is = ap (λ (o : Option (List ℕ)). unwrap_or o []) is
+pub read_made : (reason : Unrenewed) (losing : Losing) (bytes : List ℕ) (tree : CTree) (a b : ℕ) → ((left : List ℕ) → IsReasonWith losing bytes left tree reason) → (reason ≡ why.ReadFault → ⊥) → IsRead reason a b
+read_made why.ReadFault losing bytes tree a b is never = absurd (never refl)
+read_made why.NoFile losing bytes tree a b is never = absurd (is [])
+read_made why.Shared losing bytes tree a b is never = absurd (is [])
+read_made why.TooLong losing bytes tree a b is never = tt
+read_made why.NoMemory losing bytes tree a b is never = tt
+read_made (why.Indented line) losing bytes tree a b is never = tt
+read_made (why.Out fault) losing bytes tree a b is never = tt
+read_made (why.Outside line) losing bytes tree a b is never = tt
+read_made (why.LeftIndented line) losing bytes tree a b is never = tt
+read_made (why.Left fault) losing bytes tree a b is never = tt
+read_made why.Busy losing bytes tree a b is never = absurd (is [])
+read_made why.Changed losing bytes tree a b is never = absurd (is [])
+read_made why.Olds losing bytes tree a b is never = absurd (is [])
+read_made why.WriteFault losing bytes tree a b is never = absurd (is [])
+read_made why.Halfway losing bytes tree a b is never = absurd (is [])
 
-with_left : (P : List ℕ → Type 0) (before : Option (List ℕ)) (out : List ℕ) (h : Option (List File)) → IfSome h (λ files. before ≡ file_of files (left_name out)) → P (unwrap_or before []) → IfSome h (λ files. P (content_of files (left_name out)))
-with_left P before out None is p = tt
-with_left P before out (Some files) is p = subst P (same_content before out (Some files) is) p
+pub read_left : (reason : Unrenewed) (losing : Losing) (renewed : Renewed) (before : List ℕ) (a b : ℕ) → IsNoLeft reason losing renewed before → IsRead reason a b
+read_left why.ReadFault losing renewed before a b is = absurd is
+read_left why.NoFile losing renewed before a b is = absurd is
+read_left why.Shared losing renewed before a b is = absurd is
+read_left why.TooLong losing renewed before a b is = tt
+read_left why.NoMemory losing renewed before a b is = tt
+read_left (why.Indented line) losing renewed before a b is = absurd is
+read_left (why.Out fault) losing renewed before a b is = absurd is
+read_left (why.Outside line) losing renewed before a b is = absurd is
+read_left (why.LeftIndented line) losing renewed before a b is = tt
+read_left (why.Left fault) losing renewed before a b is = tt
+read_left why.Busy losing renewed before a b is = absurd is
+read_left why.Changed losing renewed before a b is = absurd is
+read_left why.Olds losing renewed before a b is = absurd is
+read_left why.WriteFault losing renewed before a b is = absurd is
+read_left why.Halfway losing renewed before a b is = absurd is
 
-pub left_unmade : (reason : Unrenewed) (renewed : Renewed) (before : Option (List ℕ)) (bytes out : List ℕ) (tree : CTree) (h : Option (List File)) (a b : ℕ) → IsRenewal bytes tree renewed → IfSome h (λ files. before ≡ file_of files (left_name out))
-    → IsNoLeft reason renewed (unwrap_or before []) → IsReasonWith bytes reason out tree h a b
-left_unmade why.ReadFault renewed before bytes out tree h a b is was cannot = absurd cannot
-left_unmade why.TooLong renewed before bytes out tree h a b is was cannot = with_left (λ left. IsTooLong bytes left tree) before out h was (inr (inr (renewed, is, inr cannot)))
-left_unmade why.NoMemory renewed before bytes out tree h a b is was cannot = tt
-left_unmade (why.Out fault) renewed before bytes out tree h a b is was cannot = absurd cannot
-left_unmade (why.Left fault) renewed before bytes out tree h a b is was cannot = with_left (λ left. (r : Renewed) × IsRenewal bytes tree r × IsLeftFault r left fault) before out h was (renewed, is, cannot)
-left_unmade why.WriteFault renewed before bytes out tree h a b is was cannot = absurd cannot
-left_unmade why.Halfway renewed before bytes out tree h a b is was cannot = absurd cannot
+pub read_sooner : (reason : Unrenewed) (a b c : ℕ) → a ≤ b → IsRead reason b c → IsRead reason a c
+read_sooner why.ReadFault a b c le is = omega (arith, le, is)
+read_sooner why.NoFile a b c le is = absurd is
+read_sooner why.Shared a b c le is = absurd is
+read_sooner why.TooLong a b c le is = tt
+read_sooner why.NoMemory a b c le is = tt
+read_sooner (why.Indented line) a b c le is = tt
+read_sooner (why.Out fault) a b c le is = tt
+read_sooner (why.Outside line) a b c le is = tt
+read_sooner (why.LeftIndented line) a b c le is = tt
+read_sooner (why.Left fault) a b c le is = tt
+read_sooner why.Busy a b c le is = absurd is
+read_sooner why.Changed a b c le is = absurd is
+read_sooner why.Olds a b c le is = absurd is
+read_sooner why.WriteFault a b c le is = absurd is
+read_sooner why.Halfway a b c le is = absurd is
 
--- ---- and why OUT isn't renewed
+-- ---- a plan that isn't made
 
-untold : (reason : Unrenewed) (bytes out : List ℕ) (tree : CTree) (a b : ℕ) → IsReasonWith bytes reason out tree None a b → IsReason reason out tree None a b
-untold why.ReadFault bytes out tree a b is = is
-untold why.TooLong bytes out tree a b is = tt
-untold why.NoMemory bytes out tree a b is = tt
-untold (why.Out fault) bytes out tree a b is = tt
-untold (why.Left fault) bytes out tree a b is = tt
-untold why.WriteFault bytes out tree a b is = is
-untold why.Halfway bytes out tree a b is = is
+-- OUT can't be read
+pub out_unread : (losing : Losing) (tree : CTree) (reason : Unrenewed) (h : Option (List File)) (name : List ℕ) (place : Place) (a b : ℕ) → name ≡ string_bytes place.out → IsNoContent reason name h a b
+    → IfSome h (λ files. Agrees place files → IsReasonWith losing (content_of files (string_bytes place.out)) (content_of files (string_bytes place.left)) tree reason)
+out_unread losing tree why.ReadFault None name place a b e is = tt
+out_unread losing tree why.ReadFault (Some files) name place a b e is = λ agrees. tt
+out_unread losing tree why.NoFile h name place a b e is = absurd is
+out_unread losing tree why.Shared h name place a b e is = absurd is
+out_unread losing tree why.TooLong None name place a b e is = tt
+out_unread losing tree why.TooLong (Some files) name place a b e is = λ agrees. inl (subst (λ (n : List ℕ). most_bytes < length (content_of files n)) e is)
+out_unread losing tree why.NoMemory None name place a b e is = tt
+out_unread losing tree why.NoMemory (Some files) name place a b e is = λ agrees. tt
+out_unread losing tree (why.Indented line) h name place a b e is = absurd is
+out_unread losing tree (why.Out fault) h name place a b e is = absurd is
+out_unread losing tree (why.Outside line) h name place a b e is = absurd is
+out_unread losing tree (why.LeftIndented line) h name place a b e is = absurd is
+out_unread losing tree (why.Left fault) h name place a b e is = absurd is
+out_unread losing tree why.Busy h name place a b e is = absurd is
+out_unread losing tree why.Changed h name place a b e is = absurd is
+out_unread losing tree why.Olds h name place a b e is = absurd is
+out_unread losing tree why.WriteFault h name place a b e is = absurd is
+out_unread losing tree why.Halfway h name place a b e is = absurd is
 
-pub reason_so : (reason : Unrenewed) (before : Option (List ℕ)) (out : List ℕ) (tree : CTree) (h : Option (List File)) (a b : ℕ) → IfSome h (λ files. before ≡ file_of files out) → IsReasonWith (unwrap_or before []) reason out tree h a b → IsReason reason out tree h a b
-reason_so reason before out tree None a b was is = untold reason (unwrap_or before []) out tree a b is
-reason_so reason before out tree (Some files) a b was is = subst (λ (o : Option (List ℕ)). IsReasonWith (unwrap_or o []) reason out tree (Some files) a b) was is
+-- what was read of OUT is its content
+out_content : (before : Option (List ℕ)) (name bytes : List ℕ) (place : Place) (files : List File) → name ≡ string_bytes place.out → (IsThere name place.is_out files → before ≡ file_of files name) → bytes ≡ unwrap_or before []
+    → Agrees place files → bytes ≡ content_of files (string_bytes place.out)
+out_content before name bytes place files e was are agrees =
+    let there = subst (λ (n : List ℕ). IsThere n place.is_out files → before ≡ file_of files n) e was in
+    are ∙ ap (λ (o : Option (List ℕ)). unwrap_or o []) (there agrees.out)
 
-pub out_unread : (reason : Unrenewed) (out : List ℕ) (tree : CTree) (h : Option (List File)) (a b : ℕ) → IsNoContent reason out h a b → IsReason reason out tree h a b
-out_unread why.ReadFault out tree None a b is = is
-out_unread why.ReadFault out tree (Some files) a b is = is
-out_unread why.TooLong out tree None a b is = tt
-out_unread why.TooLong out tree (Some files) a b is = inl is
-out_unread why.NoMemory out tree None a b is = tt
-out_unread why.NoMemory out tree (Some files) a b is = tt
-out_unread (why.Out fault) out tree h a b is = absurd is
-out_unread (why.Left fault) out tree h a b is = absurd is
-out_unread why.WriteFault out tree h a b is = absurd is
-out_unread why.Halfway out tree h a b is = absurd is
+-- its text can't be made
+pub out_unmade : (losing : Losing) (tree : CTree) (reason : Unrenewed) (h : Option (List File)) (name bytes : List ℕ) (before : Option (List ℕ)) (place : Place) → name ≡ string_bytes place.out
+    → IfSome h (λ files. IsThere name place.is_out files → before ≡ file_of files name) → bytes ≡ unwrap_or before [] → ((left : List ℕ) → IsReasonWith losing bytes left tree reason)
+    → IfSome h (λ files. Agrees place files → IsReasonWith losing (content_of files (string_bytes place.out)) (content_of files (string_bytes place.left)) tree reason)
+out_unmade losing tree reason None name bytes before place e was are is = tt
+out_unmade losing tree reason (Some files) name bytes before place e was are is = λ agrees.
+    subst (λ (t : List ℕ). IsReasonWith losing t (content_of files (string_bytes place.left)) tree reason) (out_content before name bytes place files e was are agrees) (is _)
 
-pub out_unmade : (reason : Unrenewed) (before : Option (List ℕ)) (out : List ℕ) (tree : CTree) (h : Option (List File)) (a b : ℕ) → IfSome h (λ files. before ≡ file_of files out) → IsNoRenewal reason (unwrap_or before []) tree → IsReason reason out tree h a b
-out_unmade reason before out tree h a b was cannot = reason_so reason before out tree h a b was (given reason cannot) where
-  given : (r : Unrenewed) → IsNoRenewal r (unwrap_or before []) tree → IsReasonWith (unwrap_or before []) r out tree h a b
-  given why.ReadFault it = absurd it
-  given why.TooLong it = absurd it
-  given why.NoMemory it = tt
-  given (why.Out fault) it = it
-  given (why.Left fault) it = absurd it
-  given why.WriteFault it = absurd it
-  given why.Halfway it = absurd it
+-- nor can OUT.left
+pub left_failed : (losing : Losing) (tree : CTree) (reason : Unrenewed) (h0 h1 : Option (List File)) (name bytes : List ℕ) (before : Option (List ℕ)) (place : Place) (renewed : Renewed) → h1 ≡ h0 → name ≡ string_bytes place.out
+    → IfSome h0 (λ files. IsThere name place.is_out files → before ≡ file_of files name) → bytes ≡ unwrap_or before [] → IsRenewal bytes tree renewed
+    → IfSome h1 (λ files. IsThere (string_bytes place.left) place.is_left files → (old : List ℕ) (t : CTree) → IsRenewal old t renewed → IsReasonWith losing old (content_of files (string_bytes place.left)) t reason)
+    → IfSome h0 (λ files. Agrees place files → IsReasonWith losing (content_of files (string_bytes place.out)) (content_of files (string_bytes place.left)) tree reason)
+left_failed losing tree reason None h1 name bytes before place renewed same e was are r is = tt
+left_failed losing tree reason (Some files) h1 name bytes before place renewed same e was are r is = λ agrees.
+    let given = subst (λ (h : Option (List File)). IfSome h (λ files. IsThere (string_bytes place.left) place.is_left files → (old : List ℕ) (t : CTree) → IsRenewal old t renewed → IsReasonWith losing old (content_of files (string_bytes place.left)) t reason)) same is in
+    subst (λ (t : List ℕ). IsReasonWith losing t (content_of files (string_bytes place.left)) tree reason) (out_content before name bytes place files e was are agrees) (given agrees.left bytes tree r)
 
--- ---- faults that were counted before
+-- ---- a plan that is made
 
-untold_sooner : (reason : Unrenewed) (a b c : ℕ) → a ≤ b → IsReasonUntold reason b c → IsReasonUntold reason a c
-untold_sooner why.ReadFault a b c later is = rose_then a b c later is
-untold_sooner why.TooLong a b c later is = tt
-untold_sooner why.NoMemory a b c later is = tt
-untold_sooner (why.Out fault) a b c later is = tt
-untold_sooner (why.Left fault) a b c later is = tt
-untold_sooner why.WriteFault a b c later is = rose_then a b c later is
-untold_sooner why.Halfway a b c later is = twice_then a b c later is
+pub plan_so : (tree : CTree) (bytes : List ℕ) (old : Option (List ℕ)) (made : Made) (behind : Option Behind) (plan : Plan) → bytes ≡ unwrap_or old [] → IsMade bytes tree made → LeavesAs made.renewed.gone.items made.renewed behind
+    → ((out : List ℕ) (t : CTree) → IsRenewal out t made.renewed → NothingLost out made.renewed.text.items (left_bytes behind)) → IsPutTogether old made behind plan → IsPlan tree plan
+plan_so tree bytes old made behind plan are is leaves lost of =
+    let was : bytes ≡ bytes_of (task_of plan.job).old = are ∙ ap bytes_of (sym of.was) in
+    let renewal = subst (λ (b : List ℕ). IsRenewal b tree made.renewed) was is.renewal in
+    record {
+      renewal = subst (λ (r : Renewed). IsRenewal (bytes_of (task_of plan.job).old) tree r) (sym of.renewed) renewal;
+      text = refl;
+      left = subst (λ (r : Renewed). LeavesAs r.gone.items r (task_of plan.job).behind) (sym of.renewed) (subst (λ (b : Option Behind). LeavesAs made.renewed.gone.items made.renewed b) (sym of.left) leaves);
+      lost = subst (λ (b : Option Behind). NothingLost (bytes_of (task_of plan.job).old) plan.job.text.items (left_bytes b)) (sym of.left)
+          (subst (λ (r : Renewed). NothingLost (bytes_of (task_of plan.job).old) r.text.items (left_bytes behind)) (sym of.renewed) (lost _ tree renewal));
+      lines = λ spared. subst SparesLines was (is.lines (sym of.lines ∙ spared));
+    }
 
-told_sooner : (reason : Unrenewed) (out : List ℕ) (tree : CTree) (h : Option (List File)) (a b c : ℕ) → a ≤ b → IsReason reason out tree h b c → IsReason reason out tree h a c
-told_sooner reason out tree None a b c later is = untold_sooner reason a b c later is
-told_sooner reason out tree (Some files) a b c later is = sooner reason (content_of files out) out tree (Some files) (Some files) a b c refl later is
+-- and it has what the folder tells
+pub told_so : (h0 h1 : Option (List File)) (name : List ℕ) (old : Option (List ℕ)) (made : Made) (behind : Option Behind) (place : Place) (plan : Plan) → h1 ≡ h0 → name ≡ string_bytes place.out
+    → IfSome h0 (λ files. IsThere name place.is_out files → old ≡ file_of files name)
+    → IfSome h1 (λ files. IsThere (string_bytes place.left) place.is_left files → WasBefore behind (file_of files (string_bytes place.left))) → IsPutTogether old made behind plan
+    → IfSome h0 (λ files. Agrees place files → WasTold (task_of plan.job) place files)
+told_so None h1 name old made behind place plan same e was before of = tt
+told_so (Some files) h1 name old made behind place plan same e was before of = λ agrees.
+    let there = subst (λ (n : List ℕ). IsThere n place.is_out files → old ≡ file_of files n) e was in
+    let left = subst (λ (h : Option (List File)). IfSome h (λ files. IsThere (string_bytes place.left) place.is_left files → WasBefore behind (file_of files (string_bytes place.left)))) same before in
+    record {
+      out = of.was ∙ there agrees.out;
+      left = subst (λ (b : Option Behind). WasBefore b (file_of files (string_bytes place.left))) (sym of.left) (left agrees.left);
+    }
 
-pub reason_sooner : (reason : Unrenewed) (out : List ℕ) (tree : CTree) (h0 h1 : Option (List File)) (a b c : ℕ) → h1 ≡ h0 → a ≤ b → IsReason reason out tree h1 b c → IsReason reason out tree h0 a c
-reason_sooner reason out tree h0 h1 a b c e later is = told_sooner reason out tree h0 a b c later (subst (λ (h : Option (List File)). IsReason reason out tree h b c) e is)
+-- ---- what is made of OUT
 
--- ---- from the calls' own names
+spared_outside : (bytes : List ℕ) (lines : Outside) → IsOutside bytes lines → is_line lines ≡ false → ((tree : CTree) × (bodies : Bodies) × Spells tree bodies bytes) ⊎ AreBlank bytes
+spared_outside bytes (outside.Text text) is none = inl (text.tree, text.bodies, is)
+spared_outside bytes outside.Blank is none = inr is
+spared_outside bytes (outside.Line line) is none = absurd (true≢false none)
 
-pub reason_then : {T : Type 0} (result : Result T Unrenewed) (before : Option (List ℕ)) (bytes out : List ℕ) (tree : CTree) (h0 h1 : Option (List File)) (a b c : ℕ) → h1 ≡ h0 → a ≤ b → IfSome h0 (λ files. before ≡ file_of files out)
-    → bytes ≡ unwrap_or before [] → IfErr result (λ reason. IsReasonWith bytes reason out tree h1 b c) → IfErr result (λ reason. IsReason reason out tree h0 a c)
-reason_then (Ok value) before bytes out tree h0 h1 a b c e later was are is = tt
-reason_then (Err reason) before bytes out tree h0 h1 a b c e later was are is =
-    reason_so reason before out tree h0 a c was (subst (λ (t : List ℕ). IsReasonWith t reason out tree h0 a c) are (sooner reason bytes out tree h0 h1 a b c e later is))
-
-pub left_unread_as : (reason : Unrenewed) (bytes out name : List ℕ) (tree : CTree) (h : Option (List File)) (a b : ℕ) → name ≡ left_name out → IsNoContent reason name h a b → IsReasonWith bytes reason out tree h a b
-left_unread_as reason bytes out name tree h a b named is = left_unread reason bytes out tree h a b (subst (λ (n : List ℕ). IsNoContent reason n h a b) named is)
-
-pub left_unmade_as : (reason : Unrenewed) (renewed : Renewed) (before : Option (List ℕ)) (bytes out name had : List ℕ) (tree : CTree) (h : Option (List File)) (a b : ℕ) → IsRenewal bytes tree renewed → name ≡ left_name out
-    → IfSome h (λ files. before ≡ file_of files name) → had ≡ unwrap_or before [] → IsNoLeft reason renewed had → IsReasonWith bytes reason out tree h a b
-left_unmade_as reason renewed before bytes out name had tree h a b is named was had_is cannot =
-    left_unmade reason renewed before bytes out tree h a b is (subst (λ (n : List ℕ). IfSome h (λ files. before ≡ file_of files n)) named was) (subst (λ (t : List ℕ). IsNoLeft reason renewed t) had_is cannot)
-
-pub put_reason_then : (fault : PutFault) (bytes out : List ℕ) (tree : CTree) (h0 h1 : Option (List File)) (a b c : ℕ) → h1 ≡ h0 → a ≤ b → HasFailed fault b c → IsReasonWith bytes (unput fault) out tree h0 a c
-put_reason_then fault bytes out tree h0 h1 a b c e later is = sooner (unput fault) bytes out tree h0 h1 a b c e later (put_reason fault bytes out tree h1 b c is)
+pub made_so : (bytes : List ℕ) (tree : CTree) (renewed : Renewed) (mark : Bool) (lines : Outside) (made : Made) → IsRenewal bytes tree renewed → IsMarked bytes mark → IsOutside bytes lines → made.renewed ≡ renewed
+    → IsTold mark lines made.is_losing → IsMade bytes tree made
+made_so bytes tree renewed mark lines made is marked out e told = record {
+  renewal = subst (λ (r : Renewed). IsRenewal bytes tree r) (sym e) is;
+  lines = λ spared. record { markers = marked (told.markers spared); outside = spared_outside bytes lines out (told.outside spared) };
+}

@@ -8,6 +8,10 @@ use Rattle.pb_renew_put.specs.declared.fault.PutFault.TheVariants as fault
 
 abbrev pub unput : PutFault → Unrenewed
 unput fault.NoMemory = why.NoMemory
+unput fault.Busy = why.Busy
+unput fault.Changed = why.Changed
+unput fault.Olds = why.Olds
+unput fault.ReadFault = why.ReadFault
 unput fault.WriteFault = why.WriteFault
 unput fault.Halfway = why.Halfway
 

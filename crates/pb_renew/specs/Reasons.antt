@@ -1,18 +1,21 @@
 -- When a text isn't renewed.
-use Rattle.std.specs.Prelude.{◌≡◌, ℕ, ◌<◌, ◌⊎◌, ⊤, List, [], Ok, Option, None, Some, IfSome, length}
-use Rattle.pb_io.specs.Faults.{Rose, next_count}
+use Rattle.std.specs.Prelude.{◌≡◌, ◌≢◌, ℕ, ◌<◌, ◌⊎◌, ⊤, List, [], Ok, Option, Some, IfSome, length}
+use Rattle.pb_io.specs.Faults.{Rose}
 use Rattle.pb_io.specs.Files.{File, content_of}
 use Rattle.pb_ctree.specs.declared.tree.CTree.{CTree}
 use Rattle.pb_kernels.specs.declared.fault.KernelFault.{KernelFault}
 use Rattle.pb_kernels.specs.declared.fault.KernelFault.TheVariants.{Missing}
-use Rattle.pb_kernels.specs.declared.file.NamedBody.{NamedBody}
 use Rattle.pb_kernels.specs.Files.{kernel_file}
 use Rattle.pb_kernels.specs.Marks.{prelude_name}
+use Rattle.pb_renew.specs.declared.losing.Losing.{Losing}
+use Rattle.pb_renew.specs.declared.losing.Losing.TheVariants.{Refused}
 use Rattle.pb_renew.specs.declared.unrenewed.Unrenewed.{Unrenewed}
-use Rattle.pb_renew.specs.declared.unrenewed.Unrenewed.TheVariants.{ReadFault, TooLong, NoMemory, Out, Left, WriteFault, Halfway}
+use Rattle.pb_renew.specs.declared.unrenewed.Unrenewed.TheVariants as why
+use Rattle.pb_renew_lines.specs.Lines.{first_indented}
+use Rattle.pb_renew_lines.specs.Outside.{IsOutside}
+use Rattle.pb_renew_lines.specs.declared.outside.Outside.TheVariants as outside
 use Rattle.pb_renew_merge.specs.declared.renewed.Renewed.{Renewed}
 use Rattle.pb_renew_merge.specs.Renewed.{IsLeft, IsLeftFault, IsRenewal, IsTextFault}
-use Rattle.pb_renew_put.specs.Names.{left_name}
 
 -- how many bytes OUT and OUT.left may have
 abbrev pub most_bytes : ℕ
@@ -25,61 +28,73 @@ pub record HasNoBody (bytes : List ℕ) : Type 0 where
 
 -- why an OUT with these bytes can't be renewed: it is no kernel file, or has no body at all
 abbrev pub IsOutFault : List ℕ → CTree → KernelFault → Type 0
-IsOutFault bytes tree fault = IsTextFault bytes tree fault ⊎ (HasNoBody bytes × (fault ≡ Missing prelude_name))
+IsOutFault old tree fault = IsTextFault old tree fault ⊎ (HasNoBody old × (fault ≡ Missing prelude_name))
 
--- why the bodies that are gone can't go to an OUT.left with these bytes, OUT having those
-abbrev pub IsBehindFault : List ℕ → List ℕ → CTree → KernelFault → Type 0
-IsBehindFault bytes left tree fault = (renewed : Renewed) × IsRenewal bytes tree renewed × IsLeftFault renewed left fault
+-- some bodies are gone in the text that renews it, and so it is with that text
+abbrev pub WhereGone : List ℕ → CTree → (Renewed → Type 0) → Type 0
+WhereGone old tree P = (renewed : Renewed) × IsRenewal old tree renewed × (renewed.gone.items ≢ []) × P renewed
 
--- OUT has more bytes than it may, or OUT.left has, or one of the two would have
+-- OUT has more bytes than it may, or would have; or a body is gone, and OUT.left has, or would have
 abbrev pub IsTooLong : List ℕ → List ℕ → CTree → Type 0
-IsTooLong bytes left tree =
-    (most_bytes < length bytes)
-    ⊎ (most_bytes < length left)
-    ⊎ ((renewed : Renewed) × IsRenewal bytes tree renewed × ((most_bytes < length renewed.text.items) ⊎ ((new : List ℕ) × IsLeft renewed left new × (most_bytes < length new))))
+IsTooLong old left tree =
+    (most_bytes < length old)
+    ⊎ ((renewed : Renewed) × IsRenewal old tree renewed × (most_bytes < length renewed.text.items))
+    ⊎ WhereGone old tree (λ renewed. (most_bytes < length left) ⊎ ((new : List ℕ) × IsLeft renewed left new × (most_bytes < length new)))
 
--- why a file's bytes aren't there: the store couldn't read it, or they are too many
+-- why a file's bytes aren't there: the folder couldn't read it, or they are too many
 abbrev pub IsNoContent : Unrenewed → List ℕ → Option (List File) → ℕ → ℕ → Type 0
-IsNoContent ReadFault name holds before now = Rose before now
-IsNoContent TooLong name holds before now = IfSome holds (λ files. most_bytes < length (content_of files name))
-IsNoContent NoMemory name holds before now = ⊤
+IsNoContent why.ReadFault name holds before now = Rose before now
+IsNoContent why.TooLong name holds before now = IfSome holds (λ files. most_bytes < length (content_of files name))
+IsNoContent why.NoMemory name holds before now = ⊤
 IsNoContent other name holds before now = ⊥
 
 -- why there is no new text for an OUT with these bytes
 abbrev pub IsNoRenewal : Unrenewed → List ℕ → CTree → Type 0
-IsNoRenewal NoMemory bytes tree = ⊤
-IsNoRenewal (Out fault) bytes tree = IsOutFault bytes tree fault
-IsNoRenewal other bytes tree = ⊥
+IsNoRenewal why.NoMemory old tree = ⊤
+IsNoRenewal (why.Out fault) old tree = IsOutFault old tree fault
+IsNoRenewal other old tree = ⊥
 
 -- why there are no new bytes for an OUT.left with these
-abbrev pub IsNoLeft : Unrenewed → Renewed → List ℕ → Type 0
-IsNoLeft TooLong renewed before = (new : List ℕ) × IsLeft renewed before new × (most_bytes < length new)
-IsNoLeft NoMemory renewed before = ⊤
-IsNoLeft (Left fault) renewed before = IsLeftFault renewed before fault
-IsNoLeft other renewed before = ⊥
+abbrev pub IsNoLeft : Unrenewed → Losing → Renewed → List ℕ → Type 0
+IsNoLeft why.TooLong losing renewed left = (new : List ℕ) × IsLeft renewed left new × (most_bytes < length new)
+IsNoLeft why.NoMemory losing renewed left = ⊤
+IsNoLeft (why.LeftIndented line) losing renewed left = (losing ≡ Refused) × (first_indented left ≡ Some line)
+IsNoLeft (why.Left fault) losing renewed left = IsLeftFault renewed left fault
+IsNoLeft other losing renewed left = ⊥
 
--- of a store that tells its files: so it is with the bytes of OUT.left
-abbrev pub OnLeft : List ℕ → Option (List File) → (List ℕ → Type 0) → Type 0
-OnLeft out holds P = IfSome holds (λ files. P (content_of files (left_name out)))
+-- why lines of an OUT with these bytes would be lost
+abbrev pub IsLosing : Unrenewed → Losing → List ℕ → Type 0
+IsLosing why.NoMemory losing old = ⊤
+IsLosing (why.Indented line) losing old = (losing ≡ Refused) × (first_indented old ≡ Some line)
+IsLosing (why.Outside line) losing old = (losing ≡ Refused) × IsOutside old (outside.Line line)
+IsLosing other losing old = ⊥
 
--- why the text of a tree isn't put into an OUT with these bytes: of the store's faults so many were counted before and then
-abbrev pub IsReasonWith : List ℕ → Unrenewed → List ℕ → CTree → Option (List File) → ℕ → ℕ → Type 0
-IsReasonWith bytes ReadFault out tree holds before now = Rose before now
-IsReasonWith bytes TooLong out tree holds before now = OnLeft out holds (λ left. IsTooLong bytes left tree)
-IsReasonWith bytes NoMemory out tree holds before now = ⊤
-IsReasonWith bytes (Out fault) out tree holds before now = IsOutFault bytes tree fault
-IsReasonWith bytes (Left fault) out tree holds before now = OnLeft out holds (λ left. IsBehindFault bytes left tree fault)
-IsReasonWith bytes WriteFault out tree holds before now = Rose before now
-IsReasonWith bytes Halfway out tree holds before now = Rose (next_count before) now
+-- why the text of a tree can't be put in the place of an OUT with these bytes, beside an OUT.left with those
+abbrev pub IsReasonWith : Losing → List ℕ → List ℕ → CTree → Unrenewed → Type 0
+IsReasonWith losing old left tree why.ReadFault = ⊤
+IsReasonWith losing old left tree why.TooLong = IsTooLong old left tree
+IsReasonWith losing old left tree why.NoMemory = ⊤
+IsReasonWith losing old left tree (why.Indented line) = (losing ≡ Refused) × (first_indented old ≡ Some line)
+IsReasonWith losing old left tree (why.Out fault) = IsOutFault old tree fault
+IsReasonWith losing old left tree (why.Outside line) = (losing ≡ Refused) × IsOutside old (outside.Line line)
+IsReasonWith losing old left tree (why.LeftIndented line) = (losing ≡ Refused) × (first_indented left ≡ Some line) × WhereGone old tree (λ renewed. ⊤)
+IsReasonWith losing old left tree (why.Left fault) = WhereGone old tree (λ renewed. IsLeftFault renewed left fault)
+IsReasonWith losing old left tree other = ⊥
 
--- where a store doesn't tell its files, its faults alone are known
-abbrev pub IsReasonUntold : Unrenewed → ℕ → ℕ → Type 0
-IsReasonUntold ReadFault before now = Rose before now
-IsReasonUntold WriteFault before now = Rose before now
-IsReasonUntold Halfway before now = Rose (next_count before) now
-IsReasonUntold other before now = ⊤
-
--- why the text of a tree isn't put into OUT
-abbrev pub IsReason : Unrenewed → List ℕ → CTree → Option (List File) → ℕ → ℕ → Type 0
-IsReason why out tree None before now = IsReasonUntold why before now
-IsReason why out tree (Some files) before now = IsReasonWith (content_of files out) why out tree (Some files) before now
+-- a plan isn't made for one of these reasons: the folder is at fault only where its count of faults rose, and no store is asked
+abbrev pub IsRead : Unrenewed → ℕ → ℕ → Type 0
+IsRead why.ReadFault before now = Rose before now
+IsRead why.NoFile before now = ⊥
+IsRead why.Shared before now = ⊥
+IsRead why.TooLong before now = ⊤
+IsRead why.NoMemory before now = ⊤
+IsRead (why.Indented line) before now = ⊤
+IsRead (why.Out fault) before now = ⊤
+IsRead (why.Outside line) before now = ⊤
+IsRead (why.LeftIndented line) before now = ⊤
+IsRead (why.Left fault) before now = ⊤
+IsRead why.Busy before now = ⊥
+IsRead why.Changed before now = ⊥
+IsRead why.Olds before now = ⊥
+IsRead why.WriteFault before now = ⊥
+IsRead why.Halfway before now = ⊥

@@ -1,42 +1,47 @@
--- What renewing a text leaves in OUT and in OUT.left.
-use Rattle.std.specs.Prelude.{◌≡◌, ℕ, List, [], ◌++◌, Ok, Option, unwrap_or}
-use Rattle.pb_io.specs.Files.{File, content_of}
+-- What renewing a text leaves of OUT and of the files beside it.
+use Rattle.std.specs.Prelude.{◌≡◌, ◌⊎◌, ℕ, List, [], ◌∷◌, Option, None, Some, IsSome, ⊤}
+use Rattle.pb_io.specs.Files.{File, content_of, file_of}
 use Rattle.pb_ctree.specs.declared.tree.CTree.{CTree}
-use Rattle.pb_kernels.specs.declared.file.NamedBody.{NamedBody}
-use Rattle.pb_kernels.specs.Files.{kernel_file}
-use Rattle.pb_renew.specs.declared.unrenewed.Unrenewed.{Unrenewed}
-use Rattle.pb_renew.specs.declared.unrenewed.Unrenewed.TheVariants.{Halfway}
+use Rattle.pb_ctree.specs.declared.kernel.KName.{KName}
+use Rattle.pb_renew.specs.Plans.{Fits, SparesLines}
 use Rattle.pb_renew_merge.specs.declared.renewed.Renewed.{Renewed}
 use Rattle.pb_renew_merge.specs.Lost.{NothingLost}
-use Rattle.pb_renew_merge.specs.Renewed.{IsRenewal}
-use Rattle.pb_renew_merge.specs.Texts.{IsRenewed}
-use Rattle.pb_renew_put.specs.Names.{left_name}
+use Rattle.pb_renew_merge.specs.Renewed.{IsLeft, IsRenewal}
+use Rattle.pb_renew_put.specs.Jobs.{Task}
+use Rattle.pb_renew_put.specs.Names.{left_name, new_name, spare_name}
+use Rattle.pb_renew_put.specs.Puts.{KeepsOld, Puts}
 use Rattle.pb_renew_store.specs.Changes.{KeepsFile}
 
--- these are the first bytes
-pub record BeginsWith (front bytes : List ℕ) : Type 0 where
-  pub rest : List ℕ
-  pub are : bytes ≡ front ++ rest
+-- OUT.left has the bodies that are gone behind what it had, and there is no new one; where none is gone both are as before
+pub record Grows (renewed : Renewed) (out : List ℕ) (old new : List File) : Type 0 where
+  pub there : IsSome (file_of new (left_name out))
+  pub bytes : IsLeft renewed (content_of old (left_name out)) (content_of new (left_name out))
+  pub spare : file_of new (spare_name out) ≡ None
 
--- OUT was a kernel file, of no body where it was missing, and is the text of the tree with its bodies; each of them stands with
--- its name, byte for byte, in OUT or in OUT.left; and what OUT.left had stands in front there
+pub record Stays (out : List ℕ) (old new : List File) : Type 0 where
+  pub left : KeepsFile (left_name out) old new
+  pub spare : KeepsFile (spare_name out) old new
+
+abbrev pub GrowsBy : List KName → Renewed → List ℕ → List File → List File → Type 0
+GrowsBy [] renewed out old new = Stays out old new
+GrowsBy (name ∷ names) renewed out old new = Grows renewed out old new
+
+-- no line of the old OUT is lost; or it stands whole under a name that no file had
+abbrev pub KeepsLines : Option (List ℕ) → List ℕ → List File → List File → Type 0
+KeepsLines None out old new = ⊤
+KeepsLines (Some bytes) out old new = SparesLines bytes ⊎ KeepsOld out (Some bytes) old new
+
+-- OUT has the text that renews the bytes that it had; each of its old bodies stands there, byte for byte, or in OUT.left; and
+-- nothing is left of a new one
 pub record Renews (out : List ℕ) (tree : CTree) (old new : List File) : Type 0 where
-  pub list : List NamedBody
-  pub read : kernel_file (content_of old out) ≡ Ok list
-  pub text : IsRenewed list tree (content_of new out)
-  pub kept : NothingLost (content_of old out) (content_of new out) (content_of new (left_name out))
-  pub left : BeginsWith (content_of old (left_name out)) (content_of new (left_name out))
-
--- the same, of an OUT that becomes this
-abbrev pub Becomes : List ℕ → CTree → Renewed → List File → List File → Type 0
-Becomes out tree renewed old new = IsRenewal (content_of old out) tree renewed → Renews out tree old new
-
--- OUT.left is as it was; halfway what it had stands in front of what it has
-abbrev pub IsLeftSo : Unrenewed → List ℕ → List File → List File → Type 0
-IsLeftSo Halfway out old new = BeginsWith (content_of old (left_name out)) (content_of new (left_name out))
-IsLeftSo other out old new = KeepsFile (left_name out) old new
-
--- OUT is as it was, and OUT.left, too, but for what may be halfway
-pub record Refuses (why : Unrenewed) (out : List ℕ) (old new : List File) : Type 0 where
-  pub text : KeepsFile out old new
-  pub left : IsLeftSo why out old new
+  pub task : Task
+  pub renewed : Renewed
+  pub at : task.out ≡ out
+  pub fits : Fits tree renewed task
+  pub puts : Puts task old new
+  pub renewal : IsRenewal (content_of old out) tree renewed
+  pub text : file_of new out ≡ Some renewed.text.items
+  pub lost : NothingLost (content_of old out) (content_of new out) (content_of new (left_name out))
+  pub left : GrowsBy renewed.gone.items renewed out old new
+  pub lines : KeepsLines (file_of old out) out old new
+  pub fresh : file_of new (new_name out) ≡ None

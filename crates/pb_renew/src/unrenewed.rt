@@ -8,21 +8,45 @@ use thiserror::Error;
 /// Why a text wasn't renewed. OUT and OUT.left are as they were, but for `Halfway`.
 #[derive(Clone, Copy, Debug, PartialEq, Eq, Error)]
 pub enum Unrenewed {
-    /// OUT or OUT.left can't be read.
+    /// FILE, OUT or OUT.left can't be read.
     #[error("ReadFault")]
     ReadFault,
+    /// OUT or OUT.left is there and is no regular file; or OUT.left is a link.
+    #[error("NoFile")]
+    NoFile,
+    /// OUT or OUT.left has another name, which renewing would part from it.
+    #[error("Shared")]
+    Shared,
     /// OUT or OUT.left has more than 67,108,864 bytes, or would have.
     #[error("TooLong")]
     TooLong,
     /// Memory ran out.
     #[error("NoMemory")]
     NoMemory,
+    /// This line of OUT begins with blanks and `/*@`.
+    #[error("Indented")]
+    Indented(u32),
     /// OUT is no kernel file, or has bytes and no body: then the prelude is `Missing`.
     #[error("Out")]
     Out(KernelFault),
+    /// This line of OUT stands outside of bodies and would be lost.
+    #[error("Outside")]
+    Outside(u32),
+    /// This line of OUT.left begins with blanks and `/*@`.
+    #[error("LeftIndented")]
+    LeftIndented(u32),
     /// OUT.left is no kernel file, or has another body with the name of one that is gone.
     #[error("Left")]
     Left(KernelFault),
+    /// OUT.new or OUT.left.new is there: another call is at work, or was ended, or it is somebody's own file.
+    #[error("Busy")]
+    Busy,
+    /// FILE, OUT or OUT.left has changed meanwhile.
+    #[error("Changed")]
+    Changed,
+    /// OUT.old is there, and OUT.old.2, and so on up to OUT.old.9999.
+    #[error("Olds")]
+    Olds,
     /// A file can't be written.
     #[error("WriteFault")]
     WriteFault,
@@ -64,11 +88,15 @@ impl Unrenewed {
     }
 
     /// Files that couldn't be put.
-    pub(crate) fn unput(fault: PutFault) -> Unrenewed
+    pub fn unput(fault: PutFault) -> Unrenewed
         ensures { result ≡ unput fault }
     {
         match fault {
             PutFault::NoMemory => Unrenewed::NoMemory,
+            PutFault::Busy => Unrenewed::Busy,
+            PutFault::Changed => Unrenewed::Changed,
+            PutFault::Olds => Unrenewed::Olds,
+            PutFault::ReadFault => Unrenewed::ReadFault,
             PutFault::WriteFault => Unrenewed::WriteFault,
             PutFault::Halfway => Unrenewed::Halfway,
         }

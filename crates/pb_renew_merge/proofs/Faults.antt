@@ -8,8 +8,8 @@ use Rattle.pb_kernels.specs.declared.file.NamedBody.{NamedBody}
 use Rattle.pb_kernels.specs.Files.{kernel_file}
 use Rattle.pb_renew_merge.specs.declared.renewed.Renewed.{Renewed}
 use Rattle.pb_renew_merge.specs.Left.{left_text}
-use Rattle.pb_renew_merge.specs.Lost.{first_lost}
-use Rattle.pb_renew_merge.specs.Renewed.{HasAnother, IsLeft, IsLeftFault, IsTextFault}
+use Rattle.pb_renew_merge.specs.Lost.{first_misplaced}
+use Rattle.pb_renew_merge.specs.Renewed.{HasAnother, IsLeftFault, IsTextFault}
 use Rattle.pb_renew_merge.specs.Texts.{IsRenewed}
 use Rattle.pb_renew_merge.proofs.Losses.{is_left}
 
@@ -33,8 +33,8 @@ another renewed before list fault read (inr is) = inr (inr (inl (list, read, is)
 pub not_made : (renewed : Renewed) (before left : List ℕ) (list : List NamedBody) (fault : KernelFault) → kernel_file before ≡ Ok list → left ≡ left_text before list renewed.old renewed.gone.items
     → (fault ≡ faults.NoMemory) ⊎ (kernel_file left ≡ Err fault) → (fault ≡ faults.NoMemory) ⊎ IsLeftFault renewed before fault
 not_made renewed before left list fault read bytes (inl e) = inl e
-not_made renewed before left list fault read bytes (inr e) = inr (inr (inr (left, is_left renewed list before left read bytes, inl e)))
+not_made renewed before left list fault read bytes (inr e) = inr (inr (inr (list, left, read, is_left renewed list before left read bytes, inl e)))
 
 pub not_found : (renewed : Renewed) (before left : List ℕ) (list again : List NamedBody) (name : KName) → kernel_file before ≡ Ok list → left ≡ left_text before list renewed.old renewed.gone.items
-    → kernel_file left ≡ Ok again → first_lost renewed.old renewed.kept again ≡ Some name → (faults.Missing name ≡ faults.NoMemory) ⊎ IsLeftFault renewed before (faults.Missing name)
-not_found renewed before left list again name read bytes found lost = inr (inr (inr (left, is_left renewed list before left read bytes, inr (again, name, found, lost, refl))))
+    → kernel_file left ≡ Ok again → first_misplaced renewed.old renewed.kept list again ≡ Some name → (faults.Missing name ≡ faults.NoMemory) ⊎ IsLeftFault renewed before (faults.Missing name)
+not_found renewed before left list again name read bytes found lost = inr (inr (inr (list, left, read, is_left renewed list before left read bytes, inr (again, name, found, lost, refl))))

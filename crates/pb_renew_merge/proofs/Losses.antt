@@ -11,7 +11,7 @@ use Rattle.pb_kernels.specs.Files.{kernel_file}
 use Rattle.pb_kernels.specs.Names.{body_of, is_among, names_of, same_name}
 use Rattle.pb_kernels.proofs.Keys.{name_decides}
 use Rattle.pb_renew_merge.specs.declared.renewed.Renewed.{Renewed}
-use Rattle.pb_renew_merge.specs.Lost.{Keeps, NothingLost, first_lost, is_kept, keeps, lost_names}
+use Rattle.pb_renew_merge.specs.Lost.{Keeps, NothingLost, first_lost, first_misplaced, is_kept, keeps, or_next}
 use Rattle.pb_renew_merge.specs.Left.{left_text}
 use Rattle.pb_renew_merge.specs.Renewed.{IsLeft, IsRenewal}
 
@@ -68,15 +68,42 @@ kept_in : (name : KName) (body text left : List ℕ) (now list : List NamedBody)
 kept_in name body text left now list again read (inl e) = inl (kept_so name body text now again e)
 kept_in name body text left now list again read (inr e) = inr (kept_so name body left list read e)
 
+-- where each body of one file is found in one of two others, nothing is lost
+none_lost : (old text left : List ℕ) (from now list : List NamedBody) → kernel_file old ≡ Ok from → kernel_file text ≡ Ok now → kernel_file left ≡ Ok list
+    → first_lost from now list ≡ None → NothingLost old text left
+none_lost old text left from now list read_old read_text read_left none = λ of_old read name among.
+    let same = read_so old of_old from read read_old in
+    let there : is_among name from ≡ true = subst (λ (l : List NamedBody). is_among name l ≡ true) same among in
+    let kept = kept_each (λ n. is_kept n from now list) from name none there in
+    subst (λ (l : List NamedBody). Keeps name (body_of name l) text ⊎ Keeps name (body_of name l) left) (sym same)
+    (kept_in name (body_of name from) text left now list read_text read_left (either _ _ kept))
+
+neither : (a b : Option KName) → or_next a b ≡ None → (a ≡ None) × (b ≡ None)
+neither None b e = (refl, e)
+neither (Some name) b e = absurd (true≢false (ap is_some e))
+
 -- where each old body is found in one of the two, nothing is lost
-pub nothing_lost : (renewed : Renewed) (list : List NamedBody) (left : List ℕ) → kernel_file left ≡ Ok list → first_lost renewed.old renewed.kept list ≡ None
+pub nothing_lost : (renewed : Renewed) (list again : List NamedBody) (left : List ℕ) → kernel_file left ≡ Ok again → first_misplaced renewed.old renewed.kept list again ≡ None
     → (out : List ℕ) (tree : CTree) → IsRenewal out tree renewed → NothingLost out renewed.text.items left
-nothing_lost renewed list left read none out tree is = λ old of_out name among.
-    let same = read_so out old renewed.old of_out is.read in
-    let there : is_among name renewed.old ≡ true = subst (λ (l : List NamedBody). is_among name l ≡ true) same among in
-    let kept = kept_each (λ n. is_kept n renewed.old renewed.kept list) renewed.old name none there in
-    subst (λ (l : List NamedBody). Keeps name (body_of name l) renewed.text.items ⊎ Keeps name (body_of name l) left) (sym same)
-    (kept_in name (body_of name renewed.old) renewed.text.items left renewed.kept list is.again read (either _ _ kept))
+nothing_lost renewed list again left read none out tree is =
+    none_lost out renewed.text.items left renewed.old renewed.kept again is.read is.again read (neither _ _ none).0
+
+once : (name : KName) (body left : List ℕ) → Keeps name body left ⊎ Keeps name body left → Keeps name body left ⊎ Keeps name body []
+once name body left (inl k) = inl k
+once name body left (inr k) = inl k
+
+-- where each body that was there before is found again, none of them is lost
+pub all_kept : (renewed : Renewed) (list again : List NamedBody) (before left : List ℕ) → kernel_file before ≡ Ok list → kernel_file left ≡ Ok again
+    → first_misplaced renewed.old renewed.kept list again ≡ None → NothingLost before left []
+all_kept renewed list again before left read made none = λ of_before is name among.
+    once name (body_of name of_before) left (none_lost before left left list again again read made made (neither _ _ (neither _ _ none).1).0 of_before is name among)
+
+-- where each body that was made is one that was there before or an old one, no other comes
+pub none_added : (renewed : Renewed) (list again : List NamedBody) (before left : List ℕ) → kernel_file before ≡ Ok list → kernel_file left ≡ Ok again
+    → first_misplaced renewed.old renewed.kept list again ≡ None
+    → (out : List ℕ) (tree : CTree) → IsRenewal out tree renewed → NothingLost left before out
+none_added renewed list again before left read made none out tree is =
+    none_lost left before out again list renewed.old made read is.read (neither _ _ (neither _ _ none).1).1
 
 -- where the new text lacks none, nothing is lost, whatever was left
 pub nothing_gone : (renewed : Renewed) (left : List ℕ) → renewed.gone.items ≡ []

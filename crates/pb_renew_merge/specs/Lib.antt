@@ -1,4 +1,6 @@
+pub mod Defaults
 pub mod Left
 pub mod Lost
+pub mod Payloads
 pub mod Renewed
 pub mod Texts

@@ -1,5 +1,5 @@
 -- Whether bodies of a kernel file stand in others, with their names and byte for byte.
-use Rattle.std.specs.Prelude.{◌≡◌, ◌⊎◌, ℕ, Bool, true, not, ◌&&◌, ◌||◌, List, [], ◌∷◌, Option, Ok, find, nat_eq, if◌then◌else◌}
+use Rattle.std.specs.Prelude.{◌≡◌, ◌⊎◌, ℕ, Bool, true, not, ◌&&◌, ◌||◌, List, [], ◌∷◌, Option, None, Some, Ok, find, nat_eq, if◌then◌else◌}
 use Rattle.std.specs.Cmp.Lexicographic.{pointwise}
 use Rattle.std.specs.List.{filter}
 use Rattle.pb_ctree.specs.declared.kernel.KName.{KName}
@@ -26,6 +26,17 @@ lost_names old other = filter (λ name. not (keeps name (body_of name old) other
 -- the first name of an old body that neither of two lists keeps
 abbrev pub first_lost : List NamedBody → List NamedBody → List NamedBody → Option KName
 first_lost old text left = find (λ name. not (is_kept name old text left)) (names_of old)
+
+abbrev pub or_next : Option KName → Option KName → Option KName
+or_next (Some name) next = Some name
+or_next None next = next
+
+-- the name of the first body that isn't where it should be, where a list was made of another one and bodies of an old text: an old one
+-- that neither the new text nor the list keeps, one that the other list had and this one doesn't keep, or one of this list that
+-- neither that one had nor the old text
+abbrev pub first_misplaced : List NamedBody → List NamedBody → List NamedBody → List NamedBody → Option KName
+first_misplaced old text before made =
+    or_next (first_lost old text made) (or_next (first_lost before made made) (first_lost made before old))
 
 -- the bytes are a kernel file with a body of this name and these bytes
 pub record Keeps (name : KName) (body bytes : List ℕ) : Type 0 where

@@ -1,20 +1,14 @@
 -- What the bodies of an old text become in the text of another tree.
-use Rattle.std.specs.Prelude.{◌≡◌, ◌⊎◌, ℕ, List, ◌++◌, map, Some, Ok, Err, if◌then◌else◌}
-use Rattle.pb_local.specs.Tree.{program_of}
-use Rattle.pb_ctree.specs.Functions.{default_of, functions_of}
-use Rattle.pb_ctree.specs.Texts.{Spells}
-use Rattle.pb_ctree.specs.declared.body.Bodies.{Bodies}
+use Rattle.std.specs.Prelude.{◌≡◌, ◌⊎◌, ℕ, List, Some, Ok, Err}
 use Rattle.pb_ctree.specs.declared.kernel.KName.{KName}
 use Rattle.pb_ctree.specs.declared.tree.CTree.{CTree}
 use Rattle.pb_kernels.specs.declared.fault.KernelFault.{KernelFault}
 use Rattle.pb_kernels.specs.declared.fault.KernelFault.TheVariants.{Missing, Twice}
 use Rattle.pb_kernels.specs.declared.file.NamedBody.{NamedBody}
 use Rattle.pb_kernels.specs.Files.{kernel_file}
-use Rattle.pb_kernels.specs.Marks.{prelude_name}
-use Rattle.pb_kernels.specs.Names.{body_of, is_among}
 use Rattle.pb_renew_merge.specs.declared.renewed.Renewed.{Renewed}
 use Rattle.pb_renew_merge.specs.Left.{first_twice, left_text}
-use Rattle.pb_renew_merge.specs.Lost.{first_lost, lost_names}
+use Rattle.pb_renew_merge.specs.Lost.{first_misplaced, lost_names}
 use Rattle.pb_renew_merge.specs.Texts.{IsRenewed}
 
 -- The old text is a kernel file with the old bodies; the new text has those that still have a function; what it keeps of them
@@ -42,15 +36,15 @@ IsTextFault out tree fault =
 abbrev pub HasAnother : List NamedBody → List NamedBody → List KName → KernelFault → Type 0
 HasAnother list old gone fault = (name : KName) × (first_twice list old gone ≡ Some name) × (fault ≡ Twice name)
 
--- bytes that were made are no kernel file, or lack a body that is gone
-abbrev pub IsUnfound : Renewed → List ℕ → KernelFault → Type 0
-IsUnfound renewed left fault =
+-- bytes that were made behind those of a kernel file with this list are no kernel file, or a body isn't where it should be
+abbrev pub IsUnfound : Renewed → List NamedBody → List ℕ → KernelFault → Type 0
+IsUnfound renewed list left fault =
     (kernel_file left ≡ Err fault)
-    ⊎ ((list : List NamedBody) × (name : KName) × (kernel_file left ≡ Ok list) × (first_lost renewed.old renewed.kept list ≡ Some name) × (fault ≡ Missing name))
+    ⊎ ((made : List NamedBody) × (name : KName) × (kernel_file left ≡ Ok made) × (first_misplaced renewed.old renewed.kept list made ≡ Some name) × (fault ≡ Missing name))
 
 -- the bytes are no kernel file, or have another body of a name, or no body can be put behind them
 abbrev pub IsLeftFault : Renewed → List ℕ → KernelFault → Type 0
 IsLeftFault renewed before fault =
     (kernel_file before ≡ Err fault)
     ⊎ ((list : List NamedBody) × (kernel_file before ≡ Ok list) × HasAnother list renewed.old renewed.gone.items fault)
-    ⊎ ((left : List ℕ) × IsLeft renewed before left × IsUnfound renewed left fault)
+    ⊎ ((list : List NamedBody) × (left : List ℕ) × (kernel_file before ≡ Ok list) × IsLeft renewed before left × IsUnfound renewed list left fault)

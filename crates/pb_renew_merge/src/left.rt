@@ -1,6 +1,6 @@
 //! A kernel file with more bodies behind its own.
 
-ghost use Rattle.std.specs.Prelude.{◌≡◌, ◌⊎◌, ◌++◌, ℕ, List, IfErr, IfOk, OnOk};
+ghost use Rattle.std.specs.Prelude.{◌≡◌, ◌⊎◌, ◌++◌, ℕ, List, [], IfErr, IfOk, OnOk};
 ghost use Rattle.std.specs.List.{flat_map};
 ghost use Rattle.pb_ctree.specs.declared.tree.CTree.{CTree};
 ghost use Rattle.pb_kernels.specs.declared.fault.KernelFault.TheVariants as faults;
@@ -8,7 +8,7 @@ ghost use Rattle.pb_renew_merge.specs.Left.{first_twice, left_text, line_end, te
 ghost use Rattle.pb_renew_merge.specs.Lost.{NothingLost};
 ghost use Rattle.pb_renew_merge.specs.Renewed.{HasAnother, IsLeft, IsLeftFault, IsRenewal};
 
-use crate::lost::{first_lost, keeps};
+use crate::lost::{first_misplaced, keeps};
 use crate::marker::push_body;
 use crate::renewed::Renewed;
 use pb_kernels::{KName, KernelFault, KernelFile, NoMemory, read_kernels};
@@ -18,12 +18,14 @@ use std::alloc::Global;
 ///
 /// A body that the file has already, with its name and byte for byte, isn't put there again. `BadMarker` and `Twice` say
 /// why the bytes are no kernel file; `Twice` also names the first body of which the file has another with its name.
-/// What was made is read again: `Missing` names a body that isn't found there, and a line at fault would be one there. `NoMemory`
-/// may come in place of each.
-#[tactic(auto, using(crate::proofs::Losses::is_left, crate::proofs::Losses::nothing_lost, crate::proofs::Faults::no_left, crate::proofs::Faults::another, crate::proofs::Faults::not_made, crate::proofs::Faults::not_found))]
+/// What was made is read again: `Missing` names a body that isn't found there, or that neither the file nor the old text had, and
+/// a line at fault would be one there. `NoMemory` may come in place of each.
+#[tactic(auto, using(crate::proofs::Losses::is_left, crate::proofs::Losses::nothing_lost, crate::proofs::Losses::all_kept, crate::proofs::Losses::none_added, crate::proofs::Faults::no_left, crate::proofs::Faults::another, crate::proofs::Faults::not_made, crate::proofs::Faults::not_found))]
 pub fn left_for(alloc: Global, renewed: &Renewed, before: &[u8]) -> Result<Vec<u8>, KernelFault>
     ensures bytes { IfOk result (λ left. IsLeft renewed.now before.now left.items) }
     ensures kept { IfOk result (λ left. (out : List ℕ) → (tree : CTree) → IsRenewal out tree renewed.now → NothingLost out renewed.now.text.items left.items) }
+    ensures keeps { IfOk result (λ left. NothingLost before.now left.items []) }
+    ensures adds { IfOk result (λ left. (out : List ℕ) → (tree : CTree) → IsRenewal out tree renewed.now → NothingLost left.items before.now out) }
     ensures fault { IfErr result (λ fault. (fault ≡ faults.NoMemory) ⊎ IsLeftFault renewed.now before.now fault) }
 {
     let left = match read_kernels(alloc, before) {
@@ -38,7 +40,7 @@ pub fn left_for(alloc: Global, renewed: &Renewed, before: &[u8]) -> Result<Vec<u
         Ok(again) => again,
         Err(fault) => return Err(fault),
     };
-    match first_lost(&renewed.old, &renewed.kept, &again) {
+    match first_misplaced(&renewed.old, &renewed.kept, &left, &again) {
         Some(name) => Err(KernelFault::Missing(name)),
         None => Ok(bytes),
     }

@@ -5,12 +5,16 @@
 //! file. Both read again what they made, and each old body is looked up there.
 #![tactic(auto)]
 
+mod defaults;
 mod left;
 mod lost;
 mod made;
 mod marker;
+mod payloads;
 mod renewed;
 
+pub use defaults::default_names;
 pub use left::left_for;
+pub use payloads::changed_names;
 pub use pb_kernels::{CTree, KName, KernelFault, KernelFile, NoMemory};
 pub use renewed::{Renewed, renew_text};

@@ -1,7 +1,7 @@
 //! Bodies that others keep.
 
 ghost use Rattle.std.specs.Prelude.{◌≡◌, ◌++◌, IfOk, OnOk};
-ghost use Rattle.pb_renew_merge.specs.Lost.{first_lost, is_kept, keeps, lost_names, lost_of};
+ghost use Rattle.pb_renew_merge.specs.Lost.{first_lost, first_misplaced, is_kept, keeps, lost_names, lost_of};
 
 use pb_kernels::{KName, KernelFile, NoMemory};
 use std::alloc::Global;
@@ -60,6 +60,27 @@ pub fn first_lost(old: &KernelFile, text: &KernelFile, left: &KernelFile) -> Opt
         }
     }
     None
+}
+
+/// The name of the first body that isn't where it should be, where a file was made of another one and old bodies.
+///
+/// It is an old one that neither the new text nor the file keeps, one that the other file had and this one doesn't keep, or one
+/// of this file that neither that one nor the old text had.
+pub fn first_misplaced(
+    old: &KernelFile,
+    text: &KernelFile,
+    before: &KernelFile,
+    made: &KernelFile,
+) -> Option<KName>
+    ensures { result ≡ first_misplaced old.now text.now before.now made.now }
+{
+    match first_lost(old, text, made) {
+        Some(name) => Some(name),
+        None => match first_lost(before, made, made) {
+            Some(name) => Some(name),
+            None => first_lost(made, before, old),
+        },
+    }
 }
 
 /// True where one of the two others keeps the old body with this name.

@@ -1,6 +1,27 @@
--- The files beside OUT have four names.
-use Rattle.std.proofs.Common.{◌≡◌, ◌≢◌, ℕ, ◌+◌, ◌<◌, List, ◌++◌, length, codes, sym, ap, ◌∙◌, length-append, arith}
-use Rattle.pb_renew_put.specs.Names.{AreNames}
+-- The names of the files beside OUT, and what the tests of names say.
+use Rattle.std.proofs.Common.{◌≡◌, ◌≢◌, ℕ, ◌+◌, ◌<◌, Bool, true, false, cond, ◌||◌, List, [], ◌++◌, drop, length, get_or, codes, decimal, nat_eq, refl, sym, ap, ◌∙◌, append_assoc, length-append, arith}
+use Rattle.std.specs.Cmp.Lexicographic.{pointwise}
+use Rattle.std.specs.List.{starts_with}
+use Rattle.std.proofs.lemmas.Bool.Decides.{Decides-eqb}
+use Rattle.std.proofs.lemmas.List.{append_cancel_left, append-nil}
+use Rattle.std.proofs.lemmas.Slice.Eq.{bytes_eq-Decides, starts_is}
+use Rattle.pb_renew_put.specs.Names.{is_old_name, is_written, left_name, new_name, old_file, old_name, spare_name}
+use Rattle.pb_renew_put.specs.Phases.{same_name}
+
+pub same_self : (a : List ℕ) → same_name a a ≡ true
+same_self a = (bytes_eq-Decides a a).1 refl
+
+pub same_is : (a b : List ℕ) → same_name a b ≡ true → a ≡ b
+same_is a b e = (bytes_eq-Decides a b).0 e
+
+pub same_not : (a b : List ℕ) → a ≢ b → same_name a b ≡ false
+same_not a b ne = by_test (same_name a b) refl where
+  by_test : (test : Bool) → same_name a b ≡ test → test ≡ false
+  by_test true e = absurd (ne (same_is a b e))
+  by_test false e = refl
+
+pub not_same : (a b : List ℕ) → same_name a b ≡ false → a ≢ b
+not_same a b e is = absurd (let equal : same_name a b ≡ true = (bytes_eq-Decides a b).1 is in cc)
 
 longer : (out a b : List ℕ) → length a < length b → out ++ a ≢ out ++ b
 longer out a b lt e =
@@ -12,27 +33,73 @@ past out a lt e =
     let same : length out ≡ length out + length a = ap length e ∙ length-append out a in
     absurd (omega arith)
 
--- each name differs from the others
-pub record AreApart (out left fresh spare : List ℕ) : Type 0 where
-  pub out_left : out ≢ left
-  pub out_fresh : out ≢ fresh
-  pub out_spare : out ≢ spare
-  pub left_out : left ≢ out
-  pub left_fresh : left ≢ fresh
-  pub left_spare : left ≢ spare
-  pub fresh_left : fresh ≢ left
-  pub fresh_spare : fresh ≢ spare
-  pub spare_fresh : spare ≢ fresh
+pub left_new : (out : List ℕ) → left_name out ≢ new_name out
+left_new out e = longer out (codes ".new") (codes ".left") (omega arith) (sym e)
 
-pub apart : (out left fresh spare : List ℕ) → AreNames out left fresh spare → AreApart out left fresh spare
-apart out left fresh spare names = rw (names.left, names.new, names.spare) (record {
-  out_left = past out (codes ".left") (omega arith);
-  out_fresh = past out (codes ".new") (omega arith);
-  out_spare = past out (codes ".left.new") (omega arith);
-  left_out = λ e. past out (codes ".left") (omega arith) (sym e);
-  left_fresh = λ e. longer out (codes ".new") (codes ".left") (omega arith) (sym e);
-  left_spare = longer out (codes ".left") (codes ".left.new") (omega arith);
-  fresh_left = longer out (codes ".new") (codes ".left") (omega arith);
-  fresh_spare = longer out (codes ".new") (codes ".left.new") (omega arith);
-  spare_fresh = λ e. longer out (codes ".new") (codes ".left.new") (omega arith) (sym e);
-})
+pub left_spare : (out : List ℕ) → left_name out ≢ spare_name out
+left_spare out = longer out (codes ".left") (codes ".left.new") (omega arith)
+
+pub new_spare : (out : List ℕ) → new_name out ≢ spare_name out
+new_spare out = longer out (codes ".new") (codes ".left.new") (omega arith)
+
+pub out_left : (out : List ℕ) → out ≢ left_name out
+out_left out = past out (codes ".left") (omega arith)
+
+pub out_new : (out : List ℕ) → out ≢ new_name out
+out_new out = past out (codes ".new") (omega arith)
+
+pub out_spare : (out : List ℕ) → out ≢ spare_name out
+out_spare out = past out (codes ".left.new") (omega arith)
+
+-- an old name begins as OUT.old
+old_front : (out name : List ℕ) → is_old_name out name ≡ true → (rest : List ℕ) × (name ≡ old_name out ++ rest)
+old_front out name is = by_test (pointwise nat_eq name (old_name out)) refl is where
+  by_test : (whole : Bool) → pointwise nat_eq name (old_name out) ≡ whole → (whole || starts_with nat_eq name (old_name out ++ codes ".")) ≡ true → (rest : List ℕ) × (name ≡ old_name out ++ rest)
+  by_test true e either = ([], same_is _ _ e ∙ sym (append-nil (old_name out)))
+  by_test false e either =
+      let is_front : name ≡ (old_name out ++ codes ".") ++ drop (length (old_name out ++ codes ".")) name = (starts_is Decides-eqb name (old_name out ++ codes ".") _ refl).0 either in
+      (codes "." ++ drop (length (old_name out ++ codes ".")) name, is_front ∙ append_assoc (old_name out) (codes ".") _)
+
+-- so it differs from the names that are written
+other_end : (out end rest name : List ℕ) → name ≡ old_name out ++ rest → name ≡ out ++ end → codes ".old" ++ rest ≡ end
+other_end out end rest name is e = append_cancel_left out _ _ (sym (append_assoc out (codes ".old") rest) ∙ sym is ∙ e)
+
+pub record IsApart (out name : List ℕ) : Type 0 where
+  pub from_out : name ≢ out
+  pub from_left : name ≢ left_name out
+  pub from_new : name ≢ new_name out
+  pub from_spare : name ≢ spare_name out
+
+pub old_apart : (out name : List ℕ) → is_old_name out name ≡ true → IsApart out name
+old_apart out name is =
+    let front = old_front out name is in
+    record {
+      from_out = λ e. let same : 111 ≡ 0 = ap (λ (l : List ℕ). get_or l 1 0) (other_end out [] front.0 name front.1 (e ∙ sym (append-nil out))) in absurd (omega arith);
+      from_left = λ e. let same : 111 ≡ 108 = ap (λ (l : List ℕ). get_or l 1 0) (other_end out (codes ".left") front.0 name front.1 e) in absurd (omega arith);
+      from_new = λ e. let same : 111 ≡ 110 = ap (λ (l : List ℕ). get_or l 1 0) (other_end out (codes ".new") front.0 name front.1 e) in absurd (omega arith);
+      from_spare = λ e. let same : 111 ≡ 108 = ap (λ (l : List ℕ). get_or l 1 0) (other_end out (codes ".left.new") front.0 name front.1 e) in absurd (omega arith);
+    }
+
+-- a name that isn't written
+pub written_apart : (out name : List ℕ) → is_written out name ≡ false → IsApart out name
+written_apart out name unwritten =
+    let three = none_of _ _ unwritten in
+    let two = none_of _ _ three.0 in
+    let one = none_of _ _ two.0 in
+    record { from_out = not_same _ _ one.0; from_left = not_same _ _ one.1; from_new = not_same _ _ two.1; from_spare = not_same _ _ three.1 } where
+      none_of : (a b : Bool) → (a || b) ≡ false → (a ≡ false) × (b ≡ false)
+      none_of true b e = absurd (cc)
+      none_of false b e = (refl, e)
+
+or_true : (a b : Bool) → b ≡ true → (a || b) ≡ true
+or_true true b e = refl
+or_true false b e = e
+
+-- OUT.old, OUT.old.2, and so on are old names
+pub old_file_is : (out : List ℕ) (number : ℕ) → is_old_name out (old_file out number) ≡ true
+old_file_is out number = by_test (nat_eq number 1) where
+  by_test : (one : Bool) → is_old_name out (cond one (old_name out) (old_name out ++ codes "." ++ decimal number)) ≡ true
+  by_test true = rw (same_self (old_name out)) refl
+  by_test false =
+      let starts : starts_with nat_eq (old_name out ++ codes "." ++ decimal number) (old_name out ++ codes ".") ≡ true = (starts_is Decides-eqb _ (old_name out ++ codes ".") _ refl).1 (decimal number) refl in
+      or_true _ _ starts

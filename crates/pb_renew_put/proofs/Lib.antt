@@ -1,4 +1,13 @@
 pub mod Apart
-pub mod Chains
-pub mod Puts
-pub mod Rest
+pub mod At
+pub mod Closing
+pub mod Comes
+pub mod Copying
+pub mod Falling
+pub mod Idle
+pub mod Kept
+pub mod Leads
+pub mod Looking
+pub mod Nexts
+pub mod Stays
+pub mod Ways

@@ -1,15 +1,21 @@
 //! Putting a new text in the place of an old one, and bodies that are left beside it, so that nothing is lost on the way.
-//!
-//! A file is written whole beside the old one, brought to the disk, and renamed. OUT.left comes first and is on the disk before
-//! OUT is replaced. Where OUT can't be replaced then, OUT.left is put back.
 #![tactic(auto)]
 
 mod fault;
+mod files;
+mod job;
+mod left;
+mod lock;
+mod look;
 mod names;
-mod put;
-mod steps;
+mod old;
+mod putting;
+mod remove;
+mod text;
+mod whole;
 
 pub use fault::PutFault;
-pub use names::{is_written, left_name};
+pub use job::{Job, Leaving};
+pub use names::{is_written, left_name, new_name, old_file, spare_name};
 pub use pb_text::NoMemory;
-pub use put::{put_both, put_text};
+pub use putting::put;

@@ -1,8 +1,8 @@
 //! The names of the files beside OUT.
 
-ghost use Rattle.std.specs.Prelude.{◌≡◌, ◌++◌, IfOk};
+ghost use Rattle.std.specs.Prelude.{◌≡◌, ◌++◌, ◌≤◌, IfOk};
 ghost use Rattle.std.specs.String.{string_bytes};
-ghost use Rattle.pb_renew_put.specs.Names.{is_written, left_name, new_name, spare_name};
+ghost use Rattle.pb_renew_put.specs.Names.{is_written, left_name, new_name, old_file, spare_name};
 
 use crate::NoMemory;
 use std::alloc::Global;
@@ -26,6 +26,16 @@ pub fn spare_name(alloc: Global, out: &str) -> Result<String, NoMemory>
     ensures { IfOk result (λ name. string_bytes name ≡ spare_name out.now) }
 {
     joined(alloc, out, ".left.new")
+}
+
+/// The name of an old OUT: OUT.old for 1, OUT.old.2 for 2, and so on.
+pub fn old_file(alloc: Global, out: &str, number: u64) -> Result<String, NoMemory>
+    ensures { IfOk result (λ name. string_bytes name ≡ old_file out.now number) }
+{
+    if number == 1 {
+        return joined(alloc, out, ".old");
+    }
+    Ok(format!(in alloc; "{out}.old.{number}")?)
 }
 
 fn joined(alloc: Global, name: &str, ending: &str) -> Result<String, NoMemory>

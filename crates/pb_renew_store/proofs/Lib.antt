@@ -1,4 +1,5 @@
+pub mod Bytes
 pub mod Files
+pub mod Kept
 pub mod Names
 pub mod Retained
-pub mod Steps

@@ -1,2 +1,5 @@
 pub mod Changes
+pub mod Deeds
+pub mod Kinds
 pub mod MemStore
+pub mod Recorded

@@ -1,100 +1,50 @@
-ghost use Rattle.std.specs.Prelude.{◌≡◌, None, false, IfOk};
-ghost use Rattle.pb_io.specs.Sinks.{IsCountOf};
+ghost use Rattle.std.specs.Prelude.{◌≡◌, None, IfOk};
+ghost use Rattle.std.specs.String.{string_bytes};
+ghost use Rattle.pb_io.specs.Faults.{HasCause};
 
 use crate::calls::count_up;
-use crate::{Failed, Folder, Store};
-use pb_io::HostFolder;
-use std::fs::{self, File, OpenFile, OpenOptions};
-use std::io::{self, ErrorKind, Write};
+use crate::open::write_some;
+use crate::{Failed, FileKind, Store, place};
+use std::alloc::Global;
+use std::fs::{self, File, OpenFile};
+use std::io::{self, ErrorKind};
 use std::rt::Files;
 
 /// The files of the system.
+///
+/// The file that was made last stays open, and is written and brought to the disk through its descriptor, whatever its name
+/// leads to meanwhile.
 #[derive(Drop)]
 pub struct HostStore<'a, R: Files> {
+    alloc: Global,
     rt: &'a R,
-    folder: HostFolder<'a, R>,
+    file: Option<R::File>,
+    written: String,
     faults: u64,
 }
 
 impl<'a, R: Files> HostStore<'a, R> {
-    /// The files that the runtime reaches, none of them open.
-    pub fn new(rt: &'a R) -> HostStore<'a, R>
-        ensures { ⟦<HostStore<'a, R> as Folder>⟧.faults result ≡ 0 }
+    /// The files that the runtime reaches, none of them made so far.
+    pub fn new(alloc: Global, rt: &'a R) -> HostStore<'a, R>
+        ensures { ⟦<HostStore<'a, R> as Store>⟧.faults result ≡ 0 }
     {
         HostStore {
+            alloc,
             rt,
-            folder: HostFolder::new(rt),
+            file: None,
+            written: String::new(alloc),
             faults: 0,
         }
     }
 
-    /// Makes an empty file. The file that had the name goes first, so that nothing is written through a link.
-    fn make(&self, name: &str) -> io::Result<()> {
-        match fs::remove_file(self.rt, name) {
-            Err(error) if error.kind() != ErrorKind::NotFound => return Err(error),
-            _ => {}
-        }
-        let _file = File::create_new(self.rt, name)?;
-        Ok(())
-    }
-
-    /// Appends some first bytes to a file that is there.
-    fn grow(&self, name: &str, piece: &[u8]) -> io::Result<usize>
-        ensures { IfOk result (IsCountOf piece.now) }
+    /// What a call of the system gave. A fault of it is counted.
+    fn counted<T: Drop>(&mut self, outcome: io::Result<T>) -> Result<T, Failed>
+        ensures value { IfOk result (λ value. outcome ≡ Ok value) }
+        ensures written { self.new.written ≡ self.old.written }
+        ensures cause { HasCause self.old.faults self.new.faults result }
     {
-        if piece.is_empty() {
-            return Ok(0);
-        }
-        let mut file = OpenOptions::new().append(true).open(self.rt, name)?;
-        match file.write(piece) {
-            Ok(count) if count > 0 => Ok(count),
-            Ok(_) => Err(io::Error::from(ErrorKind::WriteZero)),
-            Err(error) => Err(error),
-        }
-    }
-
-    /// Brings a file to the disk, and then the folder that has its name.
-    fn bring(&self, name: &str) -> io::Result<()> {
-        File::open(self.rt, name)?.sync_all()?;
-        File::open(self.rt, folder_of(name))?.sync_all()
-    }
-}
-
-/// The folder that a name is in.
-fn folder_of(name: &str) -> &str {
-    match name.rsplit_once('/') {
-        Some(("", _)) => "/",
-        Some((folder, _)) => folder,
-        None => ".",
-    }
-}
-
-impl<'a, R: Files> Folder for HostStore<'a, R> {
-    ghost holds = { λ _. None };
-
-    ghost left = { λ store. ⟦<HostFolder<'a, R> as Folder>⟧.left store.folder };
-
-    ghost steady = { λ _. false };
-
-    ghost faults = { λ store. store.faults };
-
-    ghost reads = { λ _. 0 };
-
-    ghost passed = { λ store. ⟦<HostFolder<'a, R> as Folder>⟧.passed store.folder };
-
-    fn open_file(&mut self, name: &str) -> Result<(), Failed> {
-        match self.folder.open_file(name) {
-            Ok(()) => Ok(()),
-            Err(_) => {
-                count_up(&mut self.faults);
-                Err(Failed)
-            }
-        }
-    }
-
-    fn read(&mut self, buf: &mut [u8]) -> Result<usize, Failed> {
-        match self.folder.read(buf) {
-            Ok(count) => Ok(count),
+        match outcome {
+            Ok(value) => Ok(value),
             Err(_) => {
                 count_up(&mut self.faults);
                 Err(Failed)
@@ -104,53 +54,86 @@ impl<'a, R: Files> Folder for HostStore<'a, R> {
 }
 
 impl<'a, R: Files> Store for HostStore<'a, R> {
-    fn has(&mut self, name: &str) -> Result<bool, Failed> {
-        match fs::exists(self.rt, name) {
-            Ok(found) => Ok(found),
-            Err(_) => {
-                count_up(&mut self.faults);
-                Err(Failed)
+    ghost holds = { λ _. None };
+
+    ghost deeds = { λ _. None };
+
+    ghost written = { λ store. string_bytes store.written };
+
+    ghost faults = { λ store. store.faults };
+
+    fn kind(&mut self, name: &str) -> Result<FileKind, Failed> {
+        let kind = place::kind_of(self.rt, name);
+        self.counted(kind)
+    }
+
+    fn real_name(&mut self, alloc: Global, name: &str) -> Result<String, Failed> {
+        let real = place::real_name(self.rt, alloc, name);
+        self.counted(real)
+    }
+
+    fn is_same(&mut self, one: &str, other: &str) -> Result<bool, Failed> {
+        if one == other {
+            return Ok(true);
+        }
+        let is_one = place::is_one_file(self.rt, one, other);
+        self.counted(is_one)
+    }
+
+    fn is_still(&mut self, name: &str, bytes: &Option<Vec<u8>>) -> Result<bool, Failed> {
+        let is_still = place::is_still(self.rt, name, bytes);
+        self.counted(is_still)
+    }
+
+    fn make(&mut self, name: &str, like: &str) -> Result<bool, Failed> {
+        let Ok(written) = String::from_str(self.alloc, name) else {
+            count_up(&mut self.faults);
+            return Err(Failed);
+        };
+        let made = place::make(self.rt, name, like);
+        match self.counted(made)? {
+            Some(file) => {
+                self.file = Some(file);
+                self.written = written;
+                Ok(true)
             }
+            None => Ok(false),
         }
     }
 
-    fn create(&mut self, name: &str) -> Result<(), Failed> {
-        match self.make(name) {
-            Ok(()) => Ok(()),
-            Err(_) => {
-                count_up(&mut self.faults);
-                Err(Failed)
-            }
-        }
+    fn append(&mut self, piece: &[u8]) -> Result<usize, Failed> {
+        let count = match &mut self.file {
+            Some(file) => write_some(file, piece),
+            None => Err(io::Error::from(ErrorKind::NotFound)),
+        };
+        self.counted(count)
     }
 
-    fn append(&mut self, name: &str, piece: &[u8]) -> Result<usize, Failed> {
-        match self.grow(name, piece) {
-            Ok(count) => Ok(count),
-            Err(_) => {
-                count_up(&mut self.faults);
-                Err(Failed)
-            }
-        }
+    fn sync(&mut self) -> Result<(), Failed> {
+        let synced = match &self.file {
+            Some(file) => file.sync_all(),
+            None => Err(io::Error::from(ErrorKind::NotFound)),
+        };
+        self.counted(synced)
     }
 
-    fn sync(&mut self, name: &str) -> Result<(), Failed> {
-        match self.bring(name) {
-            Ok(()) => Ok(()),
-            Err(_) => {
-                count_up(&mut self.faults);
-                Err(Failed)
-            }
-        }
+    fn settle(&mut self, name: &str) -> Result<(), Failed> {
+        let settled = bring_names(self.rt, place::folder_of(name));
+        self.counted(settled)
     }
 
     fn rename(&mut self, from: &str, to: &str) -> Result<(), Failed> {
-        match fs::rename(self.rt, from, to) {
-            Ok(()) => Ok(()),
-            Err(_) => {
-                count_up(&mut self.faults);
-                Err(Failed)
-            }
-        }
+        let renamed = fs::rename(self.rt, from, to);
+        self.counted(renamed)
     }
+
+    fn remove(&mut self, name: &str) -> Result<(), Failed> {
+        let removed = fs::remove_file(self.rt, name);
+        self.counted(removed)
+    }
+}
+
+/// Brings the names of a folder to the disk.
+fn bring_names<R: Files>(rt: &R, folder: &str) -> io::Result<()> {
+    File::open(rt, folder)?.sync_all()
 }

@@ -1,19 +1,24 @@
-//! Stores: named files that are read, written anew and renamed.
+//! Stores: named files that are made, written, compared, renamed and removed.
 //!
-//! A `Store` is a `Folder` whose files can also be made, appended to, brought to the disk and renamed. Each call can fail,
-//! and then the count of faults rises. `write_new` writes a whole file anew. `MemStore` is in memory and fails where it is
-//! told to; `HostStore` has the files of the system.
+//! A `Store` tells what each call did as a deed, if it can. Each call can fail, and then the count of faults rises. `MemStore`
+//! is in memory, fails where it is told to, and keeps its deeds, which can be done on another one; `HostStore` has the files
+//! of the system.
 #![tactic(auto)]
 
 mod calls;
+mod deed;
 mod host;
+mod kind;
 mod mem_files;
 mod mem_store;
+mod open;
+mod place;
 mod store;
-mod whole;
+mod unkept;
 
+pub use deed::Deed;
 pub use host::HostStore;
+pub use kind::FileKind;
 pub use mem_store::MemStore;
-pub use pb_io::{Failed, Folder, MemFile};
+pub use pb_io::{Failed, MemFile};
 pub use store::Store;
-pub use whole::write_new;

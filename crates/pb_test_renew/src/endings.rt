@@ -2,8 +2,8 @@
 
 ghost use Rattle.pb_ctree.specs.Trees.{IsTree};
 
-use crate::files::{K, L, has_part, joined, store_of};
-use pb_renew::{CTree, Unrenewed, renew};
+use crate::files::{K, L, has_part, joined, renew, store_of};
+use pb_renew::{CTree, Losing, Unrenewed};
 use pb_renew_store::MemStore;
 use std::alloc::Global;
 use std::test::Fail;
@@ -36,7 +36,7 @@ pub fn ending_of(
     let text = joined(alloc, K, L)?;
     let more = joined(alloc, before.unwrap_or_default(), gone)?;
     let mut store = store_of(alloc, &text, before, fails)?;
-    let renewed = renew(alloc, &mut store, tree, "o.c");
+    let renewed = renew(alloc, &mut store, tree, "o.c", Losing::Refused);
     let left = store.bytes_of("o.c.left");
     let is_more = if gone.is_empty() {
         left == before
@@ -68,7 +68,7 @@ fn has_body(store: &MemStore, body: &[u8]) -> bool {
     has_part(store.bytes_of("o.c"), body) || has_part(store.bytes_of("o.c.left"), body)
 }
 
-/// The endings where so many calls fail: from each of the first 60 on.
+/// The endings where so many calls fail: from each of the first 80 on.
 pub fn endings(
     alloc: Global,
     tree: &CTree,
@@ -79,14 +79,14 @@ pub fn endings(
     requires { IsTree tree.now }
 {
     let mut list = Vec::new(alloc);
-    for first in 0_u64..60 {
+    for first in 0_u64..80 {
         let fails = (first..first.saturating_add(count)).collect(alloc)?;
         list.push(ending_of(alloc, tree, gone, before, fails)?)?;
     }
     Ok(list)
 }
 
-/// The endings where this call fails, and another one behind it: each up to the 40th.
+/// The endings where this call fails, and another one behind it: each up to the 60th.
 pub fn endings_of_two(
     alloc: Global,
     tree: &CTree,
@@ -97,7 +97,7 @@ pub fn endings_of_two(
     requires { IsTree tree.now }
 {
     let mut list = Vec::new(alloc);
-    for second in first..40 {
+    for second in first..60 {
         let fails = [first, second].to_vec(alloc)?;
         list.push(ending_of(alloc, tree, gone, before, fails)?)?;
     }

@@ -4,14 +4,17 @@ ghost use Rattle.std.specs.Prelude.{IfOk};
 ghost use Rattle.pb_ctree.specs.Trees.{IsTree};
 
 use pb_cli_file::{CTree, tree_in};
-use pb_io::MemFile;
+use pb_io::{MemFile, MemFolder};
+use pb_renew::{Losing, Unrenewed, place_of, plan_for};
+use pb_renew_put::{Job, Leaving, PutFault, is_written, put};
 use pb_renew_store::MemStore;
 use pb_text::NoMemory;
 use std::alloc::Global;
 use std::test::Fail;
 
-/// A body with line ends of both kinds, braces, a marker behind a blank, and bytes that are no text.
-pub const K: &[u8] = b"/*@ kernel k_K */\n  puts(\"}\");\r\n /*@ end */\n\xff\x00\n\n/*@ end */\n";
+/// A body with line ends of both kinds, braces, a marker behind a comment, and bytes that are no text.
+pub const K: &[u8] =
+    b"/*@ kernel k_K */\n  puts(\"}\");\r\n// /*@ end */\n\xff\x00\n\n/*@ end */\n";
 
 /// An empty body.
 pub const L: &[u8] = b"/*@ kernel k_L */\n/*@ end */\n";
@@ -39,19 +42,83 @@ fn push_file(
     Ok(())
 }
 
-/// A store with `o.c`, and with `o.c.left` where that is there. These calls fail, and at most 64 bytes are written at once.
+/// What the protocol's file has.
+const SOURCE: &[u8] = b"a protocol";
+
+/// The protocol's file `p`, `o.c`, and `o.c.left` where that is there.
+fn files_of(alloc: Global, out: &[u8], left: Option<&[u8]>) -> Result<Vec<MemFile>, NoMemory> {
+    let mut files = Vec::new(alloc);
+    push_file(alloc, &mut files, "p", SOURCE)?;
+    push_file(alloc, &mut files, "o.c", out)?;
+    if let Some(bytes) = left {
+        push_file(alloc, &mut files, "o.c.left", bytes)?;
+    }
+    Ok(files)
+}
+
+/// A store with `p`, `o.c`, and `o.c.left` where that is there. These calls fail, and at most 64 bytes are written at once.
 pub fn store_of(
     alloc: Global,
     out: &[u8],
     left: Option<&[u8]>,
     fails: Vec<u64>,
 ) -> Result<MemStore, NoMemory> {
-    let mut files = Vec::new(alloc);
-    push_file(alloc, &mut files, "o.c", out)?;
-    if let Some(bytes) = left {
-        push_file(alloc, &mut files, "o.c.left", bytes)?;
+    Ok(MemStore::new(alloc, files_of(alloc, out, left)?, 64, fails))
+}
+
+/// A job for the store that has such files.
+pub fn job_of(
+    alloc: Global,
+    out: &[u8],
+    text: &[u8],
+    leaving: Option<Leaving>,
+) -> Result<Job, NoMemory> {
+    Ok(Job {
+        file: String::from_str(alloc, "p")?,
+        source: Vec::from_slice(alloc, SOURCE)?,
+        out: String::from_str(alloc, "o.c")?,
+        old: Some(Vec::from_slice(alloc, out)?),
+        text: Vec::from_slice(alloc, text)?,
+        leaving,
+        keeps_old: false,
+    })
+}
+
+/// Does a job.
+pub fn put_job(alloc: Global, store: &mut MemStore, job: &Job) -> Result<(), PutFault> {
+    if is_written(alloc, &job.out, &job.file)? {
+        return Err(PutFault::Busy);
     }
-    Ok(MemStore::new(alloc, files, 64, fails))
+    put(alloc, store, job)
+}
+
+/// Renews an OUT with these bytes, beside an OUT.left with those, where the store has both.
+pub fn renew(
+    alloc: Global,
+    store: &mut MemStore,
+    tree: &CTree,
+    name: &str,
+    losing: Losing,
+) -> Result<(), Unrenewed>
+    requires { IsTree tree.now }
+{
+    let place = place_of(alloc, store, name, losing)?;
+    let mut files = Vec::new(alloc);
+    for name in [name, "o.c.left"] {
+        if let Some(bytes) = store.bytes_of(name) {
+            push_file(alloc, &mut files, name, bytes)?;
+        }
+    }
+    let mut folder = MemFolder::new(files, Vec::new(alloc));
+    let mut source = Vec::new(alloc);
+    if source.extend_from_slice(SOURCE).is_err() {
+        return Err(Unrenewed::NoMemory);
+    }
+    let plan = plan_for(alloc, &mut folder, tree, "p", source, place, losing)?;
+    match put_job(alloc, store, &plan.job) {
+        Ok(()) => Ok(()),
+        Err(fault) => Err(Unrenewed::unput(fault)),
+    }
 }
 
 /// The tree of a protocol that runs these kernels.
@@ -70,8 +137,8 @@ pub fn tree_of(alloc: Global, kernels: &[&str]) -> Result<CTree, Fail>
     text.push_str("}\n")?;
     let mut files = Vec::new(alloc);
     push_file(alloc, &mut files, "p", text.as_bytes())?;
-    let mut store = MemStore::new(alloc, files, 64, Vec::new(alloc));
-    match tree_in(alloc, &mut store, "p") {
+    let mut folder = MemFolder::new(files, Vec::new(alloc));
+    match tree_in(alloc, &mut folder, "p") {
         Ok(tree) => Ok(tree),
         Err(refusal) => Err(Fail::from(refusal)),
     }

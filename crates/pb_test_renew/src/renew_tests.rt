@@ -1,6 +1,6 @@
 use crate::endings::{Ending, count_of, endings, endings_of_two, place_of};
-use crate::files::{K, L, OTHER_K, has_part, store_of, tree_of};
-use pb_renew::{KernelFault, Unrenewed, renew};
+use crate::files::{K, L, OTHER_K, has_part, renew, store_of, tree_of};
+use pb_renew::{KernelFault, Losing, Unrenewed};
 use std::test::Fail;
 
 const NOTE: &[u8] = b"a note\n";
@@ -53,7 +53,7 @@ fn two_calls_fail(rt: HostRuntime) -> Result<(), Fail> {
     let alloc = rt.alloc();
     let tree = tree_of(alloc, &["L"])?;
     let mut halves = 0_usize;
-    for first in 0..40 {
+    for first in 0..60 {
         let endings = endings_of_two(alloc, &tree, K, Some(NOTE), first)?;
         assert!(rt; place_of(&endings, Ending::Astray) == None, "{first}");
         halves = halves.saturating_add(count_of(&endings, Ending::Halfway));
@@ -83,10 +83,10 @@ fn one_file_alone(rt: HostRuntime) -> Result<(), Fail> {
     // Where nothing is gone, what is left isn't read.
     let left = b"/*@ end */\n".as_slice();
     let mut store = store_of(rt.alloc(), K, Some(left), Vec::new(rt.alloc()))?;
-    assert!(rt; renew(rt.alloc(), &mut store, &tree, "o.c") == Ok(()));
+    assert!(rt; renew(rt.alloc(), &mut store, &tree, "o.c", Losing::Refused) == Ok(()));
     assert!(rt; has_part(store.bytes_of("o.c"), K));
     assert!(rt; store.bytes_of("o.c.left") == Some(left));
-    assert!(rt; renew(rt.alloc(), &mut store, &tree, "new.c") == Ok(()));
+    assert!(rt; renew(rt.alloc(), &mut store, &tree, "new.c", Losing::Refused) == Ok(()));
     assert!(rt; has_part(store.bytes_of("new.c"), L));
     assert!(rt; store.bytes_of("new.c.left") == None);
     Ok(())
@@ -103,14 +103,14 @@ fn what_is_refused(rt: HostRuntime) -> Result<(), Fail> {
     ];
     for (text, left) in rows {
         let mut store = store_of(rt.alloc(), text, Some(left), Vec::new(rt.alloc()))?;
-        let renewed = renew(rt.alloc(), &mut store, &tree, "o.c");
+        let renewed = renew(rt.alloc(), &mut store, &tree, "o.c", Losing::Refused);
         let is_refused = matches!(&renewed, Err(Unrenewed::Left(_) | Unrenewed::Out(_)));
         assert!(rt; is_refused);
         assert!(rt; store.bytes_of("o.c") == Some(text));
         assert!(rt; store.bytes_of("o.c.left") == Some(left));
     }
     let mut store = store_of(rt.alloc(), b"text", None, Vec::new(rt.alloc()))?;
-    let renewed = renew(rt.alloc(), &mut store, &tree, "o.c");
+    let renewed = renew(rt.alloc(), &mut store, &tree, "o.c", Losing::Refused);
     assert!(rt; matches!(&renewed, Err(Unrenewed::Out(KernelFault::Missing(_)))));
     Ok(())
 }

@@ -1,8 +1,9 @@
-use pb_io::{Failed, InFault, MemFile, read_all};
-use pb_renew_store::{Folder, HostStore, MemStore, Store, write_new};
+use pb_renew_store::{Deed, Failed, FileKind, HostStore, MemFile, MemStore, Store};
 use pb_text::NoMemory;
 use std::alloc::Global;
 use std::fs;
+use std::fs::Files;
+use std::os::unix::fs::PermissionsExt;
 use std::test::Fail;
 
 /// Two files.
@@ -17,43 +18,57 @@ fn files(alloc: Global) -> Result<Vec<MemFile>, NoMemory> {
     Ok(files)
 }
 
+/// Appends all bytes to the file that was made last, in as many calls as it takes, up to a hundred.
+fn append_all<S: Store>(store: &mut S, bytes: &[u8]) -> Result<(), Failed> {
+    let mut done = 0;
+    for _ in 0..100 {
+        if done < bytes.len() {
+            done += store.append(&bytes[done..])?;
+        }
+    }
+    Ok(())
+}
+
 #[test]
 fn a_file_is_written_in_pieces(rt: HostRuntime) -> Result<(), Fail> {
+    let alloc = rt.alloc();
     for most in [1, 2, 5, 64] {
         assert!(rt; 1 <= most);
-        let mut store = MemStore::new(rt.alloc(), files(rt.alloc())?, most, Vec::new(rt.alloc()));
-        assert!(rt; write_new(&mut store, "b", b"other") == Ok(()), "{most}");
+        let mut store = MemStore::new(alloc, files(alloc)?, most, Vec::new(alloc));
+        let mut other = MemStore::new(alloc, files(alloc)?, most, Vec::new(alloc));
+        assert!(rt; store.make("b", "a") == Ok(false), "{most}");
+        assert!(rt; store.make("c", "a") == Ok(true), "{most}");
+        assert!(rt; append_all(&mut store, b"other") == Ok(()), "{most}");
+        assert!(rt; store.sync() == Ok(()), "{most}");
+        assert!(rt; store.rename("c", "b") == Ok(()), "{most}");
+        assert!(rt; store.remove("a") == Ok(()), "{most}");
         assert!(rt; store.bytes_of("b") == Some(b"other".as_slice()), "{most}");
-        assert!(rt; store.bytes_of("a") == Some(b"first".as_slice()), "{most}");
-        assert!(rt; write_new(&mut store, "c", b"") == Ok(()), "{most}");
-        assert!(rt; store.has("c") == Ok(true), "{most}");
-        assert!(rt; store.has("d") == Ok(false), "{most}");
-        let read = read_all(rt.alloc(), &mut store, "b", 9);
-        assert!(rt; read.map(|bytes| bytes.len()) == Ok(5), "{most}");
+        assert!(rt; store.kind("a") == Ok(FileKind::Missing), "{most}");
+        assert!(rt; store.is_still("a", &None) == Ok(true), "{most}");
+        for deed in store.deeds() {
+            assert!(rt; other.play(deed), "{deed:?}");
+        }
+        assert!(rt; other.bytes_of("b") == Some(b"other".as_slice()), "{most}");
+        assert!(rt; other.bytes_of("a").is_none(), "{most}");
     }
     Ok(())
 }
 
 #[test]
 fn each_call_fails_where_it_is_told_to(rt: HostRuntime) -> Result<(), Fail> {
-    for failing in 0..6 {
-        let fails = [failing].to_vec(rt.alloc())?;
-        let mut store = MemStore::new(rt.alloc(), files(rt.alloc())?, 2, fails);
-        let written = write_new(&mut store, "c", b"other");
-        assert!(rt; written.is_ok() == (failing == 5), "{failing}");
-        assert!(rt;
-            store.bytes_of("a") == Some(b"first".as_slice()),
-            "{failing}"
-        );
-    }
-    let fails = [0, 1, 2].to_vec(rt.alloc())?;
-    let mut store = MemStore::new(rt.alloc(), files(rt.alloc())?, 2, fails);
-    assert!(rt; store.has("a") == Err(Failed));
+    let alloc = rt.alloc();
+    let fails = [0, 1, 2, 4].to_vec(alloc)?;
+    let mut store = MemStore::new(alloc, files(alloc)?, 2, fails);
+    assert!(rt; store.kind("a") == Err(Failed));
     assert!(rt; store.rename("a", "b") == Err(Failed));
-    assert!(rt; store.open_file("a") == Err(Failed));
-    assert!(rt; store.rename("a", "b") == Ok(()));
-    assert!(rt; store.bytes_of("b") == Some(b"first".as_slice()));
-    assert!(rt; store.calls() == 4);
+    assert!(rt; store.make("c", "a") == Err(Failed));
+    assert!(rt; store.make("c", "a") == Ok(true));
+    assert!(rt; store.append(b"xyz") == Err(Failed));
+    assert!(rt; store.append(b"xyz") == Ok(2));
+    assert!(rt; store.remove("d") == Err(Failed));
+    assert!(rt; store.calls() == 7);
+    assert!(rt; store.deeds().len() == 3);
+    assert!(rt; store.deeds().get(1) == Some(&Deed::spoiled(alloc, "c")?));
     Ok(())
 }
 
@@ -62,19 +77,30 @@ fn the_files_of_the_system(rt: HostRuntime) -> Result<(), Fail> {
     let id = std::process::id(rt.process());
     let first = format!(in rt.alloc(); "/tmp/pb_test_renew_{id}_first")?;
     let second = format!(in rt.alloc(); "/tmp/pb_test_renew_{id}_second")?;
-    let mut store = HostStore::new(&rt);
-    assert!(rt; write_new(&mut store, first.as_str(), b"other") == Ok(()));
-    assert!(rt; write_new(&mut store, first.as_str(), b"whole") == Ok(()));
-    assert!(rt; store.has(first.as_str()) == Ok(true));
-    assert!(rt; store.rename(first.as_str(), second.as_str()) == Ok(()));
-    assert!(rt; store.has(first.as_str()) == Ok(false));
-    assert!(rt; store.sync(second.as_str()) == Ok(()));
-    let read = read_all(rt.alloc(), &mut store, second.as_str(), 9);
-    fs::remove_file(&rt, second.as_str())?;
-    assert!(rt; read?.as_slice() == b"whole".as_slice());
-    assert!(rt; store.append(second.as_str(), b"x") == Err(Failed));
-    assert!(rt; store.rename(second.as_str(), first.as_str()) == Err(Failed));
-    let read = read_all(rt.alloc(), &mut store, second.as_str(), 9);
-    assert!(rt; read.err() == Some(InFault::ReadFault));
+    let (first, second) = (first.as_str(), second.as_str());
+    let bytes = Some(Vec::from_slice(rt.alloc(), b"whole")?);
+    let mut store = HostStore::new(rt.alloc(), &rt);
+    assert!(rt; store.append(b"x") == Err(Failed));
+    assert!(rt; store.make(first, second) == Ok(true));
+    assert!(rt; store.make(first, second) == Ok(false));
+    assert!(rt; append_all(&mut store, b"whole") == Ok(()));
+    assert!(rt; store.sync() == Ok(()));
+    assert!(rt; store.settle(first) == Ok(()));
+    assert!(rt; store.rename(first, second) == Ok(()));
+    assert!(rt; store.kind(first) == Ok(FileKind::Missing));
+    assert!(rt; store.is_still(second, &bytes) == Ok(true));
+    assert!(rt; store.is_still(second, &None) == Ok(false));
+    rt.set_permissions(second, fs::Permissions::from_mode(0o600))?;
+    assert!(rt; store.make(first, second) == Ok(true));
+    assert!(rt; fs::metadata(&rt, first)?.permissions().mode() & 0o777 == 0o600);
+    assert!(rt; store.is_same(first, second) == Ok(false));
+    assert!(rt; store.remove(first) == Ok(()));
+    fs::hard_link(&rt, second, first)?;
+    assert!(rt; store.kind(first) == Ok(FileKind::Shared));
+    assert!(rt; store.is_same(first, second) == Ok(true));
+    assert!(rt; store.remove(first) == Ok(()));
+    assert!(rt; store.remove(second) == Ok(()));
+    assert!(rt; store.kind("/dev/null") == Ok(FileKind::Other));
+    assert!(rt; store.is_still("/dev/null", &None) == Err(Failed));
     Ok(())
 }

@@ -1,0 +1,6 @@
+mod Chains
+mod Places
+mod Plans
+mod Putting
+mod Carried
+mod Told

@@ -1,0 +1,6 @@
+pub mod Asked
+pub mod Causes
+pub mod Endings
+pub mod Leaves
+pub mod Planned
+pub mod Steps
