@@ -1,0 +1,9 @@
+pub mod Calls
+pub mod Carrying
+pub mod Frame
+pub mod Functions
+pub mod Hooks
+pub mod Laws
+pub mod Pieces
+pub mod Statements
+pub mod Texts

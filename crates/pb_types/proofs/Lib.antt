@@ -1,0 +1,4 @@
+pub mod LawfulGrammar
+pub mod ExactGrammar
+pub mod Final
+pub mod Texts

@@ -1,0 +1,7 @@
+use Rattle.std.proofs.Common.{◌≡◌, drop}
+use Rattle.pb_types_fit.specs.Faults.{value_of}
+use Rattle.pb_types_fit.proofs.constants.value_of.Given as goal
+
+abbrev pub invariant-loop-constant : goal.invariant-loop-constant
+invariant-loop-constant l =
+    value_of (drop l.constant-index l.constants) l.name ≡ value_of l.constants l.name

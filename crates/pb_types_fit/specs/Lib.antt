@@ -1,0 +1,4 @@
+pub mod Orders
+pub mod Taken
+pub mod Faults
+pub mod Carries
