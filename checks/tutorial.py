@@ -3,7 +3,7 @@
 
 usage: checks/tutorial.py [--pabble PROGRAM]
 
-The program `renew` is the one that RENEW names, or that the script of that name runs.
+The program `pabble-renew` is the one that RENEW names, or that the script of that name runs.
 
 A block between ```sh and ``` is given to bash; what it prints must be the ```text block behind it, or nothing where there is none.
 Blocks that call mpirun are passed over where no MPI is installed, which the last line says.
@@ -28,7 +28,7 @@ FREE = {
 def main():
     words = sys.argv[1:]
     pabble = words[1] if words[:1] == ["--pabble"] else subprocess.check_output([f"{TOP}/scripts/program.sh"], text=True).strip()
-    renew = subprocess.check_output([f"{TOP}/scripts/program.sh"], text=True, env={**os.environ, "PROGRAM_CRATE": "renew"}).strip()
+    renew = subprocess.check_output([f"{TOP}/scripts/program.sh"], text=True, env={**os.environ, "PROGRAM_CRATE": "pabble_renew"}).strip()
     with open(f"{TOP}/docs/TUTORIAL.md") as it:
         blocks = re.findall(r"^```sh\n(.*?)^```\n(?:```text\n(.*?)^```\n)?", it.read(), re.M | re.S)
     has_mpi = bool(shutil.which("mpicc") and shutil.which("mpirun"))
@@ -37,7 +37,7 @@ def main():
         os.makedirs(f"{room}/bin")
         os.makedirs(f"{room}/empty")
         os.symlink(os.path.realpath(pabble), f"{room}/bin/pabble")
-        os.symlink(os.path.realpath(renew), f"{room}/bin/renew")
+        os.symlink(os.path.realpath(renew), f"{room}/bin/pabble-renew")
         how = {**os.environ, **FREE, "PATH": f"{room}/bin:{os.environ['PATH']}"}
         for commands, wanted in blocks:
             if not has_mpi and "mpirun" in commands:

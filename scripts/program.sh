@@ -2,7 +2,7 @@
 # What `pabble`, `prove` and the scripts of `bench` share: what the program is made of, and where a built one stands. Run by itself
 # it prints the path of the program that `pabble` runs, and builds that without its proofs where there is none; or, where PABBLE
 # names another program, the path of that. With PROGRAM_CRATE=draw all of this is said of the program `draw`, and with
-# PROGRAM_CRATE=renew of the program `renew`, where DRAW and RENEW may name another one.
+# PROGRAM_CRATE=pabble_renew of the program `pabble-renew`, where DRAW and RENEW may name another one.
 top=$(cd "$(dirname "$(readlink -f "${BASH_SOURCE[0]}")")/.." && pwd) || exit 70
 
 # The program's crate.
@@ -113,7 +113,7 @@ if [ "${BASH_SOURCE[0]}" = "$0" ]; then
     case $crate in
     pb_cli) named=${PABBLE:-} ;;
     draw) named=${DRAW:-} ;;
-    renew) named=${RENEW:-} ;;
+    pabble_renew) named=${RENEW:-} ;;
     *) named= ;;
     esac
     if [ -n "$named" ]; then readlink -m "$named"; else program || exit 70; fi
