@@ -19,11 +19,11 @@ use Rattle.pb_local.proofs.Plains.{when_plain, for_plain, loop_plain, choice_pla
 use Rattle.pb_cprint_lines.proofs.Steps.{onto}
 
 -- three appendings, of which the last may fail
-three : {X E : Type 0} (old a b now t1 t2 t3 : List ℕ) (r : Result X E) → a ≡ old ++ t1 → b ≡ a ++ t2 → OnOk r (now ≡ b ++ t3) → OnOk r (now ≡ old ++ (t1 ++ t2 ++ t3))
+pub three : {X E : Type 0} (old a b now t1 t2 t3 : List ℕ) (r : Result X E) → a ≡ old ++ t1 → b ≡ a ++ t2 → OnOk r (now ≡ b ++ t3) → OnOk r (now ≡ old ++ (t1 ++ t2 ++ t3))
 three old a b now t1 t2 t3 (Ok x) p q last = onto old b now (t1 ++ t2) t3 (onto old a b t1 t2 p q) last
 three old a b now t1 t2 t3 (Err e) p q last = tt
 
-along : {X E : Type 0} (old now s t : List ℕ) (r : Result X E) → s ≡ t → OnOk r (now ≡ old ++ s) → OnOk r (now ≡ old ++ t)
+pub along : {X E : Type 0} (old now s t : List ℕ) (r : Result X E) → s ≡ t → OnOk r (now ≡ old ++ s) → OnOk r (now ≡ old ++ t)
 along old now s t (Ok x) e h = h ∙ ap (λ w. old ++ w) e
 along old now s t (Err x) e h = tt
 

@@ -22,10 +22,10 @@ use Rattle.pb_cprint.specs.Written.{written_all}
 use Rattle.pb_cprint.proofs.Texts.{text_append, right2, both, all_same}
 
 -- texts one after another
-three_and : (a b c d e : List ℕ) → d ≡ e → a ++ (b ++ (c ++ d)) ≡ ((a ++ b) ++ c) ++ e
+pub three_and : (a b c d e : List ℕ) → d ≡ e → a ++ (b ++ (c ++ d)) ≡ ((a ++ b) ++ c) ++ e
 three_and a b c d e same = sym (append_assoc a b (c ++ d)) ∙ sym (append_assoc (a ++ b) c d) ∙ ap (λ w. ((a ++ b) ++ c) ++ w) same
 
-four_and : (a b c d e f : List ℕ) → e ≡ f → a ++ (b ++ (c ++ (d ++ e))) ≡ (((a ++ b) ++ c) ++ d) ++ f
+pub four_and : (a b c d e f : List ℕ) → e ≡ f → a ++ (b ++ (c ++ (d ++ e))) ≡ (((a ++ b) ++ c) ++ d) ++ f
 four_and a b c d e f same = three_and a b c (d ++ e) (d ++ e) refl ∙ sym (append_assoc ((a ++ b) ++ c) d e) ∙ ap (λ w. (((a ++ b) ++ c) ++ d) ++ w) same
 
 four : (a b c d : List ℕ) → a ++ (b ++ (c ++ (d ++ []))) ≡ ((a ++ b) ++ c) ++ d
@@ -33,12 +33,12 @@ four a b c d = four_and a b c d [] [] refl ∙ append-nil (((a ++ b) ++ c) ++ d)
 
 -- ---- the head
 
-roles_same : (p : Program) (range : NRange) (before : List (List ℕ)) (rs : List Role) → text_of p (role_lines range before rs) ≡ roles_written rs
+pub roles_same : (p : Program) (range : NRange) (before : List (List ℕ)) (rs : List Role) → text_of p (role_lines range before rs) ≡ roles_written rs
 unfolding role_line
 roles_same p range before [] = refl
 roles_same p range before (r ∷ rs) = ap (λ w. role_line r ++ w) (roles_same p range (before ++ r.name ∷ []) rs)
 
-labels_same : (p : Program) (before : List (List ℕ)) (ls : List CoreLabel) → text_of p (label_lines before ls) ≡ labels_written ls
+pub labels_same : (p : Program) (before : List (List ℕ)) (ls : List CoreLabel) → text_of p (label_lines before ls) ≡ labels_written ls
 unfolding label_line
 labels_same p before [] = refl
 labels_same p before (l ∷ ls) = ap (λ w. label_line l ++ w) (labels_same p (before ++ l.name ∷ []) ls)
@@ -47,7 +47,7 @@ rule_same : (p : Program) (rule : Bool) (ls : List Line) → text_of p (with_rul
 rule_same p rule [] = refl
 rule_same p rule (l ∷ ls) = refl
 
-buffers_same : (p : Program) → text_of p buffer_lines ≡ buffers_written
+pub buffers_same : (p : Program) → text_of p buffer_lines ≡ buffers_written
 unfolding buffers_written
 buffers_same p = refl
 
@@ -66,15 +66,15 @@ head_same p =
 
 -- ---- bodies
 
-lines_same : (p : Program) (ls : List (List ℕ)) → text_of p (map (λ l. line 0 (raw l) (not (is_marker l))) ls) ≡ lines_text ls
+pub lines_same : (p : Program) (ls : List (List ℕ)) → text_of p (map (λ l. line 0 (raw l) (not (is_marker l))) ls) ≡ lines_text ls
 lines_same p [] = refl
 lines_same p (l ∷ ls) = ap (λ w. (l ++ 10 ∷ []) ++ w) (lines_same p ls)
 
-body_lines_same : (p : Program) (body : List ℕ) → text_of p (body_lines body) ≡ body_written body
+pub body_lines_same : (p : Program) (body : List ℕ) → text_of p (body_lines body) ≡ body_written body
 unfolding body_written
 body_lines_same p body = lines_same p (lines_of body)
 
-prelude_same : (p : Program) (prelude : List ℕ) → text_of p (prelude_lines prelude) ≡ prelude_written prelude
+pub prelude_same : (p : Program) (prelude : List ℕ) → text_of p (prelude_lines prelude) ≡ prelude_written prelude
 unfolding prelude_written prelude_marker end_marker
 prelude_same p prelude =
     let first = words 0 (codes "/*@ prelude */") ∷ body_lines prelude in
@@ -84,7 +84,7 @@ prelude_same p prelude =
 
 -- ---- the numbers of ranks
 
-numbers_same : (p : Program) (rs : List Role) (fs : List Sum) → text_of p (number_lines rs fs) ≡ numbers_written rs fs
+pub numbers_same : (p : Program) (rs : List Role) (fs : List Sum) → text_of p (number_lines rs fs) ≡ numbers_written rs fs
 unfolding number_written place_head brace place_line end_brace
 numbers_same p [] fs = refl
 numbers_same p (r ∷ rs) [] = refl
@@ -96,7 +96,7 @@ numbers_same p (r ∷ rs) (f ∷ fs) =
 abbrev marked : List ℕ → List ℕ
 marked name = P.line 0 (P.joined (codes "/*@ kernel " ∷ name ∷ codes " */" ∷ []))
 
-function_same : (p : Program) (head name body : List ℕ) (kept : Bool) → text_of p (function_lines head kept name body) ≡ P.line 0 head ++ brace ++ marked name ++ body_written body ++ function_end
+pub function_same : (p : Program) (head name body : List ℕ) (kept : Bool) → text_of p (function_lines head kept name body) ≡ P.line 0 head ++ brace ++ marked name ++ body_written body ++ function_end
 unfolding brace function_end end_marker end_brace
 function_same p head name body kept =
     let first = line 0 (raw head) kept ∷ words 0 (codes "{") ∷ words 0 (P.joined (codes "/*@ kernel " ∷ name ∷ codes " */" ∷ [])) ∷ body_lines body in
@@ -118,13 +118,13 @@ marker_same : (k : CoreKernel) → marked (kernel_letter k.kind ++ k.name) ≡ k
 unfolding kernel_marker
 marker_same k = ap (λ w. P.line 0 (codes "/*@ kernel " ++ w)) (append_assoc (kernel_letter k.kind) k.name (codes " */" ++ []))
 
-kernel_same : (p : Program) (k : CoreKernel) (kept : Bool) (body : List ℕ) → text_of p (function_lines (kernel_head k) kept (kernel_letter k.kind ++ k.name) body) ≡ kernel_written k body
+pub kernel_same : (p : Program) (k : CoreKernel) (kept : Bool) (body : List ℕ) → text_of p (function_lines (kernel_head k) kept (kernel_letter k.kind ++ k.name) body) ≡ kernel_written k body
 unfolding kernel_written kernel_line
 kernel_same p k kept body =
     function_same p (kernel_head k) (kernel_letter k.kind ++ k.name) body kept
     ∙ ap (λ w. kernel_line k ++ brace ++ w ++ body_written body ++ function_end) (marker_same k)
 
-kernels_same : (p : Program) (before : List (List ℕ)) (ks : List CoreKernel) (bodies : List (List ℕ)) → text_of p (kernel_lines before ks bodies) ≡ kernels_written ks bodies
+pub kernels_same : (p : Program) (before : List (List ℕ)) (ks : List CoreKernel) (bodies : List (List ℕ)) → text_of p (kernel_lines before ks bodies) ≡ kernels_written ks bodies
 kernels_same p before [] bodies = refl
 kernels_same p before (k ∷ ks) bodies =
     let xs = function_lines (kernel_head k) (is_kernel_row before k) (kernel_letter k.kind ++ k.name) (first_body bodies) in
@@ -161,7 +161,7 @@ after_same p (l ∷ ls) ks bodies =
 
 -- ---- main
 
-start_same : (p : Program) → text_of p start_lines ≡ start_written
+pub start_same : (p : Program) → text_of p start_lines ≡ start_written
 unfolding start_written
 start_same p = refl
 
@@ -173,20 +173,20 @@ n_same range size = by_range (is_single range) where
   by_range true = refl
   by_range false = refl
 
-size_same : (p : Program) (range : NRange) (size : Sum) → text_of p (size_lines range size) ≡ size_written range size
+pub size_same : (p : Program) (range : NRange) (size : Sum) → text_of p (size_lines range size) ≡ size_written range size
 unfolding size_written zeros_written test_size abort_size
 size_same p range size =
     four (P.line 1 (n_text range size)) zeros_written (test_size range size) abort_size
     ∙ ap (λ w. w ++ zeros_written ++ test_size range size ++ abort_size) (n_same range size)
 
-seats_same : (p : Program) (k : ℕ) (bs fs : List Sum) → text_of p (seat_lines k bs fs) ≡ seats_written k bs fs
+pub seats_same : (p : Program) (k : ℕ) (bs fs : List Sum) → text_of p (seat_lines k bs fs) ≡ seats_written k bs fs
 unfolding seat_written rank_line role_is index_is seat_end
 seats_same p k [] fs = refl
 seats_same p k (b ∷ bs) [] = refl
 seats_same p k (b ∷ bs) (f ∷ fs) =
     four_and (rank_line b) (role_is k) (index_is f) seat_end (text_of p (seat_lines (k + 1) bs fs)) (seats_written (k + 1) bs fs) (seats_same p (k + 1) bs fs)
 
-end_same : (p : Program) → text_of p end_lines ≡ end_written
+pub end_same : (p : Program) → text_of p end_lines ≡ end_written
 unfolding end_written
 end_same p = refl
 

@@ -27,7 +27,7 @@ pub right3 : (a b c : List ℕ) → a ++ (b ++ (c ++ [])) ≡ a ++ b ++ c
 right3 a b c = ap (λ w. a ++ w) (right2 b c) ∙ sym (append_assoc a b c)
 
 -- two texts and a third
-two_and : (a b c d : List ℕ) → c ≡ d → a ++ (b ++ c) ≡ (a ++ b) ++ d
+pub two_and : (a b c d : List ℕ) → c ≡ d → a ++ (b ++ c) ≡ (a ++ b) ++ d
 two_and a b c d e = sym (append_assoc a b c) ∙ ap (λ w. (a ++ b) ++ w) e
 
 pub both : (a b c d : List ℕ) → a ≡ c → b ≡ d → a ++ b ≡ c ++ d
@@ -37,7 +37,7 @@ both a b c d p q = ap (λ w. w ++ b) p ∙ ap (λ w. c ++ w) q
 block : (p : Program) (l : Line) (xs ys : List Line) (a b : List ℕ) → text_of p xs ≡ a → text_of p ys ≡ b → text_of p (l ∷ xs ++ ys) ≡ bytes p l.depth l.item ++ a ++ b
 block p l xs ys a b q r = text_append p (l ∷ xs) ys ∙ ap (λ w. bytes p l.depth l.item ++ w ++ text_of p ys) q ∙ ap (λ w. bytes p l.depth l.item ++ a ++ w) r
 
-words_same : (p : Program) (b : Bool) (l : Line) → text_of p (if b then l ∷ [] else []) ≡ (if b then bytes p l.depth l.item else [])
+pub words_same : (p : Program) (b : Bool) (l : Line) → text_of p (if b then l ∷ [] else []) ≡ (if b then bytes p l.depth l.item else [])
 words_same p true l = append-nil _
 words_same p false l = refl
 
@@ -75,7 +75,7 @@ told_open_same p d relays from = ap (λ w. bytes p d else_open ++ w) (probes_sam
 last_two : (a b c : List ℕ) → (a ++ b) ++ (c ++ []) ≡ a ++ (b ++ c)
 last_two a b c = ap (λ w. (a ++ b) ++ w) (append-nil c) ∙ append_assoc a b c
 
-told_same : (p : Program) (d : ℕ) (who : Guard) (relays : List Relay) (from : Peer) (tests : List Test) → text_of p (told_lines p d who relays from tests) ≡ told_written p d relays from tests
+pub told_same : (p : Program) (d : ℕ) (who : Guard) (relays : List Relay) (from : Peer) (tests : List Test) → text_of p (told_lines p d who relays from tests) ≡ told_written p d relays from tests
 unfolding told_some told_end
 told_same p d who relays from [] = append-nil _
 told_same p d who relays from (t ∷ ts) =
@@ -89,7 +89,7 @@ told_same p d who relays from (t ∷ ts) =
     (abort_same p (d + 1)))
     ∙ last_two (told_open p d relays from ++ tests_all p (d + 1) t ts) (abort_written p (d + 1)) (bytes p d close)
 
-branch_same : (p : Program) (d k : ℕ) (rest : Parts) (tests : List Test) → bytes p (branch_open d k rest tests).depth (branch_open d k rest tests).item ≡ bytes p d (branch_item k (is_last rest))
+pub branch_same : (p : Program) (d k : ℕ) (rest : Parts) (tests : List Test) → bytes p (branch_open d k rest tests).depth (branch_open d k rest tests).item ≡ bytes p d (branch_item k (is_last rest))
 branch_same p d zero rest tests = refl
 branch_same p d (suc k) no_part tests = refl
 branch_same p d (suc k) (part b rest) tests = refl

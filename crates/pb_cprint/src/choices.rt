@@ -193,7 +193,8 @@ fn push_told_some(
     push_told_end(local, out, depth)
 }
 
-fn push_told(
+/// Appends how the branch of a choice is told to the ranks that don't choose it.
+pub fn push_told(
     local: &Local,
     out: &mut Vec<u8>,
     depth: usize,

@@ -14,8 +14,9 @@ use crate::text::{
 use pb_ctree::{Bodies, Body, CTree, NoMemory};
 use std::alloc::Global;
 
+/// Appends the functions that number the ranks of a well-made tree.
 #[tactic(auto, using(crate::proofs::Trees::places_many, crate::proofs::Trees::places_are))]
-fn push_places(tree: &CTree, out: &mut Vec<u8>) -> Result<(), NoMemory>
+pub fn push_places(tree: &CTree, out: &mut Vec<u8>) -> Result<(), NoMemory>
     requires { IsTree tree.now }
     ensures { OnOk result (out.new.items ≡ out.old.items ++ numbers_written tree.now.local.roles.items (places_of tree.now.local.roles.items)) }
 {
@@ -42,16 +43,18 @@ fn push_before_main(tree: &CTree, bodies: &Bodies, out: &mut Vec<u8>) -> Result<
     push_functions(tree, &bodies.list, out)
 }
 
+/// Appends the lines that set N from the number of ranks.
 #[tactic(auto, using(crate::proofs::Trees::size_are))]
-fn push_size_of(tree: &CTree, out: &mut Vec<u8>) -> Result<(), NoMemory>
+pub fn push_size_of(tree: &CTree, out: &mut Vec<u8>) -> Result<(), NoMemory>
     requires { IsTree tree.now }
     ensures { OnOk result (out.new.items ≡ out.old.items ++ size_written tree.now.local.range (ranks_of tree.now.local.roles.items)) }
 {
     push_size(out, tree.local.range, tree.size)
 }
 
+/// Appends the lines that find a rank's role and index.
 #[tactic(auto, using(crate::proofs::Trees::seats_many, crate::proofs::Trees::places_are, crate::proofs::Trees::bases_are))]
-fn push_seats_of(tree: &CTree, out: &mut Vec<u8>) -> Result<(), NoMemory>
+pub fn push_seats_of(tree: &CTree, out: &mut Vec<u8>) -> Result<(), NoMemory>
     requires { IsTree tree.now }
     ensures { OnOk result (out.new.items ≡ out.old.items ++ seats_written 0 (bases_of tree.now.local.roles.items) (places_of tree.now.local.roles.items)) }
 {

@@ -94,7 +94,7 @@ fn push_allreduce(
 }
 
 /// The line that opens a branch.
-fn push_branch_open(
+pub fn push_branch_open(
     local: &Local,
     out: &mut Vec<u8>,
     depth: usize,
@@ -113,7 +113,7 @@ fn push_branch_open(
 }
 
 /// True where no branch stands behind this one.
-fn is_last(branches: &[Vec<Stmt>], number: usize) -> bool
+pub fn is_last(branches: &[Vec<Stmt>], number: usize) -> bool
     requires { number < length branches.now }
     ensures { result ≡ is_last (parts_of (map (λ v. map plain v.items) (drop (number + 1) branches.now))) }
 {
@@ -121,7 +121,7 @@ fn is_last(branches: &[Vec<Stmt>], number: usize) -> bool
 }
 
 /// One more open brace. A text is longer than it has open braces.
-fn deeper(out: &Vec<u8>, depth: usize) -> usize
+pub fn deeper(out: &Vec<u8>, depth: usize) -> usize
     requires { depth < length out.now.items }
     ensures deeper { result ≡ depth + 1 }
     ensures room { result + 2 < 2 ^ 64 }

@@ -17,7 +17,8 @@ use crate::frame::{
 };
 use pb_ctree::{Body, CoreKernel, CoreLabel, Formula, Local, NRange, NoMemory, Role, has_words};
 
-fn push_roles(out: &mut Vec<u8>, roles: &[Role]) -> Result<(), NoMemory>
+/// Appends a row for each role.
+pub fn push_roles(out: &mut Vec<u8>, roles: &[Role]) -> Result<(), NoMemory>
     ensures { OnOk result (out.new.items ≡ out.old.items ++ roles_written roles.now) }
 {
     for role in roles {
@@ -26,7 +27,8 @@ fn push_roles(out: &mut Vec<u8>, roles: &[Role]) -> Result<(), NoMemory>
     Ok(())
 }
 
-fn push_labels(out: &mut Vec<u8>, labels: &[CoreLabel]) -> Result<(), NoMemory>
+/// Appends a row for each label.
+pub fn push_labels(out: &mut Vec<u8>, labels: &[CoreLabel]) -> Result<(), NoMemory>
     ensures { OnOk result (out.new.items ≡ out.old.items ++ labels_written labels.now) }
 {
     for label in labels {
@@ -48,8 +50,9 @@ pub fn push_head(local: &Local, out: &mut Vec<u8>) -> Result<(), NoMemory>
     push_buffers(out)
 }
 
+/// Appends the lines of a body.
 #[tactic(auto, using(crate::proofs::Bodied::body_same))]
-fn push_body(out: &mut Vec<u8>, body: &Body) -> Result<(), NoMemory>
+pub fn push_body(out: &mut Vec<u8>, body: &Body) -> Result<(), NoMemory>
     ensures { OnOk result (out.new.items ≡ out.old.items ++ body_written body.now) }
 {
     out.extend_from_slice(body.bytes())?;
