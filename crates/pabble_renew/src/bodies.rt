@@ -234,5 +234,6 @@ fn front_of(kind: Kind) -> &'static str {
         Kind::Choice => " c_",
         Kind::Make => " make_",
         Kind::Take => " take_",
+        Kind::Room => " room_",
     }
 }

@@ -141,5 +141,6 @@ fn kind_of(kind: Kind) -> KernelKind
         Kind::Choice => KernelKind::Choice,
         Kind::Make => KernelKind::Make,
         Kind::Take => KernelKind::Take,
+        Kind::Room => KernelKind::Room,
     }
 }

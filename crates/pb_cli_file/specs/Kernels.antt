@@ -36,6 +36,7 @@ kind_of kind.Compute = told_kind.Compute
 kind_of kind.Choice = told_kind.Choice
 kind_of kind.Make = told_kind.Make
 kind_of kind.Take = told_kind.Take
+kind_of kind.Room = told_kind.Room
 
 abbrev pub told : KName → KernelWrong → Refusal
 told name what = refusal.Kernel (kind_of name.kind) name.name what

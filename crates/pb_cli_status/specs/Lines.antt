@@ -115,6 +115,7 @@ front_of kind.Compute = codes "k_"
 front_of kind.Choice = codes "c_"
 front_of kind.Make = codes "make_"
 front_of kind.Take = codes "take_"
+front_of kind.Room = codes "room_"
 
 -- the prelude has no name
 abbrev pub name_or_none : Option (List ℕ) → List ℕ

@@ -23,6 +23,8 @@ pub enum KernelKind {
     Make,
     /// It takes the words of a label.
     Take,
+    /// It gives the memory that a label's elements are received into.
+    Room,
 }
 
 /// What is wrong with a body of a kernel file.
@@ -46,6 +48,7 @@ fn front_of(kind: KernelKind) -> &'static [u8]
         KernelKind::Choice => b"c_",
         KernelKind::Make => b"make_",
         KernelKind::Take => b"take_",
+        KernelKind::Room => b"room_",
     }
 }
 

@@ -11,4 +11,6 @@ pub use lines::{
     push_mpi_reduce, push_mpi_send, push_own, push_pick, push_picks, push_probe, push_root_makes,
     push_root_takes, push_takes, push_takes_sent, push_test_line, push_word,
 };
-pub use small::{push_lin, push_offset, push_peer};
+pub use small::{
+    count_of, push_lin, push_offset, push_peer, push_root, received_into, sent_from, type_name,
+};

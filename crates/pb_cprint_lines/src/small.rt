@@ -162,7 +162,8 @@ pub fn push_root(out: &mut Vec<u8>, root: Peer) -> Result<(), NoMemory>
     push_lin(out, root.at)
 }
 
-fn sent_from(payload: Payload) -> &'static [u8]
+/// The buffer that words are sent from.
+pub fn sent_from(payload: Payload) -> &'static [u8]
     ensures { result.now ≡ buffer_text payload outgoing }
 {
     match payload {
@@ -172,7 +173,8 @@ fn sent_from(payload: Payload) -> &'static [u8]
     }
 }
 
-fn received_into(payload: Payload) -> &'static [u8]
+/// The buffer that words are received into.
+pub fn received_into(payload: Payload) -> &'static [u8]
     ensures { result.now ≡ buffer_text payload incoming }
 {
     match payload {
@@ -182,7 +184,8 @@ fn received_into(payload: Payload) -> &'static [u8]
     }
 }
 
-fn type_name(payload: Payload) -> &'static [u8]
+/// The type of words, for MPI.
+pub fn type_name(payload: Payload) -> &'static [u8]
     ensures { result.now ≡ type_text payload }
 {
     match payload {
@@ -192,7 +195,8 @@ fn type_name(payload: Payload) -> &'static [u8]
     }
 }
 
-fn count(payload: Payload) -> u32
+/// How many words.
+pub fn count_of(payload: Payload) -> u32
     ensures { result ≡ count_of payload }
 {
     match payload {
@@ -218,7 +222,7 @@ pub fn push_sent(local: &Local, out: &mut Vec<u8>, label: u32) -> Result<(), NoM
 {
     let payload = local.payload(label);
     push_pieces(out, &[sent_from(payload), b", "])?;
-    push_decimal(out, u64::from(count(payload)))?;
+    push_decimal(out, u64::from(count_of(payload)))?;
     push_pieces(out, &[b", ", type_name(payload)])
 }
 
@@ -228,7 +232,7 @@ pub fn push_received(local: &Local, out: &mut Vec<u8>, label: u32) -> Result<(),
 {
     let payload = local.payload(label);
     push_pieces(out, &[received_into(payload), b", "])?;
-    push_decimal(out, u64::from(count(payload)))?;
+    push_decimal(out, u64::from(count_of(payload)))?;
     push_pieces(out, &[b", ", type_name(payload)])
 }
 

@@ -8,7 +8,7 @@ use Rattle.pb_syntax.specs.declared.core_label.KernelKind.{KernelKind}
 use Rattle.pb_syntax.specs.declared.core_label.KernelKind.TheVariants.{Compute as Computes, Choice as Chooses}
 use Rattle.pb_local.specs.Tree.{Program}
 use Rattle.pb_ctree.specs.declared.kernel.Kind.{Kind}
-use Rattle.pb_ctree.specs.declared.kernel.Kind.TheVariants.{Prelude, Compute, Choice, Make, Take}
+use Rattle.pb_ctree.specs.declared.kernel.Kind.TheVariants.{Prelude, Compute, Choice, Make, Take, Room}
 use Rattle.pb_ctree.specs.declared.kernel.KName.{KName}
 
 abbrev pub has_words : Payload → Bool
@@ -44,6 +44,7 @@ default_of Compute = []
 default_of Choice = codes "  return 0;\n"
 default_of Make = []
 default_of Take = []
+default_of Room = []
 
 abbrev pub defaults_of : Program → List (List ℕ)
 defaults_of p = map (λ f. default_of f.kind) (functions_of p)

@@ -46,7 +46,7 @@ impl Body {
         let mut bytes = Vec::new(alloc);
         match kind {
             Kind::Choice => bytes.extend_from_slice(b"  return 0;\n")?,
-            Kind::Prelude | Kind::Compute | Kind::Make | Kind::Take => {}
+            Kind::Prelude | Kind::Compute | Kind::Make | Kind::Take | Kind::Room => {}
         }
         Ok(Body { bytes })
     }

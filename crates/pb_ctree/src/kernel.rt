@@ -13,6 +13,8 @@ pub enum Kind {
     Make,
     /// It takes the words of a label: `take_` and the label's name.
     Take,
+    /// It gives the memory that a label's elements are received into: `room_` and the label's name. Only program texts have it.
+    Room,
 }
 
 /// A body by its name. The prelude has none.

@@ -3,7 +3,7 @@ use Rattle.std.specs.Prelude.{ℕ, ◌==◌, ◌&&◌, ◌||◌, not, List, [], 
 use Rattle.std.specs.List.{ends_with, flat_map}
 use Rattle.pb_ctree.specs.declared.kernel.KName.{KName}
 use Rattle.pb_ctree.specs.declared.kernel.Kind.{Kind}
-use Rattle.pb_ctree.specs.declared.kernel.Kind.TheVariants.{Prelude, Compute, Choice, Make, Take}
+use Rattle.pb_ctree.specs.declared.kernel.Kind.TheVariants.{Prelude, Compute, Choice, Make, Take, Room}
 use Rattle.pb_kernels.specs.declared.file.NamedBody.{NamedBody}
 use Rattle.pb_kernels.specs.Names.{body_of, is_among}
 use Rattle.pb_renew_merge.specs.Lost.{keeps}
@@ -15,6 +15,7 @@ front_of Compute = codes "/*@ kernel k_"
 front_of Choice = codes "/*@ kernel c_"
 front_of Make = codes "/*@ kernel make_"
 front_of Take = codes "/*@ kernel take_"
+front_of Room = codes "/*@ kernel room_"
 
 abbrev pub word_of : Option (List ℕ) → List ℕ
 word_of None = []

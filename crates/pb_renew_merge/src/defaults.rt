@@ -57,6 +57,6 @@ fn default_lines(kind: Kind) -> &'static [u8]
 {
     match kind {
         Kind::Choice => b"  return 0;\n",
-        Kind::Prelude | Kind::Compute | Kind::Make | Kind::Take => b"",
+        Kind::Prelude | Kind::Compute | Kind::Make | Kind::Take | Kind::Room => b"",
     }
 }

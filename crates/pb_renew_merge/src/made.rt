@@ -68,7 +68,7 @@ fn default_of(alloc: Global, kind: Kind) -> Result<Body, NoMemory>
 {
     match kind {
         Kind::Choice => copied(alloc, b"  return 0;\n"),
-        Kind::Prelude | Kind::Compute | Kind::Make | Kind::Take => copied(alloc, b""),
+        Kind::Prelude | Kind::Compute | Kind::Make | Kind::Take | Kind::Room => copied(alloc, b""),
     }
 }
 

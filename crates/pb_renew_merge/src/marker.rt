@@ -15,6 +15,7 @@ fn front_of(kind: Kind) -> &'static [u8]
         Kind::Choice => b"/*@ kernel c_",
         Kind::Make => b"/*@ kernel make_",
         Kind::Take => b"/*@ kernel take_",
+        Kind::Room => b"/*@ kernel room_",
     }
 }
 
