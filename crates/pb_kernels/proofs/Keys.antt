@@ -16,7 +16,7 @@ use Rattle.pb_text.specs.contracts.name.NamePartialEq.TheImpl.{eq-value as name-
 use Rattle.pb_ctree.specs.contracts.kernel.KindPartialEq.TheImpl.{eq-value as kind-eq}
 use Rattle.pb_ctree.specs.contracts.kernel.KNamePartialEq.TheImpl.{eq-value}
 use Rattle.pb_ctree.specs.declared.kernel.Kind.{Kind}
-use Rattle.pb_ctree.specs.declared.kernel.Kind.TheVariants.{Prelude, Compute, Choice, Make, Take}
+use Rattle.pb_ctree.specs.declared.kernel.Kind.TheVariants.{Prelude, Compute, Choice, Make, Take, Room}
 use Rattle.pb_ctree.specs.declared.kernel.KName.{KName}
 use Rattle.pb_kernels.specs.Names.{kind_number, same_words, same_name, is_among, body_of, named_bodies, names_of, are_distinct}
 use Rattle.pb_kernels.proofs.Distinct.{distinct_push}
@@ -28,7 +28,8 @@ kind_of zero = Prelude
 kind_of (suc zero) = Compute
 kind_of (suc (suc zero)) = Choice
 kind_of (suc (suc (suc zero))) = Make
-kind_of (suc (suc (suc (suc n)))) = Take
+kind_of (suc (suc (suc (suc zero)))) = Take
+kind_of (suc (suc (suc (suc (suc n))))) = Room
 
 kind_back : (k : Kind) → kind_of (kind_number k) ≡ k
 kind_back Prelude = refl
@@ -36,6 +37,7 @@ kind_back Compute = refl
 kind_back Choice = refl
 kind_back Make = refl
 kind_back Take = refl
+kind_back Room = refl
 
 kinds_decide : (a b : Kind) → Decides (nat_eq (kind_number a) (kind_number b)) (a ≡ b)
 kinds_decide a b =
@@ -65,26 +67,37 @@ kind_same Prelude Compute = refl
 kind_same Prelude Choice = refl
 kind_same Prelude Make = refl
 kind_same Prelude Take = refl
+kind_same Prelude Room = refl
 kind_same Compute Prelude = refl
 kind_same Compute Compute = refl
 kind_same Compute Choice = refl
 kind_same Compute Make = refl
 kind_same Compute Take = refl
+kind_same Compute Room = refl
 kind_same Choice Prelude = refl
 kind_same Choice Compute = refl
 kind_same Choice Choice = refl
 kind_same Choice Make = refl
 kind_same Choice Take = refl
+kind_same Choice Room = refl
 kind_same Make Prelude = refl
 kind_same Make Compute = refl
 kind_same Make Choice = refl
 kind_same Make Make = refl
 kind_same Make Take = refl
+kind_same Make Room = refl
 kind_same Take Prelude = refl
 kind_same Take Compute = refl
 kind_same Take Choice = refl
 kind_same Take Make = refl
 kind_same Take Take = refl
+kind_same Take Room = refl
+kind_same Room Prelude = refl
+kind_same Room Compute = refl
+kind_same Room Choice = refl
+kind_same Room Make = refl
+kind_same Room Take = refl
+kind_same Room Room = refl
 
 words_same : (a b : Option (List ℕ)) → option_eq name-eq.it a b ≡ same_words a b
 words_same None None = refl

@@ -3,7 +3,7 @@ use Rattle.std.specs.Prelude.{◌≡◌, ℕ, Bool, true, false, not, ◌&&◌, 
 use Rattle.std.specs.List.{list_any}
 use Rattle.std.specs.Cmp.Lexicographic.{pointwise}
 use Rattle.pb_ctree.specs.declared.kernel.Kind.{Kind}
-use Rattle.pb_ctree.specs.declared.kernel.Kind.TheVariants.{Prelude, Compute, Choice, Make, Take}
+use Rattle.pb_ctree.specs.declared.kernel.Kind.TheVariants.{Prelude, Compute, Choice, Make, Take, Room}
 use Rattle.pb_ctree.specs.declared.kernel.KName.{KName}
 use Rattle.pb_kernels.specs.declared.file.NamedBody.{NamedBody}
 
@@ -13,6 +13,7 @@ kind_number Compute = 1
 kind_number Choice = 2
 kind_number Make = 3
 kind_number Take = 4
+kind_number Room = 5
 
 abbrev pub same_words : Option (List ℕ) → Option (List ℕ) → Bool
 same_words None None = true
