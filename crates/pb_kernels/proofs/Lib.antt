@@ -1,3 +1,4 @@
+pub mod Dialects
 pub mod Distinct
 pub mod Formats
 pub mod Keys

@@ -1,9 +1,11 @@
--- What the lines of a kernel file are, from the first on.
+-- What the lines of a kernel file of a dialect are, from the first on.
 use Rattle.std.specs.Prelude.{ℕ, ◌+◌, Bool, true, not, List, [], ◌∷◌, ◌++◌, Option, None, Some, Result, Ok, Err, length, min, nat_eq, if◌then◌else◌}
 use Rattle.std.specs.List.{prefix_len}
 use Rattle.pb_text.specs.Places.{one_more}
 use Rattle.pb_ctree.specs.Bodies.{before_lines, is_body, is_marker}
 use Rattle.pb_ctree.specs.declared.kernel.KName.{KName}
+use Rattle.pb_kernels.specs.declared.dialect.Dialect.{Dialect}
+use Rattle.pb_kernels.specs.declared.dialect.Dialect.TheVariants.{Plain, Program}
 use Rattle.pb_kernels.specs.declared.fault.KernelFault.{KernelFault}
 use Rattle.pb_kernels.specs.declared.fault.KernelFault.TheVariants.{BadMarker, Twice}
 use Rattle.pb_kernels.specs.declared.file.NamedBody.{NamedBody}
@@ -48,8 +50,8 @@ after_marker Closing n reading = after_closing n reading.closed reading.current
 after_marker Bad n reading = Err (BadMarker n)
 
 -- line n
-unfoldable pub step : ℕ → List ℕ → Reading → Result Reading KernelFault
-step n line reading = if is_marker line then after_marker (marker_of line) n reading else Ok (after_plain line reading reading.current)
+unfoldable pub step : Dialect → ℕ → List ℕ → Reading → Result Reading KernelFault
+step dialect n line reading = if is_marker line then after_marker (marker_of dialect line) n reading else Ok (after_plain line reading reading.current)
 
 abbrev pub then_read : (Reading → Result (List NamedBody) KernelFault) → Result Reading KernelFault → Result (List NamedBody) KernelFault
 then_read next (Ok reading) = next reading
@@ -61,13 +63,21 @@ finished before None = Ok before
 finished before (Some body) = Err (BadMarker body.line)
 
 -- the lines from line n on
-unfoldable pub read_from : ℕ → List (List ℕ) → Reading → Result (List NamedBody) KernelFault
-read_from n [] reading = finished reading.closed reading.current
-read_from n (line ∷ rest) reading = then_read (read_from (one_more n) rest) (step n line reading)
+unfoldable pub read_from : Dialect → ℕ → List (List ℕ) → Reading → Result (List NamedBody) KernelFault
+read_from dialect n [] reading = finished reading.closed reading.current
+read_from dialect n (line ∷ rest) reading = then_read (read_from dialect (one_more n) rest) (step dialect n line reading)
 
--- the bodies of a kernel file, or its first line at fault
+-- the bodies of a kernel file of this dialect, or its first line at fault
+abbrev pub bodies_in : Dialect → List ℕ → Result (List NamedBody) KernelFault
+bodies_in dialect bytes = read_from dialect 1 (lines bytes) nothing
+
+-- the same of a kernel file of a plain text
 unfoldable pub kernel_file : List ℕ → Result (List NamedBody) KernelFault
-kernel_file bytes = read_from 1 (lines bytes) nothing
+kernel_file bytes = bodies_in Plain bytes
+
+-- the same of a kernel file of a program text
+unfoldable pub program_file : List ℕ → Result (List NamedBody) KernelFault
+program_file bytes = bodies_in Program bytes
 
 abbrev pub is_open_body : Option OpenBody → Bool
 is_open_body None = true

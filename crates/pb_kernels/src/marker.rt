@@ -1,9 +1,9 @@
 ghost use Rattle.std.specs.Prelude.{◌≡◌, ◌≤◌, length};
 ghost use Rattle.std.specs.List.{prefix_len};
 ghost use Rattle.pb_text.specs.Lexemes.{is_blank, begins_word, goes_on_word};
-ghost use Rattle.pb_kernels.specs.Marks.{ends_marker, is_mark, begins_name, opening_of, kernel_of, marker_of, are_blank};
+ghost use Rattle.pb_kernels.specs.Marks.{ends_marker, is_mark, begins_name, opening_of, room_of, kernel_of, marker_of, are_blank};
 
-use crate::{KName, Kind, Name};
+use crate::{Dialect, KName, Kind, Name};
 
 /// What a line that begins with `/*@` is.
 #[derive(Clone, Copy)]
@@ -16,10 +16,10 @@ pub enum Marker {
     Bad,
 }
 
-/// What a line that begins with `/*@` is, with the line feed that ends it.
+/// What a line that begins with `/*@` is in a file of this dialect, with the line feed that ends it.
 #[tactic(auto, unfolding(crate::specs::Marks::marker_of))]
-pub fn marker_of(line: &[u8]) -> Marker
-    ensures { result ≡ marker_of line.now }
+pub fn marker_of(line: &[u8], dialect: Dialect) -> Marker
+    ensures { result ≡ marker_of dialect line.now }
 {
     if is_mark(b"/*@ end", line) {
         return Marker::Closing;
@@ -31,14 +31,14 @@ pub fn marker_of(line: &[u8]) -> Marker
         });
     }
     match line.strip_prefix(b"/*@ kernel ") {
-        Some(text) => kernel_of(text),
+        Some(text) => kernel_of(text, dialect),
         None => Marker::Bad,
     }
 }
 
 #[tactic(auto, unfolding(crate::specs::Marks::kernel_of))]
-fn kernel_of(text: &[u8]) -> Marker
-    ensures { result ≡ kernel_of text.now }
+fn kernel_of(text: &[u8], dialect: Dialect) -> Marker
+    ensures { result ≡ kernel_of dialect text.now }
 {
     if let Some(text) = text.strip_prefix(b"k_") {
         opening_of(Kind::Compute, text)
@@ -49,7 +49,20 @@ fn kernel_of(text: &[u8]) -> Marker
     } else if let Some(text) = text.strip_prefix(b"take_") {
         opening_of(Kind::Take, text)
     } else {
-        Marker::Bad
+        room_of(text, dialect)
+    }
+}
+
+/// The opening of a body that gives room, which only program texts have.
+fn room_of(text: &[u8], dialect: Dialect) -> Marker
+    ensures { result ≡ room_of dialect text.now }
+{
+    match dialect {
+        Dialect::Plain => Marker::Bad,
+        Dialect::Program => match text.strip_prefix(b"room_") {
+            Some(text) => opening_of(Kind::Room, text),
+            None => Marker::Bad,
+        },
     }
 }
 

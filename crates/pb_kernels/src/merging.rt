@@ -37,8 +37,9 @@ fn merged(alloc: Global, tree: &CTree, file: &KernelFile) -> Result<Bodies, Kern
     }
 }
 
-/// The bodies of these functions in this order, and the file's prelude.
-fn bodies_of(alloc: Global, functions: &[KName], file: &KernelFile) -> Result<Bodies, NoMemory>
+/// The bodies of these functions in this order, and the file's prelude. A body that the file lacks is empty. The only error
+/// is want of memory.
+pub fn bodies_of(alloc: Global, functions: &[KName], file: &KernelFile) -> Result<Bodies, NoMemory>
     ensures prelude { IfOk result (λ bodies. bodies.prelude ≡ body_of prelude_name file.now) }
     ensures list { IfOk result (λ bodies. bodies.list.items ≡ bodies_of functions.now file.now) }
 {

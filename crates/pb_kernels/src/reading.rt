@@ -2,7 +2,7 @@ ghost use Rattle.std.specs.Prelude.{◌≡◌, ◌++◌, [], ◌∷◌, Ok, true
 ghost use Rattle.pb_ctree.specs.Bodies.{is_rest, is_marker, is_body};
 
 use crate::marker::{Marker, marker_of};
-use crate::{Body, KName, KernelFault, KernelFile, NamedBody};
+use crate::{Body, Dialect, KName, KernelFault, KernelFile, NamedBody};
 use std::alloc::{AllocError, Global};
 use std::marker::Model;
 
@@ -71,17 +71,23 @@ impl Reading {
         }
     }
 
-    /// Reads the line with this number.
+    /// Reads the line with this number of a file of this dialect.
     #[tactic(auto, unfolding(crate::specs::Files::step))]
-    pub fn read(&mut self, alloc: Global, line: &[u8], number: u32) -> Result<(), KernelFault>
+    pub fn read(
+        &mut self,
+        alloc: Global,
+        line: &[u8],
+        dialect: Dialect,
+        number: u32,
+    ) -> Result<(), KernelFault>
         requires body { is_open_body self.old.current ≡ true }
         requires fresh { is_open_new self.old.closed self.old.current ≡ true }
-        ensures step { Moves (step number line.now self.old) self.new result }
+        ensures step { Moves (step dialect number line.now self.old) self.new result }
         ensures body { OnOk result (is_rest false line.now ≡ true → is_open_body self.new.current ≡ true) }
         ensures fresh { OnOk result (is_open_new self.new.closed self.new.current ≡ true) }
     {
         if line.starts_with(b"/*@") {
-            self.mark(alloc, marker_of(line), number)
+            self.mark(alloc, marker_of(line, dialect), number)
         } else {
             self.pass(line)
         }
