@@ -1,8 +1,9 @@
 //! Kernel files: the bodies of a text's kernel functions, between marker lines, and their place in the text.
 //!
 //! `read_kernels` takes the bytes of a file and gives its bodies by name, or the first line at fault; `read_bodies` does the
-//! same in each dialect. `merge` puts them where a tree's text has its functions. `specs/` has the format: `Marks` (what a marker is), `Format` (what a file is),
-//! `Files` (what its lines are one by one, up to the first at fault) and `Merges` (which bodies a text gets).
+//! same in each dialect. `merge` puts them where a tree's text has its functions. `specs/` has the format: `Marks` (what a
+//! marker is), `Format` (what a file is), `Files` (what its lines are one by one, up to the first at fault) and `Merges`
+//! (which bodies a text gets).
 #![tactic(auto)]
 
 mod dialect;

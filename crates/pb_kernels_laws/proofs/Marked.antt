@@ -12,6 +12,7 @@ use Rattle.pb_ctree.specs.declared.kernel.Kind.{Kind}
 use Rattle.pb_ctree.specs.declared.kernel.Kind.TheVariants.{Compute, Choice, Make, Take}
 use Rattle.pb_ctree.specs.Frame.{kernel_letter}
 use Rattle.pb_ctree.specs.Functions.{named, kind_of}
+use Rattle.pb_kernels.specs.declared.dialect.Dialect.TheVariants.{Plain}
 use Rattle.pb_kernels.specs.declared.marker.Marker.{Marker}
 use Rattle.pb_kernels.specs.declared.marker.Marker.TheVariants.{Opening, Closing, Bad}
 use Rattle.pb_kernels.specs.Marks.{prelude_name, ends_marker, begins_name, opening_of, kernel_of, marker_of}
@@ -93,23 +94,23 @@ mark_line name = P.line 0 (P.joined (codes "/*@ kernel " ∷ name ∷ codes " */
 opens_line : (kind : Kind) (w : List ℕ) → is_name w ≡ true → opening_of kind ((w ++ codes " */") ++ 10 ∷ []) ≡ Opening (named kind w)
 opens_line kind w h = ap (opening_of kind) (append_assoc w (codes " */") (10 ∷ [])) ∙ opens kind w h
 
-pub make_marked : (w : List ℕ) → is_name w ≡ true → marker_of (mark_line (codes "make_" ++ w)) ≡ Opening (named Make w)
+pub make_marked : (w : List ℕ) → is_name w ≡ true → marker_of Plain (mark_line (codes "make_" ++ w)) ≡ Opening (named Make w)
 unfolding marker_of kernel_of
 make_marked w h = opens_line Make w h
 
-pub take_marked : (w : List ℕ) → is_name w ≡ true → marker_of (mark_line (codes "take_" ++ w)) ≡ Opening (named Take w)
+pub take_marked : (w : List ℕ) → is_name w ≡ true → marker_of Plain (mark_line (codes "take_" ++ w)) ≡ Opening (named Take w)
 unfolding marker_of kernel_of
 take_marked w h = opens_line Take w h
 
-pub kernel_marked : (what : KernelKind) (w : List ℕ) → is_name w ≡ true → marker_of (mark_line (kernel_letter what ++ w)) ≡ Opening (named (kind_of what) w)
+pub kernel_marked : (what : KernelKind) (w : List ℕ) → is_name w ≡ true → marker_of Plain (mark_line (kernel_letter what ++ w)) ≡ Opening (named (kind_of what) w)
 unfolding marker_of kernel_of
 kernel_marked kernel.Compute w h = opens_line Compute w h
 kernel_marked kernel.Choice w h = opens_line Choice w h
 
-pub prelude_marked : marker_of (P.line 0 (codes "/*@ prelude */")) ≡ Opening prelude_name
+pub prelude_marked : marker_of Plain (P.line 0 (codes "/*@ prelude */")) ≡ Opening prelude_name
 unfolding marker_of ends_marker
 prelude_marked = refl
 
-pub end_marked : marker_of (P.line 0 (codes "/*@ end */")) ≡ Closing
+pub end_marked : marker_of Plain (P.line 0 (codes "/*@ end */")) ≡ Closing
 unfolding marker_of ends_marker
 end_marked = refl

@@ -6,6 +6,7 @@ use Rattle.pb_ctree.specs.declared.tree.CTree.{CTree}
 use Rattle.pb_ctree.specs.Bodies.{is_body}
 use Rattle.pb_ctree.specs.Functions.{functions_of}
 use Rattle.pb_ctree.specs.Texts.{text, Spells}
+use Rattle.pb_kernels.specs.declared.dialect.Dialect.TheVariants.{Plain}
 use Rattle.pb_kernels.specs.declared.fault.KernelFault.{KernelFault}
 use Rattle.pb_kernels.specs.declared.fault.KernelFault.TheVariants.{NoMemory}
 use Rattle.pb_kernels.specs.declared.file.NamedBody.{NamedBody}
@@ -22,12 +23,13 @@ use Rattle.pb_kernels_laws.proofs.Written.{text_is_file}
 
 text_read : (tree : CTree) (bodies : Bodies) (bytes : List ℕ) → is_body bodies.prelude ≡ true → All (λ body. is_body body ≡ true) bodies.list.items → Spells tree bodies bytes
     → kernel_file bytes ≡ Ok (kernels_of tree bodies)
+unfolding kernel_file
 text_read tree bodies bytes one each spells =
     let p = program_of tree.local in
     let list = kernels_of tree bodies in
-    let file : IsFile (lines bytes) list =
-    subst (λ (ls : List (List ℕ)). IsFile ls list) (sym (spelled_lines tree bodies bytes one each spells)) (text_is_file p bodies.prelude bodies.list.items spells.made.made spells.many one each) in
-    (reads_the_format bytes list).1 (file, bodies_distinct p bodies.prelude bodies.list.items spells.made.made spells.many)
+    let file : IsFile Plain (lines bytes) list =
+    subst (λ (ls : List (List ℕ)). IsFile Plain ls list) (sym (spelled_lines tree bodies bytes one each spells)) (text_is_file p bodies.prelude bodies.list.items spells.made.made spells.many one each) in
+    (reads_the_format Plain bytes list).1 (file, bodies_distinct p bodies.prelude bodies.list.items spells.made.made spells.many)
 
 -- ---- what may be answered
 

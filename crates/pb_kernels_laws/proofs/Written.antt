@@ -25,6 +25,7 @@ use Rattle.pb_ctree.specs.Spelling.{spelled_all}
 use Rattle.pb_ctree.specs.Texts.{line_text}
 use Rattle.pb_ctree_laws.specs.Laws.{whole}
 use Rattle.pb_ctree_laws.proofs.Bodies.{bodies_are_lines}
+use Rattle.pb_kernels.specs.declared.dialect.Dialect.TheVariants.{Plain}
 use Rattle.pb_kernels.specs.declared.file.NamedBody.{NamedBody}
 use Rattle.pb_kernels.specs.declared.marker.Marker.TheVariants.{Opening}
 use Rattle.pb_kernels.specs.Format.{IsBody, IsFile}
@@ -39,15 +40,15 @@ use Rattle.pb_kernels_laws.proofs.Stated.{ArePlain, plain_both, statements_plain
 
 -- in front of a file's lines these add these bodies to the file
 abbrev Adds : Program → List Line → List NamedBody → Type 0
-Adds p ls list = (rest : List (List ℕ)) (tail : List NamedBody) → IsFile rest tail → IsFile (map (line_text p) ls ++ rest) (list ++ tail)
+Adds p ls list = (rest : List (List ℕ)) (tail : List NamedBody) → IsFile Plain rest tail → IsFile Plain (map (line_text p) ls ++ rest) (list ++ tail)
 
 seam : (p : Program) (a b : List Line) (rest : List (List ℕ)) → map (line_text p) a ++ (map (line_text p) b ++ rest) ≡ map (line_text p) (a ++ b) ++ rest
 seam p a b rest = sym (append_assoc (map (line_text p) a) (map (line_text p) b) rest) ∙ ap (λ x. x ++ rest) (sym (map-append (line_text p) a b))
 
 adds_both : (p : Program) (a b : List Line) (x y : List NamedBody) → Adds p a x → Adds p b y → Adds p (a ++ b) (x ++ y)
 adds_both p a b x y f g = λ rest tail file.
-    subst (λ (ls : List (List ℕ)). IsFile ls ((x ++ y) ++ tail)) (seam p a b rest)
-    (subst (λ (list : List NamedBody). IsFile (map (line_text p) a ++ (map (line_text p) b ++ rest)) list) (sym (append_assoc x y tail))
+    subst (λ (ls : List (List ℕ)). IsFile Plain ls ((x ++ y) ++ tail)) (seam p a b rest)
+    (subst (λ (list : List NamedBody). IsFile Plain (map (line_text p) a ++ (map (line_text p) b ++ rest)) list) (sym (append_assoc x y tail))
     (f (map (line_text p) b ++ rest) (y ++ tail) (g rest tail file)))
 
 adds_none : (p : Program) (ls : List Line) → ArePlain p ls → Adds p ls []
@@ -57,7 +58,7 @@ adds_none p (l ∷ ls) plain = λ rest tail file. F.pass (line_text p l) plain.0
 -- behind lines that add bodies, lines that add none
 adds_behind : (p : Program) (a b : List Line) (x : List NamedBody) → Adds p a x → ArePlain p b → Adds p (a ++ b) x
 adds_behind p a b x f plain = λ rest tail file.
-    subst (λ (ls : List (List ℕ)). IsFile ls (x ++ tail)) (seam p a b rest) (f (map (line_text p) b ++ rest) tail (adds_none p b plain rest tail file))
+    subst (λ (ls : List (List ℕ)). IsFile Plain ls (x ++ tail)) (seam p a b rest) (f (map (line_text p) b ++ rest) tail (adds_none p b plain rest tail file))
 
 -- ---- bodies
 
@@ -78,30 +79,30 @@ raw_lines ls = map (λ l. line 0 (raw l) (not (is_marker l))) ls
 abbrev IsPlainText : List ℕ → Type 0
 IsPlainText l = is_marker l ≡ false
 
-lines_inside : (p : Program) (ls rest : List (List ℕ)) → All (λ l. is_marker l ≡ false) ls → IsBody rest (map (line_text p) (raw_lines ls) ++ (end_text ∷ rest)) (whole ls)
+lines_inside : (p : Program) (ls rest : List (List ℕ)) → All (λ l. is_marker l ≡ false) ls → IsBody Plain rest (map (line_text p) (raw_lines ls) ++ (end_text ∷ rest)) (whole ls)
 lines_inside p [] rest plain = F.close end_text refl end_marked
 lines_inside p (l ∷ ls) rest plain =
-    subst (λ (bytes : List ℕ). IsBody rest ((l ++ 10 ∷ []) ∷ (map (line_text p) (raw_lines ls) ++ (end_text ∷ rest))) bytes) (append_assoc l (10 ∷ []) (whole ls))
+    subst (λ (bytes : List ℕ). IsBody Plain rest ((l ++ 10 ∷ []) ∷ (map (line_text p) (raw_lines ls) ++ (end_text ∷ rest))) bytes) (append_assoc l (10 ∷ []) (whole ls))
     (F.more (l ++ 10 ∷ []) (feed_plain l (All-head IsPlainText l ls plain)) (lines_inside p ls rest (All-tail IsPlainText l ls plain)))
 
-body_inside : (p : Program) (body : List ℕ) (rest : List (List ℕ)) → is_body body ≡ true → IsBody rest (map (line_text p) (body_lines body) ++ (end_text ∷ rest)) body
+body_inside : (p : Program) (body : List ℕ) (rest : List (List ℕ)) → is_body body ≡ true → IsBody Plain rest (map (line_text p) (body_lines body) ++ (end_text ∷ rest)) body
 body_inside p body rest e =
     let is = (bodies_are_lines body).0 e in
-    subst (λ (bytes : List ℕ). IsBody rest (map (line_text p) (body_lines body) ++ (end_text ∷ rest)) bytes) is.0 (lines_inside p (lines_of body) rest is.1)
+    subst (λ (bytes : List ℕ). IsBody Plain rest (map (line_text p) (body_lines body) ++ (end_text ∷ rest)) bytes) is.0 (lines_inside p (lines_of body) rest is.1)
 
 -- the line that opens a body, the body, the line that closes it, and lines that are no markers
-body_added : (p : Program) (opens : List ℕ) (name : KName) (body : List ℕ) (after : List Line) → is_marker (P.line 0 opens) ≡ true → marker_of (P.line 0 opens) ≡ Opening name
+body_added : (p : Program) (opens : List ℕ) (name : KName) (body : List ℕ) (after : List Line) → is_marker (P.line 0 opens) ≡ true → marker_of Plain (P.line 0 opens) ≡ Opening name
     → is_body body ≡ true → ArePlain p after → Adds p (words 0 opens ∷ (body_lines body ++ (words 0 (codes "/*@ end */") ∷ after))) (record { name = name; body = body } ∷ [])
 body_added p opens name body after marker opening e plain = λ rest tail file.
     let behind = map (line_text p) after ++ rest in
     let lines : map (line_text p) (body_lines body) ++ (end_text ∷ behind) ≡ map (line_text p) (body_lines body ++ (words 0 (codes "/*@ end */") ∷ after)) ++ rest =
     seam p (body_lines body) (words 0 (codes "/*@ end */") ∷ after) rest in
-    F.body (P.line 0 opens) name marker opening (subst (λ (ls : List (List ℕ)). IsBody behind ls body) lines (body_inside p body behind e)) (adds_none p after plain rest tail file)
+    F.body (P.line 0 opens) name marker opening (subst (λ (ls : List (List ℕ)). IsBody Plain behind ls body) lines (body_inside p body behind e)) (adds_none p after plain rest tail file)
 
 -- ---- functions
 
 function_added : (p : Program) (head : List ℕ) (kept : Bool) (name : List ℕ) (function : KName) (body : List ℕ) → is_marker (P.line 0 head) ≡ false
-    → marker_of (mark_line name) ≡ Opening function → is_body body ≡ true → Adds p (function_lines head kept name body) (record { name = function; body = body } ∷ [])
+    → marker_of Plain (mark_line name) ≡ Opening function → is_body body ≡ true → Adds p (function_lines head kept name body) (record { name = function; body = body } ∷ [])
 function_added p head kept name function body plain opening e = λ rest tail file.
     F.pass (P.line 0 head) plain
     (F.pass (P.line 0 (codes "{")) refl (body_added p (P.joined (codes "/*@ kernel " ∷ name ∷ codes " */" ∷ [])) function body (words 0 (codes "}") ∷ []) refl opening e (refl, tt) rest tail file))
@@ -226,9 +227,9 @@ text_added p prelude bodies made many one each =
     (main_plain p)
 
 pub text_is_file : (p : Program) (prelude : List ℕ) (bodies : List (List ℕ)) → IsWellMade p → length bodies ≡ length (functions_of p) → is_body prelude ≡ true → All (λ b. is_body b ≡ true) bodies
-    → IsFile (map (line_text p) (text_lines p prelude bodies)) (bodies_by_name p prelude bodies)
+    → IsFile Plain (map (line_text p) (text_lines p prelude bodies)) (bodies_by_name p prelude bodies)
 text_is_file p prelude bodies made many one each =
     let ls = map (line_text p) (text_lines p prelude bodies) in
     let list = bodies_by_name p prelude bodies in
-    subst (λ (xs : List (List ℕ)). IsFile xs list) (append-nil ls)
-    (subst (λ (x : List NamedBody). IsFile (ls ++ []) x) (append-nil list) (text_added p prelude bodies made many one each [] [] F.done))
+    subst (λ (xs : List (List ℕ)). IsFile Plain xs list) (append-nil ls)
+    (subst (λ (x : List NamedBody). IsFile Plain (ls ++ []) x) (append-nil list) (text_added p prelude bodies made many one each [] [] F.done))
