@@ -14,8 +14,8 @@ use Rattle.pb_ctree.specs.Texts.{text_of}
 use Rattle.pb_cprint_lines.specs.Printed.{bytes}
 use Rattle.pb_cprint.specs.Written.{branch_item, is_last}
 use Rattle.pb_cprint.proofs.Texts.{text_append, both}
-use Rattle.pb_typed_types.specs.declared.types.Carried.{Carried}
-use Rattle.pb_typed_types.specs.declared.types.Carried.TheVariants.{Plain, Fixed, Open}
+use Rattle.pb_types.specs.declared.carried.Carried.{Carried}
+use Rattle.pb_types.specs.declared.carried.Carried.TheVariants.{Words, Fixed, Open}
 use Rattle.pb_typed.specs.Carrying.{carried_at}
 use Rattle.pb_typed.specs.Pieces.{Piece, same, instead, added, erased, erased_text, as_they_are, further}
 use Rattle.pb_typed.specs.Hooks.{choose_hook}
@@ -41,7 +41,7 @@ joins p xs ys ls ms first rest =
 send_left : (p : Program) (d label : ℕ) (to : Peer) (a b w : Bool) (c : Carried) (x h y : List ℕ)
     → erased_text p ((if w then instead d (makes label) x ∷ made_checks c p d label else []) ++ added d h ∷ instead d (mpi_send label to) y ∷ [])
     ≡ text_of p ((if w then line d (makes label) a ∷ [] else []) ++ line d (mpi_send label to) b ∷ [])
-send_left p d label to a b true Plain x h y = refl
+send_left p d label to a b true Words x h y = refl
 send_left p d label to a b true (Fixed element number) x h y = refl
 send_left p d label to a b true (Open element) x h y = refl
 send_left p d label to a b false c x h y = refl
@@ -49,25 +49,25 @@ send_left p d label to a b false c x h y = refl
 recv_left : (p : Program) (d label : ℕ) (from : Peer) (a b w : Bool) (c : Carried) (x h y : List ℕ)
     → erased_text p (rooms c p d label from ++ instead d (mpi_recv label from) x ∷ arrivals c p d label ++ added d h ∷ (if w then instead d (takes label incoming) y ∷ [] else []))
     ≡ text_of p (line d (mpi_recv label from) a ∷ (if w then line d (takes label incoming) b ∷ [] else []))
-recv_left p d label from a b true Plain x h y = refl
+recv_left p d label from a b true Words x h y = refl
 recv_left p d label from a b true (Fixed element number) x h y = refl
 recv_left p d label from a b true (Open element) x h y = refl
-recv_left p d label from a b false Plain x h y = refl
+recv_left p d label from a b false Words x h y = refl
 recv_left p d label from a b false (Fixed element number) x h y = refl
 recv_left p d label from a b false (Open element) x h y = refl
 
 broadcast_left : (p : Program) (d label : ℕ) (root : Peer) (s : Scope) (t : List Carried) (c : Carried) → carried_at t label ≡ c → erased_text p (typed p t d (broadcast label root)) ≡ text_of p (spelled p d s (broadcast label root))
-broadcast_left p d label root s t Plain is = rw is refl
+broadcast_left p d label root s t Words is = rw is refl
 broadcast_left p d label root s t (Fixed element number) is = rw is refl
 broadcast_left p d label root s t (Open element) is = rw is refl
 
 reduce_left : (p : Program) (d label : ℕ) (op : Op) (root : Peer) (s : Scope) (t : List Carried) (c : Carried) → carried_at t label ≡ c → erased_text p (typed p t d (reduce label op root)) ≡ text_of p (spelled p d s (reduce label op root))
-reduce_left p d label op root s t Plain is = rw is refl
+reduce_left p d label op root s t Words is = rw is refl
 reduce_left p d label op root s t (Fixed element number) is = rw is refl
 reduce_left p d label op root s t (Open element) is = rw is refl
 
 allreduce_left : (p : Program) (d label : ℕ) (op : Op) (s : Scope) (t : List Carried) (c : Carried) → carried_at t label ≡ c → erased_text p (typed p t d (allreduce label op)) ≡ text_of p (spelled p d s (allreduce label op))
-allreduce_left p d label op s t Plain is = rw is refl
+allreduce_left p d label op s t Words is = rw is refl
 allreduce_left p d label op s t (Fixed element number) is = rw is refl
 allreduce_left p d label op s t (Open element) is = rw is refl
 

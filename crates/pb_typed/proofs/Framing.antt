@@ -23,8 +23,8 @@ use Rattle.pb_ctree.specs.Spelling.{spelled_all}
 use Rattle.pb_ctree.specs.Texts.{text_of, text, line_text, Spells}
 use Rattle.pb_cprint.proofs.Texts.{text_append, both}
 use Rattle.pb_types.specs.declared.element.Element.{Element}
-use Rattle.pb_typed_types.specs.declared.types.Carried.{Carried}
-use Rattle.pb_typed_types.specs.declared.types.Carried.TheVariants.{Plain, Fixed, Open}
+use Rattle.pb_types.specs.declared.carried.Carried.{Carried}
+use Rattle.pb_types.specs.declared.carried.Carried.TheVariants.{Words, Fixed, Open}
 use Rattle.pb_typed_types.specs.declared.types.Constant.{Constant}
 use Rattle.pb_typed_types.specs.declared.types.Types.{Types}
 use Rattle.pb_typed.specs.Frame.{first_carried, others_carried, type_row, type_rows, trace_lines, is_open, count_lines, constant_lines, own_lines, owns, head_pieces, headed, room_pieces, make_pieces, take_pieces, label_pieces, behind_label, functions_after, main_pieces, program_pieces, typed_make_head, typed_take_head}
@@ -46,7 +46,7 @@ rows_left : (p : Program) (ls : List CoreLabel) (types : List Carried) → erase
 rows_left p [] types = refl
 rows_left p (l ∷ ls) types = nothing_left p (type_row (first_carried types) l) (type_rows ls (others_carried types)) (row_left (first_carried types)) (rows_left p ls (others_carried types)) where
   row_left : (c : Carried) → erased_text p (type_row c l) ≡ []
-  row_left Plain = refl
+  row_left Words = refl
   row_left (Fixed element number) = refl
   row_left (Open element) = refl
 
@@ -54,7 +54,7 @@ owns_left : (p : Program) (ls : List CoreLabel) (types : List Carried) → erase
 owns_left p [] types = refl
 owns_left p (l ∷ ls) types = nothing_left p (own_lines (first_carried types) l) (owns ls (others_carried types)) (own_left (first_carried types)) (owns_left p ls (others_carried types)) where
   own_left : (c : Carried) → erased_text p (own_lines c l) ≡ []
-  own_left Plain = refl
+  own_left Words = refl
   own_left (Fixed element number) = refl
   own_left (Open element) = refl
 
@@ -120,7 +120,7 @@ two_left p c l a b plain rest is =
     ∙ ap (λ bs. text_of p (words_lines l bs)) (sym is)
 
 label_left : (p : Program) (c : Carried) (l : CoreLabel) (bodies rest : List (List ℕ)) → erased_text p (label_pieces c l bodies) ≡ text_of p (words_lines l (plain_label c bodies rest))
-label_left p Plain l bodies rest = two_left p Plain l (first_body bodies) (first_body (other_bodies bodies)) (plain_label Plain bodies rest) rest refl
+label_left p Words l bodies rest = two_left p Words l (first_body bodies) (first_body (other_bodies bodies)) (plain_label Words bodies rest) rest refl
 label_left p (Fixed element number) l bodies rest = two_left p (Fixed element number) l (first_body bodies) (first_body (other_bodies bodies)) (plain_label (Fixed element number) bodies rest) rest refl
 label_left p (Open element) l bodies rest =
     let c = Open element in
@@ -133,7 +133,7 @@ label_left p (Open element) l bodies rest =
 
 -- behind a label's plain bodies stand those of the others
 behind_plain : (c : Carried) (bodies rest : List (List ℕ)) → other_bodies (other_bodies (plain_label c bodies rest)) ≡ rest
-behind_plain Plain bodies rest = refl
+behind_plain Words bodies rest = refl
 behind_plain (Fixed element number) bodies rest = refl
 behind_plain (Open element) bodies rest = refl
 
@@ -197,9 +197,9 @@ erased_is_plain p types constants prelude bodies =
 -- ---- as many bodies as functions
 
 length-behind : (c : Carried) (l : CoreLabel) (n : ℕ) (bodies : List (List ℕ)) → length bodies ≡ length (label_functions c l) + n → length (behind_label c bodies) ≡ n
-length-behind Plain l n [] is = absurd (omega (arith, is))
-length-behind Plain l n (a ∷ []) is = absurd (omega (arith, is))
-length-behind Plain l n (a ∷ b ∷ bs) is = omega (arith, is)
+length-behind Words l n [] is = absurd (omega (arith, is))
+length-behind Words l n (a ∷ []) is = absurd (omega (arith, is))
+length-behind Words l n (a ∷ b ∷ bs) is = omega (arith, is)
 length-behind (Fixed element number) l n [] is = absurd (omega (arith, is))
 length-behind (Fixed element number) l n (a ∷ []) is = absurd (omega (arith, is))
 length-behind (Fixed element number) l n (a ∷ b ∷ bs) is = omega (arith, is)
@@ -209,7 +209,7 @@ length-behind (Open element) l n (a ∷ b ∷ []) is = absurd (omega (arith, is)
 length-behind (Open element) l n (a ∷ b ∷ c ∷ bs) is = omega (arith, is)
 
 length-label : (c : Carried) (bodies rest : List (List ℕ)) → length (plain_label c bodies rest) ≡ suc (suc (length rest))
-length-label Plain bodies rest = refl
+length-label Words bodies rest = refl
 length-label (Fixed element number) bodies rest = refl
 length-label (Open element) bodies rest = refl
 

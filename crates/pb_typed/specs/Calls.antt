@@ -6,8 +6,8 @@ use Rattle.pb_local.specs.Pieces.{joined}
 use Rattle.pb_local.specs.Tree.{Program}
 use Rattle.pb_ctree.specs.Small.{Side, outgoing, incoming, lin_text, peer_text, root_text, op_text}
 use Rattle.pb_types.specs.declared.element.Element.{Element}
-use Rattle.pb_typed_types.specs.declared.types.Carried.{Carried}
-use Rattle.pb_typed_types.specs.declared.types.Carried.TheVariants.{Plain, Fixed, Open}
+use Rattle.pb_types.specs.declared.carried.Carried.{Carried}
+use Rattle.pb_types.specs.declared.carried.Carried.TheVariants.{Words, Fixed, Open}
 use Rattle.pb_types.specs.Elements.{c_name, mpi_name}
 use Rattle.pb_typed.specs.Carrying.{name_at, carried_at, buffer_of, data_text, shared}
 
@@ -20,13 +20,13 @@ end_text (Some e) = joined (decimal e.role ∷ codes ", " ∷ lin_text e.at ∷ 
 
 -- what comes behind the other end in a call of make
 abbrev pub make_rest : Carried → Program → ℕ → List ℕ
-make_rest Plain p label = joined (codes ", " ∷ buffer_of Plain p label outgoing ∷ codes ");" ∷ [])
+make_rest Words p label = joined (codes ", " ∷ buffer_of Words p label outgoing ∷ codes ");" ∷ [])
 make_rest (Fixed element number) p label = joined (codes ", s_" ∷ name_at p label ∷ codes ");" ∷ [])
 make_rest (Open element) p label = joined (codes ", &n_" ∷ name_at p label ∷ codes ");" ∷ [])
 
 -- the kernels' own memory is what make gives
 abbrev pub make_front : Carried → Program → ℕ → List ℕ
-make_front Plain p label = joined (codes "make_" ∷ name_at p label ∷ codes "(N, R, I, " ∷ [])
+make_front Words p label = joined (codes "make_" ∷ name_at p label ∷ codes "(N, R, I, " ∷ [])
 make_front (Fixed element number) p label = joined (codes "make_" ∷ name_at p label ∷ codes "(N, R, I, " ∷ [])
 make_front (Open element) p label = joined (codes "s_" ∷ name_at p label ∷ codes " = make_" ∷ name_at p label ∷ codes "(N, R, I, " ∷ [])
 
@@ -41,7 +41,7 @@ root_make_text p types label root to =
 
 -- what comes behind the other end in a call of take
 abbrev pub take_rest : Carried → Program → ℕ → Side → List ℕ
-take_rest Plain p label side = joined (codes ", " ∷ buffer_of Plain p label side ∷ codes ");" ∷ [])
+take_rest Words p label side = joined (codes ", " ∷ buffer_of Words p label side ∷ codes ");" ∷ [])
 take_rest (Fixed element number) p label side = joined (codes ", " ∷ buffer_of (Fixed element number) p label side ∷ codes ");" ∷ [])
 take_rest (Open element) p label side = joined (codes ", t_" ∷ name_at p label ∷ codes ", m_" ∷ name_at p label ∷ codes ");" ∷ [])
 
@@ -102,7 +102,7 @@ send_text p types label to =
 
 -- how long a message was is asked of its status
 abbrev pub status_text : Carried → List ℕ
-status_text Plain = codes ", MPI_COMM_WORLD, MPI_STATUS_IGNORE);"
+status_text Words = codes ", MPI_COMM_WORLD, MPI_STATUS_IGNORE);"
 status_text (Fixed element number) = codes ", MPI_COMM_WORLD, MPI_STATUS_IGNORE);"
 status_text (Open element) = codes ", MPI_COMM_WORLD, &st);"
 

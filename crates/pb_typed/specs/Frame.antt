@@ -11,10 +11,11 @@ use Rattle.pb_ctree.specs.Frame.{range_text, element_text, role_lines, label_lin
 use Rattle.pb_ctree.specs.Functions.{has_words}
 use Rattle.pb_ctree.specs.Lines.{raw}
 use Rattle.pb_types.specs.declared.element.Element.{Element}
-use Rattle.pb_typed_types.specs.declared.types.Carried.{Carried}
-use Rattle.pb_typed_types.specs.declared.types.Carried.TheVariants.{Plain, Fixed, Open}
+use Rattle.pb_types.specs.declared.carried.Carried.{Carried}
+use Rattle.pb_types.specs.declared.carried.Carried.TheVariants.{Words, Fixed, Open}
 use Rattle.pb_typed_types.specs.declared.types.Constant.{Constant}
-use Rattle.pb_types.specs.Elements.{spelling, c_name}
+use Rattle.pb_types.specs.Elements.{c_name}
+use Rattle.pb_types.specs.Rows.{type_head}
 use Rattle.pb_typed.specs.Hooks.{start_hook, end_hook}
 use Rattle.pb_typed.specs.Pieces.{Piece, same, instead, added, as_they_are, further}
 use Rattle.pb_typed.specs.Statements.{typed_all}
@@ -27,21 +28,18 @@ as_it_is depth text = same depth (raw text)
 
 -- what a label of the table carries, and what those behind it do
 abbrev pub first_carried : List Carried → Carried
-first_carried [] = Plain
+first_carried [] = Words
 first_carried (c ∷ cs) = c
 
 abbrev pub others_carried : List Carried → List Carried
 others_carried [] = []
 others_carried (c ∷ cs) = cs
 
-abbrev pub type_text : List ℕ → Element → List ℕ → List ℕ
-type_text name element number = joined (codes "/* type " ∷ name ∷ codes " " ∷ spelling element ∷ codes "[" ∷ number ∷ codes "] */" ∷ [])
-
 -- a row for a label that has a type
 abbrev pub type_row : Carried → CoreLabel → List Piece
-type_row Plain l = []
-type_row (Fixed element number) l = added 0 (type_text l.name element (decimal number)) ∷ []
-type_row (Open element) l = added 0 (type_text l.name element []) ∷ []
+type_row Words l = []
+type_row (Fixed element number) l = added 0 (type_head l.name element ++ decimal number ++ codes "] */") ∷ []
+type_row (Open element) l = added 0 (type_head l.name element ++ codes "] */") ∷ []
 
 abbrev pub type_rows : List CoreLabel → List Carried → List Piece
 type_rows [] types = []
@@ -53,7 +51,7 @@ trace_lines =
     further 0 (codes "#ifdef PABBLE_TRACE" ∷ codes "#include <pabble_trace.h>" ∷ codes "#else" ∷ codes "#define PABBLE(...)" ∷ codes "#endif" ∷ [])
 
 abbrev pub is_open : Carried → Bool
-is_open Plain = false
+is_open Words = false
 is_open (Fixed element number) = false
 is_open (Open element) = true
 
@@ -76,7 +74,7 @@ constant_lines (c ∷ cs) = added 0 (joined (codes "enum { " ∷ c.name ∷ code
 
 -- the count and the buffers of a label, or its pointers and counts
 abbrev pub own_lines : Carried → CoreLabel → List Piece
-own_lines Plain l = []
+own_lines Words l = []
 own_lines (Fixed element number) l =
     added 0 (joined (codes "enum { n_" ∷ l.name ∷ codes " = " ∷ decimal number ∷ codes " };" ∷ []))
     ∷ added 0 (joined (codes "static " ∷ c_name element ∷ codes " s_" ∷ l.name ∷ codes "[n_" ∷ l.name ∷ codes "], t_" ∷ l.name ∷ codes "[n_" ∷ l.name ∷ codes "];" ∷ [])) ∷ []
@@ -112,7 +110,7 @@ abbrev pub from_end : List ℕ
 from_end = codes "(int32_t N, int32_t role, int32_t index, int32_t from_role, int32_t from_index, "
 
 abbrev pub typed_make_head : Carried → CoreLabel → List ℕ
-typed_make_head Plain l = joined (codes "static void make_" ∷ l.name ∷ to_end ∷ element_text l.payload ∷ codes " *v)" ∷ [])
+typed_make_head Words l = joined (codes "static void make_" ∷ l.name ∷ to_end ∷ element_text l.payload ∷ codes " *v)" ∷ [])
 typed_make_head (Fixed element number) l = joined (codes "static void make_" ∷ l.name ∷ to_end ∷ c_name element ∷ codes " *v)" ∷ [])
 typed_make_head (Open element) l = joined (codes "static const " ∷ c_name element ∷ codes " *make_" ∷ l.name ∷ to_end ∷ codes "int *count)" ∷ [])
 
@@ -120,7 +118,7 @@ abbrev pub room_head : Element → CoreLabel → List ℕ
 room_head element l = joined (codes "static " ∷ c_name element ∷ codes " *room_" ∷ l.name ∷ from_end ∷ codes "int *most)" ∷ [])
 
 abbrev pub typed_take_head : Carried → CoreLabel → List ℕ
-typed_take_head Plain l = joined (codes "static void take_" ∷ l.name ∷ from_end ∷ codes "const " ∷ element_text l.payload ∷ codes " *v)" ∷ [])
+typed_take_head Words l = joined (codes "static void take_" ∷ l.name ∷ from_end ∷ codes "const " ∷ element_text l.payload ∷ codes " *v)" ∷ [])
 typed_take_head (Fixed element number) l = joined (codes "static void take_" ∷ l.name ∷ from_end ∷ codes "const " ∷ c_name element ∷ codes " *v)" ∷ [])
 typed_take_head (Open element) l = joined (codes "static void take_" ∷ l.name ∷ from_end ∷ codes "const " ∷ c_name element ∷ codes " *v, int count)" ∷ [])
 
@@ -151,7 +149,7 @@ take_pieces c l body = headed (take_head l) (typed_take_head c l) (codes "take_"
 
 -- the functions of a label: its words are made and taken, or its elements, and the kernels' own memory gives room between the two
 abbrev pub label_pieces : Carried → CoreLabel → List (List ℕ) → List Piece
-label_pieces Plain l bodies = make_pieces Plain l (first_body bodies) ++ take_pieces Plain l (first_body (other_bodies bodies))
+label_pieces Words l bodies = make_pieces Words l (first_body bodies) ++ take_pieces Words l (first_body (other_bodies bodies))
 label_pieces (Fixed element number) l bodies =
     make_pieces (Fixed element number) l (first_body bodies) ++ take_pieces (Fixed element number) l (first_body (other_bodies bodies))
 label_pieces (Open element) l bodies =
@@ -161,7 +159,7 @@ label_pieces (Open element) l bodies =
 
 -- the bodies behind those of a label
 abbrev pub behind_label : Carried → List (List ℕ) → List (List ℕ)
-behind_label Plain bodies = other_bodies (other_bodies bodies)
+behind_label Words bodies = other_bodies (other_bodies bodies)
 behind_label (Fixed element number) bodies = other_bodies (other_bodies bodies)
 behind_label (Open element) bodies = other_bodies (other_bodies (other_bodies bodies))
 

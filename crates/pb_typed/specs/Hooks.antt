@@ -7,8 +7,8 @@ use Rattle.pb_local.specs.Pieces.{joined}
 use Rattle.pb_local.specs.Tables.{kernel_at}
 use Rattle.pb_local.specs.Tree.{Program}
 use Rattle.pb_ctree.specs.Small.{Side, outgoing, incoming, peer_text, root_text, buffer_text, count_of, payload_of}
-use Rattle.pb_typed_types.specs.declared.types.Carried.{Carried}
-use Rattle.pb_typed_types.specs.declared.types.Carried.TheVariants.{Plain, Fixed, Open}
+use Rattle.pb_types.specs.declared.carried.Carried.{Carried}
+use Rattle.pb_types.specs.declared.carried.Carried.TheVariants.{Words, Fixed, Open}
 use Rattle.pb_typed.specs.Carrying.{name_at, carried_at, buffer_of, count_at}
 
 abbrev pub start_hook : Program → List ℕ
@@ -40,7 +40,7 @@ bytes_data c p label side =
 
 -- what is recorded of a message: its words as they are, or words made of its bytes
 abbrev pub message_data : Carried → Program → ℕ → Side → List ℕ
-message_data Plain p label side =
+message_data Words p label side =
     joined (words_kind (payload_of p label) ∷ codes ", " ∷ decimal (count_of (payload_of p label)) ∷ codes ", " ∷ buffer_text (payload_of p label) side ∷ [])
 message_data (Fixed element number) p label side = bytes_data (Fixed element number) p label side
 message_data (Open element) p label side = bytes_data (Open element) p label side
@@ -68,7 +68,7 @@ words_there (Some root) number = joined (root_text root ∷ codes " ? " ∷ deci
 
 -- words as they are, or zeros
 abbrev pub joint_data : Carried → Program → ℕ → Option Peer → Side → List ℕ
-joint_data Plain p label root side =
+joint_data Words p label root side =
     joined (words_kind (payload_of p label) ∷ codes ", " ∷ words_there root (count_of (payload_of p label)) ∷ codes ", " ∷ buffer_text (payload_of p label) side ∷ [])
 joint_data (Fixed element number) p label root side = codes "zero, " ++ words_there root (count_of (payload_of p label))
 joint_data (Open element) p label root side = codes "zero, " ++ words_there root (count_of (payload_of p label))

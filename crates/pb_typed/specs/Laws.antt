@@ -4,7 +4,7 @@ use Rattle.pb_local.specs.Tree.{Program, program_of}
 use Rattle.pb_ctree.specs.declared.tree.CTree.{CTree}
 use Rattle.pb_ctree.specs.declared.body.Bodies.{Bodies}
 use Rattle.pb_ctree.specs.Texts.{text, Spells}
-use Rattle.pb_typed_types.specs.declared.types.Carried.{Carried}
+use Rattle.pb_types.specs.declared.carried.Carried.{Carried}
 use Rattle.pb_typed_types.specs.declared.types.Constant.{Constant}
 use Rattle.pb_typed_types.specs.declared.types.Types.{Types}
 use Rattle.pb_typed.specs.Frame.{program_pieces}

@@ -8,8 +8,8 @@ use Rattle.pb_ctree.specs.Rules.{is_wordy}
 use Rattle.pb_ctree.specs.Small.{outgoing, incoming}
 use Rattle.pb_ctree.specs.Spelling.{told_lines}
 use Rattle.pb_cprint.specs.Written.{branch_item, is_last}
-use Rattle.pb_typed_types.specs.declared.types.Carried.{Carried}
-use Rattle.pb_typed_types.specs.declared.types.Carried.TheVariants.{Plain, Fixed, Open}
+use Rattle.pb_types.specs.declared.carried.Carried.{Carried}
+use Rattle.pb_types.specs.declared.carried.Carried.TheVariants.{Words, Fixed, Open}
 use Rattle.pb_typed.specs.Carrying.{carried_at, shared}
 use Rattle.pb_typed.specs.Calls.{make_text, root_make_text, take_text, root_take_text, room_text, made_count, room_count, came_text, shared_room, shared_count, root_room, root_count, all_count, send_text, recv_text, bcast_text, reduce_text, allreduce_text}
 use Rattle.pb_typed.specs.Hooks.{run_hook, choose_hook, send_hook, recv_hook, barrier_enter, barrier_leave, enter_hook, leave_hook}
@@ -22,32 +22,32 @@ where_words p label pieces = if is_wordy p label then pieces else []
 -- ---- what the kernels' own memory takes beside the plain lines
 
 abbrev pub made_checks : Carried → Program → ℕ → ℕ → List Piece
-made_checks Plain p d label = []
+made_checks Words p d label = []
 made_checks (Fixed element number) p d label = []
 made_checks (Open element) p d label = added d (made_count p label) ∷ []
 
 abbrev pub rooms : Carried → Program → ℕ → ℕ → Peer → List Piece
-rooms Plain p d label from = []
+rooms Words p d label from = []
 rooms (Fixed element number) p d label from = []
 rooms (Open element) p d label from = added d (room_text p label (Some from)) ∷ added d (room_count p label) ∷ []
 
 abbrev pub arrivals : Carried → Program → ℕ → ℕ → List Piece
-arrivals Plain p d label = []
+arrivals Words p d label = []
 arrivals (Fixed element number) p d label = []
 arrivals (Open element) p d label = added d (came_text element p label) ∷ []
 
 abbrev pub shared_rooms : Carried → Program → ℕ → ℕ → Peer → List Piece
-shared_rooms Plain p d label root = []
+shared_rooms Words p d label root = []
 shared_rooms (Fixed element number) p d label root = []
 shared_rooms (Open element) p d label root = added d (shared_room element p label root) ∷ added d (shared_count p label root) ∷ []
 
 abbrev pub root_rooms : Carried → Program → ℕ → ℕ → Peer → List Piece
-root_rooms Plain p d label root = []
+root_rooms Words p d label root = []
 root_rooms (Fixed element number) p d label root = []
 root_rooms (Open element) p d label root = added d (root_room p label root) ∷ added d (root_count p label root) ∷ []
 
 abbrev pub all_rooms : Carried → Program → ℕ → ℕ → List Piece
-all_rooms Plain p d label = []
+all_rooms Words p d label = []
 all_rooms (Fixed element number) p d label = []
 all_rooms (Open element) p d label = added d (room_text p label None) ∷ added d (all_count p label) ∷ []
 

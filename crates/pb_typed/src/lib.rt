@@ -2,6 +2,8 @@
 //! are erased.
 #![tactic(auto)]
 
+mod function;
 mod laws;
 
+pub use function::{Function, Role};
 pub use laws::{erased_is_plain, erasure_spells};

@@ -99,9 +99,17 @@ pub fn push_shared_take(
     ensures { OnOk result (out.new.items ≡ out.old.items ++ line depth (take_text (program_of local.now) types.now label (Some root) (shared (carried_at types.now label)))) }
 {
     match carried_at(types, label) {
-        Carried::Plain => push_take(local, types, out, depth, label, Some(root), Side::Sent),
-        Carried::Fixed(_, _) => push_take(local, types, out, depth, label, Some(root), Side::Sent),
-        Carried::Open(_) => push_take(local, types, out, depth, label, Some(root), Side::Received),
+        Carried::Words => push_take(local, types, out, depth, label, Some(root), Side::Sent),
+        Carried::Fixed { .. } => push_take(local, types, out, depth, label, Some(root), Side::Sent),
+        Carried::Open { .. } => push_take(
+            local,
+            types,
+            out,
+            depth,
+            label,
+            Some(root),
+            Side::Received,
+        ),
     }
 }
 

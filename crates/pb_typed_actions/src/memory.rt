@@ -327,9 +327,9 @@ pub fn push_made_checks(
     ensures { OnOk result (out.new.items ≡ out.old.items ++ pieces_text (program_of local.now) (made_checks carried (program_of local.now) depth label)) }
 {
     match carried {
-        Carried::Plain => Ok(()),
-        Carried::Fixed(_, _) => Ok(()),
-        Carried::Open(_) => {
+        Carried::Words => Ok(()),
+        Carried::Fixed { .. } => Ok(()),
+        Carried::Open { .. } => {
             push_made_count(local, types, out, depth, label)?;
             Ok(())
         }
@@ -349,9 +349,9 @@ pub fn push_rooms(
     ensures { OnOk result (out.new.items ≡ out.old.items ++ pieces_text (program_of local.now) (rooms carried (program_of local.now) depth label from)) }
 {
     match carried {
-        Carried::Plain => Ok(()),
-        Carried::Fixed(_, _) => Ok(()),
-        Carried::Open(_) => {
+        Carried::Words => Ok(()),
+        Carried::Fixed { .. } => Ok(()),
+        Carried::Open { .. } => {
             push_room(local, types, out, depth, label, from)?;
             push_room_count(local, types, out, depth, label)?;
             Ok(())
@@ -371,9 +371,9 @@ pub fn push_arrivals(
     ensures { OnOk result (out.new.items ≡ out.old.items ++ pieces_text (program_of local.now) (arrivals carried (program_of local.now) depth label)) }
 {
     match carried {
-        Carried::Plain => Ok(()),
-        Carried::Fixed(_, _) => Ok(()),
-        Carried::Open(element) => {
+        Carried::Words => Ok(()),
+        Carried::Fixed { .. } => Ok(()),
+        Carried::Open { element } => {
             push_came(local, types, out, depth, label, element)?;
             Ok(())
         }
@@ -393,9 +393,9 @@ pub fn push_shared_rooms(
     ensures { OnOk result (out.new.items ≡ out.old.items ++ pieces_text (program_of local.now) (shared_rooms carried (program_of local.now) depth label root)) }
 {
     match carried {
-        Carried::Plain => Ok(()),
-        Carried::Fixed(_, _) => Ok(()),
-        Carried::Open(element) => {
+        Carried::Words => Ok(()),
+        Carried::Fixed { .. } => Ok(()),
+        Carried::Open { element } => {
             push_shared_room(local, types, out, depth, label, element, root)?;
             push_shared_count(local, types, out, depth, label, root)?;
             Ok(())
@@ -416,9 +416,9 @@ pub fn push_root_rooms(
     ensures { OnOk result (out.new.items ≡ out.old.items ++ pieces_text (program_of local.now) (root_rooms carried (program_of local.now) depth label root)) }
 {
     match carried {
-        Carried::Plain => Ok(()),
-        Carried::Fixed(_, _) => Ok(()),
-        Carried::Open(_) => {
+        Carried::Words => Ok(()),
+        Carried::Fixed { .. } => Ok(()),
+        Carried::Open { .. } => {
             push_root_room(local, types, out, depth, label, root)?;
             push_root_count(local, types, out, depth, label, root)?;
             Ok(())
@@ -438,9 +438,9 @@ pub fn push_all_rooms(
     ensures { OnOk result (out.new.items ≡ out.old.items ++ pieces_text (program_of local.now) (all_rooms carried (program_of local.now) depth label)) }
 {
     match carried {
-        Carried::Plain => Ok(()),
-        Carried::Fixed(_, _) => Ok(()),
-        Carried::Open(_) => {
+        Carried::Words => Ok(()),
+        Carried::Fixed { .. } => Ok(()),
+        Carried::Open { .. } => {
             push_all_room(local, types, out, depth, label)?;
             push_all_count(local, types, out, depth, label)?;
             Ok(())

@@ -14,8 +14,8 @@ use Rattle.pb_ctree.specs.Small.{outgoing, incoming, buffer_text, payload_of, wo
 use Rattle.pb_ctree.specs.Spelling.{relay_lines, probe_lines, next_tests, test_lines, abort_lines, told_lines}
 use Rattle.pb_cprint.specs.Written.{branch_item, is_last}
 use Rattle.pb_types.specs.declared.element.Element.{Element}
-use Rattle.pb_typed_types.specs.declared.types.Carried.{Carried}
-use Rattle.pb_typed_types.specs.declared.types.Carried.TheVariants.{Plain, Fixed, Open}
+use Rattle.pb_types.specs.declared.carried.Carried.{Carried}
+use Rattle.pb_types.specs.declared.carried.Carried.TheVariants.{Words, Fixed, Open}
 use Rattle.pb_typed.specs.Carrying.{carried_at, count_at, name_at}
 use Rattle.pb_typed.specs.Pieces.{Piece, same, instead, as_they_are}
 use Rattle.pb_typed.specs.Calls.{make_front, make_text, root_make_text, recv_text}
@@ -63,37 +63,37 @@ keep_words p t true xs all = all
 keep_words p t false xs all = tt
 
 make_is_none : (c : Carried) (p : Program) (label : ℕ) (rest : List ℕ) → starts_with nat_eq (make_front c p label ++ rest) (codes "MPI_") ≡ false
-make_is_none Plain p label rest = refl
+make_is_none Words p label rest = refl
 make_is_none (Fixed element number) p label rest = refl
 make_is_none (Open element) p label rest = refl
 
 keep_checks : (c : Carried) (p : Program) (t : List Carried) (d label : ℕ) → KeepCalls p t (made_checks c p d label)
-keep_checks Plain p t d label = tt
+keep_checks Words p t d label = tt
 keep_checks (Fixed element number) p t d label = tt
 keep_checks (Open element) p t d label = (refl, tt)
 
 keep_rooms : (c : Carried) (p : Program) (t : List Carried) (d label : ℕ) (from : Peer) → KeepCalls p t (rooms c p d label from)
-keep_rooms Plain p t d label from = tt
+keep_rooms Words p t d label from = tt
 keep_rooms (Fixed element number) p t d label from = tt
 keep_rooms (Open element) p t d label from = (refl, (refl, tt))
 
 keep_arrivals : (c : Carried) (p : Program) (t : List Carried) (d label : ℕ) → KeepCalls p t (arrivals c p d label)
-keep_arrivals Plain p t d label = tt
+keep_arrivals Words p t d label = tt
 keep_arrivals (Fixed element number) p t d label = tt
 keep_arrivals (Open element) p t d label = (refl, tt)
 
 keep_shared : (c : Carried) (p : Program) (t : List Carried) (d label : ℕ) (root : Peer) → KeepCalls p t (shared_rooms c p d label root)
-keep_shared Plain p t d label root = tt
+keep_shared Words p t d label root = tt
 keep_shared (Fixed element number) p t d label root = tt
 keep_shared (Open element) p t d label root = (refl, (refl, tt))
 
 keep_root : (c : Carried) (p : Program) (t : List Carried) (d label : ℕ) (root : Peer) → KeepCalls p t (root_rooms c p d label root)
-keep_root Plain p t d label root = tt
+keep_root Words p t d label root = tt
 keep_root (Fixed element number) p t d label root = tt
 keep_root (Open element) p t d label root = (refl, (refl, tt))
 
 keep_each : (c : Carried) (p : Program) (t : List Carried) (d label : ℕ) → KeepCalls p t (all_rooms c p d label)
-keep_each Plain p t d label = tt
+keep_each Words p t d label = tt
 keep_each (Fixed element number) p t d label = tt
 keep_each (Open element) p t d label = (refl, (refl, tt))
 
@@ -184,6 +184,6 @@ calls_stay p t d body = (plain_calls p, keep_all p t d body)
 pub ends_agree : (p : Program) (t : List Carried) (label : ℕ) → EndsAgreeAt p t label
 ends_agree p t label = record { sent = refl; received = refl; counts = by_kind (carried_at t label) } where
   by_kind : (c : Carried) → (count_at c p label outgoing ≡ count_at c p label incoming) ⊎ ((element : Element) × (c ≡ Open element) × (count_at c p label incoming ≡ codes "m_" ++ name_at p label))
-  by_kind Plain = inl refl
+  by_kind Words = inl refl
   by_kind (Fixed element number) = inl refl
   by_kind (Open element) = inr (element, refl, refl)

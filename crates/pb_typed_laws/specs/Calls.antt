@@ -7,7 +7,7 @@ use Rattle.pb_local.specs.Pieces.{joined}
 use Rattle.pb_local.specs.Tree.{Program}
 use Rattle.pb_ctree.specs.Lines.{Item, raw, close, else_open, if_open, else_if_open, for_open, own_is, loop_open, goto, makes, root_makes, takes, root_takes, mpi_send, mpi_recv, mpi_barrier, mpi_bcast, mpi_reduce, mpi_allreduce, calls, chooses, probe, test_open, else_test_open, picks, aborts, pick_open, else_pick_open}
 use Rattle.pb_ctree.specs.Small.{outgoing, incoming, peer_text, op_text}
-use Rattle.pb_typed_types.specs.declared.types.Carried.{Carried}
+use Rattle.pb_types.specs.declared.carried.Carried.{Carried}
 use Rattle.pb_typed.specs.Carrying.{carried_at, buffer_of, data_text, shared}
 use Rattle.pb_typed.specs.Calls.{status_text}
 use Rattle.pb_typed.specs.Pieces.{Piece, same, instead, added}

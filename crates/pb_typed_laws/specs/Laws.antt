@@ -7,8 +7,8 @@ use Rattle.pb_local.specs.Tree.{Program, Codes}
 use Rattle.pb_ctree.specs.Lines.{mpi_send, mpi_recv, mpi_bcast, mpi_reduce, mpi_allreduce, item_text}
 use Rattle.pb_ctree.specs.Small.{outgoing, incoming, words_text, buffer_text, payload_of}
 use Rattle.pb_types.specs.declared.element.Element.{Element}
-use Rattle.pb_typed_types.specs.declared.types.Carried.{Carried}
-use Rattle.pb_typed_types.specs.declared.types.Carried.TheVariants.{Open}
+use Rattle.pb_types.specs.declared.carried.Carried.{Carried}
+use Rattle.pb_types.specs.declared.carried.Carried.TheVariants.{Open}
 use Rattle.pb_typed.specs.Carrying.{name_at, carried_at, buffer_of, count_at, type_at, data_text}
 use Rattle.pb_typed.specs.Statements.{typed_all}
 use Rattle.pb_typed_laws.specs.Calls.{sends, receives, broadcasts, reduces, reduces_all, KeepCalls}

@@ -5,7 +5,7 @@ use Rattle.pb_local.specs.Tables.{kernel_at}
 use Rattle.pb_local.specs.Tree.{Program}
 use Rattle.pb_ctree.specs.Small as S
 use Rattle.pb_ctree.specs.Small.{peer_text, root_text}
-use Rattle.pb_typed_types.specs.declared.types.Carried.{Carried}
+use Rattle.pb_types.specs.declared.carried.Carried.{Carried}
 use Rattle.pb_typed.specs.Carrying.{name_at, carried_at, buffer_of, data_text, shared}
 use Rattle.pb_typed.specs.Calls.{end_text, make_front, make_rest, take_rest, status_text}
 use Rattle.pb_typed.specs.Hooks.{message_data, joint_data}

@@ -7,11 +7,11 @@ ghost use Rattle.pb_ctree.specs.Small.{buffer_text, type_text, count_of, payload
 ghost use Rattle.pb_typed.specs.Carrying.{carried_at, letter, buffer_of, count_letter, count_at, type_at, data_of, data_text, shared};
 ghost use Rattle.pb_typed.specs.Calls.{end_text, make_front, make_rest, take_rest, status_text};
 ghost use Rattle.pb_typed.specs.Hooks.{words_kind, size_data, bytes_data, message_data, words_there, joint_data};
-ghost use Rattle.pb_typed_types.specs.declared.types.Carried.TheVariants.{Plain};
+ghost use Rattle.pb_types.specs.declared.carried.Carried.TheVariants.{Words};
 ghost use Rattle.pb_typed_lines.specs.Bits.{side_of};
 
 use crate::bits::Side;
-use pb_cprint_lines::push_lin;
+use pb_cprint_lines::{count_of, push_lin, push_root, received_into, sent_from, type_name};
 use pb_local::{Local, Payload, Peer, push_pieces};
 use pb_text::{NoMemory, push_decimal};
 use pb_typed_types::Carried;
@@ -22,7 +22,7 @@ pub fn carried_at(types: &[Carried], label: u32) -> Carried
 {
     match types.get(label as usize) {
         Some(carried) => *carried,
-        None => Carried::Plain,
+        None => Carried::Words,
     }
 }
 
@@ -47,23 +47,9 @@ fn count_letter(side: Side) -> &'static [u8]
 fn plain_buffer(payload: Payload, side: Side) -> &'static [u8]
     ensures { result.now ≡ buffer_text payload (side_of side) }
 {
-    match (payload, side) {
-        (Payload::Int32(_), Side::Sent) => b"is",
-        (Payload::Int32(_), Side::Received) => b"ir",
-        (Payload::Uint32(_), Side::Sent) => b"us",
-        (Payload::Uint32(_), Side::Received) => b"ur",
-        (Payload::Unit, Side::Sent) => b"us",
-        (Payload::Unit, Side::Received) => b"ur",
-    }
-}
-
-fn plain_type(payload: Payload) -> &'static [u8]
-    ensures { result.now ≡ type_text payload }
-{
-    match payload {
-        Payload::Int32(_) => b"MPI_INT32_T",
-        Payload::Uint32(_) => b"MPI_UINT32_T",
-        Payload::Unit => b"MPI_UINT32_T",
+    match side {
+        Side::Sent => sent_from(payload),
+        Side::Received => received_into(payload),
     }
 }
 
@@ -80,11 +66,7 @@ fn words_kind(payload: Payload) -> &'static [u8]
 fn push_words(out: &mut Vec<u8>, payload: Payload) -> Result<(), NoMemory>
     ensures { OnOk result (out.new.items ≡ out.old.items ++ decimal (count_of payload)) }
 {
-    match payload {
-        Payload::Int32(count) => push_decimal(out, u64::from(count)),
-        Payload::Uint32(count) => push_decimal(out, u64::from(count)),
-        Payload::Unit => push_decimal(out, 0),
-    }
+    push_decimal(out, u64::from(count_of(payload)))
 }
 
 fn push_two(out: &mut Vec<u8>, first: &[u8], second: &[u8]) -> Result<(), NoMemory>
@@ -106,9 +88,9 @@ pub fn push_buffer(
     ensures { OnOk result (out.new.items ≡ out.old.items ++ buffer_of carried (program_of local.now) label (side_of side)) }
 {
     match carried {
-        Carried::Plain => push_pieces(out, &[plain_buffer(local.payload(label), side)]),
-        Carried::Fixed(_, _) => push_two(out, letter(side), local.label_name(label)),
-        Carried::Open(_) => push_two(out, letter(side), local.label_name(label)),
+        Carried::Words => push_pieces(out, &[plain_buffer(local.payload(label), side)]),
+        Carried::Fixed { .. } => push_two(out, letter(side), local.label_name(label)),
+        Carried::Open { .. } => push_two(out, letter(side), local.label_name(label)),
     }
 }
 
@@ -122,9 +104,9 @@ fn push_count(
     ensures { OnOk result (out.new.items ≡ out.old.items ++ count_at carried (program_of local.now) label (side_of side)) }
 {
     match carried {
-        Carried::Plain => push_words(out, local.payload(label)),
-        Carried::Fixed(_, _) => push_pieces(out, &[b"n_", local.label_name(label)]),
-        Carried::Open(_) => push_two(out, count_letter(side), local.label_name(label)),
+        Carried::Words => push_words(out, local.payload(label)),
+        Carried::Fixed { .. } => push_pieces(out, &[b"n_", local.label_name(label)]),
+        Carried::Open { .. } => push_two(out, count_letter(side), local.label_name(label)),
     }
 }
 
@@ -132,9 +114,9 @@ fn type_of(local: &Local, carried: Carried, label: u32) -> &'static [u8]
     ensures { result.now ≡ type_at carried (program_of local.now) label }
 {
     match carried {
-        Carried::Plain => plain_type(local.payload(label)),
-        Carried::Fixed(element, _) => element.mpi_name(),
-        Carried::Open(element) => element.mpi_name(),
+        Carried::Words => type_name(local.payload(label)),
+        Carried::Fixed { element, .. } => element.mpi_name(),
+        Carried::Open { element } => element.mpi_name(),
     }
 }
 
@@ -164,9 +146,9 @@ pub fn push_shared(
     ensures { OnOk result (out.new.items ≡ out.old.items ++ data_of carried (program_of local.now) label (shared carried)) }
 {
     match carried {
-        Carried::Plain => push_data(local, carried, out, label, Side::Sent),
-        Carried::Fixed(_, _) => push_data(local, carried, out, label, Side::Sent),
-        Carried::Open(_) => push_data(local, carried, out, label, Side::Received),
+        Carried::Words => push_data(local, carried, out, label, Side::Sent),
+        Carried::Fixed { .. } => push_data(local, carried, out, label, Side::Sent),
+        Carried::Open { .. } => push_data(local, carried, out, label, Side::Received),
     }
 }
 
@@ -184,16 +166,6 @@ pub fn push_end(out: &mut Vec<u8>, end: Option<Peer>) -> Result<(), NoMemory>
     }
 }
 
-/// The condition that the rank is the root.
-pub fn push_root(out: &mut Vec<u8>, root: Peer) -> Result<(), NoMemory>
-    ensures { OnOk result (out.new.items ≡ out.old.items ++ root_text root) }
-{
-    push_pieces(out, &[b"R == "])?;
-    push_decimal(out, u64::from(root.role))?;
-    push_pieces(out, &[b" && I == "])?;
-    push_lin(out, root.at)
-}
-
 /// A call of `make_` up to the other end.
 pub fn push_make_front(
     local: &Local,
@@ -205,9 +177,9 @@ pub fn push_make_front(
 {
     let name = local.label_name(label);
     match carried {
-        Carried::Plain => push_pieces(out, &[b"make_", name, b"(N, R, I, "]),
-        Carried::Fixed(_, _) => push_pieces(out, &[b"make_", name, b"(N, R, I, "]),
-        Carried::Open(_) => push_pieces(out, &[b"s_", name, b" = make_", name, b"(N, R, I, "]),
+        Carried::Words => push_pieces(out, &[b"make_", name, b"(N, R, I, "]),
+        Carried::Fixed { .. } => push_pieces(out, &[b"make_", name, b"(N, R, I, "]),
+        Carried::Open { .. } => push_pieces(out, &[b"s_", name, b" = make_", name, b"(N, R, I, "]),
     }
 }
 
@@ -222,12 +194,12 @@ pub fn push_make_rest(
 {
     let name = local.label_name(label);
     match carried {
-        Carried::Plain => push_pieces(
+        Carried::Words => push_pieces(
             out,
             &[b", ", plain_buffer(local.payload(label), Side::Sent), b");"],
         ),
-        Carried::Fixed(_, _) => push_pieces(out, &[b", s_", name, b");"]),
-        Carried::Open(_) => push_pieces(out, &[b", &n_", name, b");"]),
+        Carried::Fixed { .. } => push_pieces(out, &[b", s_", name, b");"]),
+        Carried::Open { .. } => push_pieces(out, &[b", &n_", name, b");"]),
     }
 }
 
@@ -257,9 +229,9 @@ pub fn push_take_rest(
 {
     let name = local.label_name(label);
     match carried {
-        Carried::Plain => push_buffer_rest(local, carried, out, label, side),
-        Carried::Fixed(_, _) => push_buffer_rest(local, carried, out, label, side),
-        Carried::Open(_) => push_pieces(out, &[b", t_", name, b", m_", name, b");"]),
+        Carried::Words => push_buffer_rest(local, carried, out, label, side),
+        Carried::Fixed { .. } => push_buffer_rest(local, carried, out, label, side),
+        Carried::Open { .. } => push_pieces(out, &[b", t_", name, b", m_", name, b");"]),
     }
 }
 
@@ -268,9 +240,9 @@ pub fn status(carried: Carried) -> &'static [u8]
     ensures { result.now ≡ status_text carried }
 {
     match carried {
-        Carried::Plain => b", MPI_COMM_WORLD, MPI_STATUS_IGNORE);",
-        Carried::Fixed(_, _) => b", MPI_COMM_WORLD, MPI_STATUS_IGNORE);",
-        Carried::Open(_) => b", MPI_COMM_WORLD, &st);",
+        Carried::Words => b", MPI_COMM_WORLD, MPI_STATUS_IGNORE);",
+        Carried::Fixed { .. } => b", MPI_COMM_WORLD, MPI_STATUS_IGNORE);",
+        Carried::Open { .. } => b", MPI_COMM_WORLD, &st);",
     }
 }
 
@@ -323,7 +295,7 @@ fn push_plain_words(
     label: u32,
     side: Side,
 ) -> Result<(), NoMemory>
-    ensures { OnOk result (out.new.items ≡ out.old.items ++ message_data Plain (program_of local.now) label (side_of side)) }
+    ensures { OnOk result (out.new.items ≡ out.old.items ++ message_data Words (program_of local.now) label (side_of side)) }
 {
     push_pieces(out, &[words_kind(local.payload(label)), b", "])?;
     push_words(out, local.payload(label))?;
@@ -341,9 +313,9 @@ pub fn push_message(
     ensures { OnOk result (out.new.items ≡ out.old.items ++ message_data carried (program_of local.now) label (side_of side)) }
 {
     match carried {
-        Carried::Plain => push_plain_words(local, out, label, side),
-        Carried::Fixed(_, _) => push_bytes_data(local, carried, out, label, side),
-        Carried::Open(_) => push_bytes_data(local, carried, out, label, side),
+        Carried::Words => push_plain_words(local, out, label, side),
+        Carried::Fixed { .. } => push_bytes_data(local, carried, out, label, side),
+        Carried::Open { .. } => push_bytes_data(local, carried, out, label, side),
     }
 }
 
@@ -368,7 +340,7 @@ fn push_plain_joint(
     root: Option<Peer>,
     side: Side,
 ) -> Result<(), NoMemory>
-    ensures { OnOk result (out.new.items ≡ out.old.items ++ joint_data Plain (program_of local.now) label root (side_of side)) }
+    ensures { OnOk result (out.new.items ≡ out.old.items ++ joint_data Words (program_of local.now) label root (side_of side)) }
 {
     push_pieces(out, &[words_kind(local.payload(label)), b", "])?;
     push_words_there(out, root, local.payload(label))?;
@@ -399,8 +371,8 @@ pub fn push_joint(
     ensures { OnOk result (out.new.items ≡ out.old.items ++ joint_data carried (program_of local.now) label root (side_of side)) }
 {
     match carried {
-        Carried::Plain => push_plain_joint(local, out, label, root, side),
-        Carried::Fixed(_, _) => push_zeros(local, out, label, root),
-        Carried::Open(_) => push_zeros(local, out, label, root),
+        Carried::Words => push_plain_joint(local, out, label, root, side),
+        Carried::Fixed { .. } => push_zeros(local, out, label, root),
+        Carried::Open { .. } => push_zeros(local, out, label, root),
     }
 }

@@ -8,9 +8,9 @@ ghost use Rattle.pb_typed_lines.specs.Bits.{bit_text, bits_text};
 use crate::bits::Bit;
 use crate::data::{
     carried_at, push_buffer, push_data, push_end, push_joint, push_make_front, push_make_rest,
-    push_message, push_root, push_shared, push_take_rest, status,
+    push_message, push_shared, push_take_rest, status,
 };
-use pb_cprint_lines::push_peer;
+use pb_cprint_lines::{push_peer, push_root};
 use pb_local::{Local, push_indent, push_pieces};
 use pb_text::{NoMemory, push_decimal};
 use pb_typed_types::Carried;

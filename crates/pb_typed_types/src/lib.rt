@@ -3,5 +3,5 @@
 
 mod types;
 
-pub use pb_types::Element;
-pub use types::{Carried, Constant, Types};
+pub use pb_types::{Carried, Element};
+pub use types::{Constant, Form, Types};

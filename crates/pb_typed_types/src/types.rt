@@ -1,16 +1,5 @@
 use pb_text::Name;
-use pb_types::Element;
-
-/// What a label carries in a program text.
-#[derive(Clone, Copy)]
-pub enum Carried {
-    /// The words of its payload.
-    Plain,
-    /// So many elements, in buffers of the text.
-    Fixed(Element, u32),
-    /// Elements in the kernels' own memory; how many is known when the program runs.
-    Open(Element),
-}
+use pb_types::Carried;
 
 /// A constant of a types file.
 #[derive(Clone, Copy)]
@@ -24,4 +13,13 @@ pub struct Constant {
 pub struct Types {
     pub labels: Vec<Carried>,
     pub constants: Vec<Constant>,
+}
+
+/// What the labels of a text carry.
+#[derive(Drop)]
+pub enum Form {
+    /// Each carries its words.
+    Plain,
+    /// Each carries what a types file says.
+    Program(Types),
 }

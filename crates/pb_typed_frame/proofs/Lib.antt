@@ -1,0 +1,4 @@
+pub mod Defaults
+pub mod Named
+pub mod Tables
+pub mod Written
