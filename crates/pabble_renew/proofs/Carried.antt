@@ -1,9 +1,13 @@
 -- From what carrying a plan out came to, to what renewing a file comes to.
-use Rattle.std.proofs.Common.{◌≡◌, ◌≢◌, ℕ, ◌≤◌, ◌⊎◌, inl, inr, true, false, List, [], Option, None, Some, IsSome, unwrap_or, refl, sym, ap, subst, ◌∙◌, arith}
+use Rattle.std.proofs.Common.{◌≡◌, ◌≢◌, ℕ, ◌≤◌, ◌⊎◌, inl, inr, true, false, List, [], Option, None, Some, IsSome, unwrap_or, is_some, slice_get, true≢false, ◌∷◌, refl, sym, ap, subst, ◌∙◌, arith}
 use Rattle.std.specs.Prelude.{IfSome}
 use Rattle.pb_io.specs.Files.{File, IsContent, content_of, file_of}
+use Rattle.pb_ctree.specs.declared.kernel.KName.{KName}
 use Rattle.pb_ctree.specs.declared.tree.CTree.{CTree}
-use Rattle.pb_renew.specs.Plans.{WasBefore, renewed_of}
+use Rattle.pb_cli_file.specs.Files.{IsTreeOf}
+use Rattle.pb_renew.specs.Plans.{Fits, LeavesAs, WasBefore, renewed_of}
+use Rattle.pb_renew_merge.specs.declared.renewed.Renewed.{Renewed}
+use Rattle.pb_renew_merge.specs.Renewed.{IsRenewal}
 use Rattle.pb_renew.specs.declared.plan.Plan.{Plan}
 use Rattle.pb_renew.specs.declared.unrenewed.Unrenewed.{Unrenewed}
 use Rattle.pb_renew.specs.declared.unrenewed.Unrenewed.TheVariants as why
@@ -17,7 +21,7 @@ use Rattle.pb_renew_put.specs.declared.fault.PutFault.TheVariants as put
 use Rattle.pb_renew_store.specs.Changes.{Turns}
 use Rattle.pb_renew_store.specs.Deeds.{Deed, DidNothing}
 use Rattle.pabble_renew.specs.Asked.{Asked}
-use Rattle.pabble_renew.specs.Causes.{IsChanged, IsOutCause, TellAlike}
+use Rattle.pabble_renew.specs.Causes.{IsChanged, IsOutCause, TellAlike, WhereBodiesGo}
 use Rattle.pabble_renew.specs.Leaves.{Achieves, DidSo, KeepsBoth, MeetsLock, RenewsFile, Spares, SparesOut, SparesRest, StopsWith, Works}
 use Rattle.pabble_renew.specs.Planned.{IsAsTold, IsPlanned}
 use Rattle.pabble_renew.specs.Steps.{CarriesOut, FailsTo, Goes, IsPutCause, StopsOr}
@@ -86,22 +90,36 @@ olds_at : (own out : List ℕ) (h : Option (List File)) → IfSome h (λ now. ow
 olds_at own out None at is = tt
 olds_at own out (Some now) at is = subst (λ (o : List ℕ). (number : ℕ) → 1 ≤ number → number ≤ 9999 → IsSome (file_of now (old_file o number))) at is
 
-left_other : (behind : Option Behind) (out : List ℕ) (now : List File) (content : Option (List ℕ)) → WasBefore behind content → IsLeftOther behind out now → file_of now (left_name out) ≢ content
-left_other None out now content was is = absurd is
-left_other (Some b) out now content was is = λ e. is (e ∙ sym was)
+some_gone : (gone : List KName) (renewed : Renewed) (behind : Option Behind) (b : Behind) → LeavesAs gone renewed behind → behind ≡ Some b → gone ≢ []
+some_gone [] renewed behind b none is = absurd (true≢false (sym (ap is_some (sym none ∙ is))))
+some_gone (name ∷ names) renewed behind b leaves is = λ e. true≢false (ap (λ (l : List KName). is_some (slice_get l 0)) e)
 
-changed_at : (a : Asked) (t : Task) (now files : List File) → t.file ≡ a.file → t.out ≡ a.out → t.source ≡ content_of files a.file → IsAsTold a t files → IsCauseIn put.Changed t now → IsChanged a now files
-changed_at a t now files f at content told (inl other) = inl (λ e. other (ap (λ (n : List ℕ). file_of now n) f ∙ e ∙ ap Some (sym content)))
-changed_at a t now files f at content told (inr (inl other)) = inr (inl (λ e. other (ap (λ (n : List ℕ). file_of now n) at ∙ e ∙ sym told.out)))
-changed_at a t now files f at content told (inr (inr other)) =
-    inr (inr (subst (λ (o : List ℕ). file_of now (left_name o) ≢ file_of files (left_name a.out)) at (left_other t.behind t.out now (file_of files (left_name a.out)) told.left other)))
+free_named : (own out : List ℕ) (h : Option (List File)) → IfSome h (λ now. own ≡ out) → IfSome h (λ files. file_of files (new_name own) ≡ None) → IfSome h (λ files. file_of files (new_name out) ≡ None)
+free_named own out None at is = tt
+free_named own out (Some files) at is = subst (λ (o : List ℕ). file_of files (new_name o) ≡ None) at is
 
-changed_alike : (a : Asked) (t : Task) (store folder : Option (List File)) → t.file ≡ a.file → IfSome store (λ now. t.out ≡ a.out) → IsContent folder a.file t.source
-    → IfSome store (λ now. IfSome folder (λ files. TellAlike a.out now files → IsAsTold a t files)) → IfSome store (IsCauseIn put.Changed t)
-    → IfSome store (λ now. IfSome folder (λ files. TellAlike a.out now files → IsChanged a now files))
-changed_alike a t None folder f at content told is = tt
-changed_alike a t (Some now) None f at content told is = tt
-changed_alike a t (Some now) (Some files) f at content told is = λ alike. changed_at a t now files f at content (told alike) is
+module _ (a : Asked) (t : Task) (tree : CTree) (renewed : Renewed) (fits : Fits tree renewed t) where
+  left_at : (now files : List File) (behind : Option Behind) → t.behind ≡ behind → IsTreeOf a.file (Some files) tree → t.old ≡ file_of files a.out → WasBefore behind (file_of files (left_name a.out)) → IsLeftOther behind a.out now
+      → (file_of now (left_name a.out) ≢ file_of files (left_name a.out)) × WhereBodiesGo a files
+  left_at now files None behind_is compiled old_is was is = absurd is
+  left_at now files (Some b) behind_is compiled old_is was is =
+      ((λ e. is (e ∙ sym was)),
+      (tree, compiled,
+      (renewed, subst (λ (l : List ℕ). IsRenewal l tree renewed) (ap (λ (o : Option (List ℕ)). unwrap_or o []) old_is) fits.renewal,
+      some_gone renewed.gone.items renewed t.behind b fits.left behind_is, tt)))
+
+  changed_at : (now files : List File) → t.file ≡ a.file → t.out ≡ a.out → t.source ≡ content_of files a.file → IsTreeOf a.file (Some files) tree → IsAsTold a t files → IsCauseIn put.Changed t now → IsChanged a now files
+  changed_at now files f at content compiled told (inl other) = inl (λ e. other (ap (λ (n : List ℕ). file_of now n) f ∙ e ∙ ap Some (sym content)))
+  changed_at now files f at content compiled told (inr (inl other)) = inr (inl (λ e. other (ap (λ (n : List ℕ). file_of now n) at ∙ e ∙ sym told.out)))
+  changed_at now files f at content compiled told (inr (inr other)) =
+      inr (inr (left_at now files t.behind refl compiled told.out told.left (subst (λ (o : List ℕ). IsLeftOther t.behind o now) at other)))
+
+  changed_alike : (store folder : Option (List File)) → t.file ≡ a.file → IfSome store (λ now. t.out ≡ a.out) → IsContent folder a.file t.source → IsTreeOf a.file folder tree
+      → IfSome store (λ now. IfSome folder (λ files. TellAlike a.out now files → IsAsTold a t files)) → IfSome store (IsCauseIn put.Changed t)
+      → IfSome store (λ now. IfSome folder (λ files. TellAlike a.out now files → IsChanged a now files))
+  changed_alike None folder f at content compiled told is = tt
+  changed_alike (Some now) None f at content compiled told is = tt
+  changed_alike (Some now) (Some files) f at content compiled told is = λ alike. changed_at now files f at content compiled (told alike) is
 
 -- ---- a plan that was carried out
 
@@ -129,7 +147,8 @@ module _ (a : Asked) (tree : CTree) (plan : Plan) (h0 folder : Option (List File
   pub achieves : (d : Doing) (h1 h2 : Option (List File)) → is_written a.out a.file ≡ false → h1 ≡ h0 → CarriesOut d (task_of plan.job) h1 h2 → Achieves d a.file a.out h0 h2
   achieves doing.Renew h1 h2 apart e done =
       given (λ x. (task_of plan.job).out ≡ a.out) (Puts (task_of plan.job)) (RenewsFile a.file a.out) (λ x y at puts. renews_file x y apart at puts) h0 h2 is.out (sooner (Puts (task_of plan.job)) h0 h1 h2 e done)
-  achieves doing.Tell h1 h2 apart e done = done ∙ e
+  achieves doing.Tell h1 h2 apart e done =
+      (done.0 ∙ e, free_named (task_of plan.job).out a.out h0 is.out (subst (λ (h : Option (List File)). IfSome h (λ files. file_of files (new_name (task_of plan.job).out) ≡ None)) e done.1))
 
   works : (d0 d1 d2 : Option (List Deed)) (h1 h2 : Option (List File)) (End : Task → Phase → Type 0) → DidNothing d0 d1 h0 h1 → Leads (task_of plan.job) start d1 d2 h1 h2 (End (task_of plan.job)) → Works a d0 d2 h0 h2 End
   works d0 d1 d2 h1 h2 End nothing leads = record {
@@ -204,7 +223,7 @@ module _ (a : Asked) (tree : CTree) (plan : Plan) (h0 folder : Option (List File
   cause_so (why.LeftIndented line) h1 n0 n1 n2 u0 u1 e le it = absurd it
   cause_so (why.Left kernel) h1 n0 n1 n2 u0 u1 e le it = absurd it
   cause_so why.Busy h1 n0 n1 n2 u0 u1 e le it = busy_at (task_of plan.job).out a.out h0 is.out (subst (λ (h : Option (List File)). IfSome h (IsCauseIn put.Busy (task_of plan.job))) e it)
-  cause_so why.Changed h1 n0 n1 n2 u0 u1 e le it = changed_alike a (task_of plan.job) h0 folder is.file is.out is.content is.told (subst (λ (h : Option (List File)). IfSome h (IsCauseIn put.Changed (task_of plan.job))) e it)
+  cause_so why.Changed h1 n0 n1 n2 u0 u1 e le it = changed_alike a (task_of plan.job) tree (renewed_of plan) is.fits h0 folder is.file is.out is.content (tree_of a.file folder (task_of plan.job).source tree is.content is.compiles) is.told (subst (λ (h : Option (List File)). IfSome h (IsCauseIn put.Changed (task_of plan.job))) e it)
   cause_so why.Olds h1 n0 n1 n2 u0 u1 e le it = olds_at (task_of plan.job).out a.out h0 is.out (subst (λ (h : Option (List File)). IfSome h (IsCauseIn put.Olds (task_of plan.job))) e it)
   cause_so why.WriteFault h1 n0 n1 n2 u0 u1 e le it = rose_sooner n0 n1 n2 le it
   cause_so why.Halfway h1 n0 n1 n2 u0 u1 e le it = has_failed h0 n0 n1 n2 le (subst (λ (h : Option (List File)). HasFailed put.Halfway h n1 n2) e it)

@@ -8,7 +8,7 @@ use Rattle.pb_cli_status.specs.declared.refusal.Refusal.{Refusal}
 use Rattle.pb_cli_status.specs.declared.refusal.Refusal.TheVariants as refusal
 use Rattle.pb_cli_file.specs.Files.{IsFileRefusal, IsTreeOf}
 use Rattle.pb_renew.specs.Places.{IsNoPlace}
-use Rattle.pb_renew.specs.Reasons.{IsReasonWith}
+use Rattle.pb_renew.specs.Reasons.{IsReasonWith, WhereGone}
 use Rattle.pb_renew.specs.declared.unrenewed.Unrenewed.{Unrenewed}
 use Rattle.pb_renew.specs.declared.unrenewed.Unrenewed.TheVariants as why
 use Rattle.pb_renew_put.specs.Names.{is_written, left_name, new_name, old_file, spare_name}
@@ -42,10 +42,15 @@ IsReasonAt reason a s =
     (tree : CTree) × IsTreeOf a.file s.folder tree
     × WhereAlike a s (λ now files. IsReasonWith a.losing (content_of files a.out) (content_of files (left_name a.out)) tree reason)
 
--- one of the three files isn't in the store as the folder tells
+-- FILE is accepted, and bodies are gone in a text of its tree
+abbrev pub WhereBodiesGo : Asked → List File → Type 0
+WhereBodiesGo a files = (tree : CTree) × IsTreeOf a.file (Some files) tree × WhereGone (content_of files a.out) tree (λ renewed. ⊤)
+
+-- one of the three files isn't in the store as the folder tells; of OUT.left that matters where bodies go there
 abbrev pub IsChanged : Asked → List File → List File → Type 0
 IsChanged a now files =
-    (file_of now a.file ≢ Some (content_of files a.file)) ⊎ (file_of now a.out ≢ file_of files a.out) ⊎ (file_of now (left_name a.out) ≢ file_of files (left_name a.out))
+    (file_of now a.file ≢ Some (content_of files a.file)) ⊎ (file_of now a.out ≢ file_of files a.out)
+    ⊎ ((file_of now (left_name a.out) ≢ file_of files (left_name a.out)) × WhereBodiesGo a files)
 
 abbrev pub IsOutCause : Unrenewed → Asked → Scene → Type 0
 IsOutCause why.ReadFault a s = Rose s.failed s.failed_now ⊎ Rose s.unread s.unread_now

@@ -1,5 +1,5 @@
 -- What a call leaves of OUT and of the files beside it.
-use Rattle.std.specs.Prelude.{◌≡◌, ◌⊎◌, ℕ, true, false, List, Option, Some, IfSome, IsSome}
+use Rattle.std.specs.Prelude.{◌≡◌, ◌⊎◌, ℕ, true, false, List, Option, None, Some, IfSome, IsSome}
 use Rattle.pb_io.specs.Files.{File, file_of}
 use Rattle.pb_ctree.specs.declared.tree.CTree.{CTree}
 use Rattle.pb_cli_file.specs.Files.{IsTreeOf}
@@ -35,10 +35,10 @@ pub record RenewsFile (file out : List ℕ) (old new : List File) : Type 0 where
   pub compiled : IsTreeOf file (Some old) tree
   pub renewed : Renews out tree old new
 
--- what is done is that, or nothing at all
+-- what is done is that; or nothing at all, where no other call is at work
 abbrev pub Achieves : Doing → List ℕ → List ℕ → Option (List File) → Option (List File) → Type 0
 Achieves doing.Renew file out old new = Turns old new (RenewsFile file out)
-Achieves doing.Tell file out old new = new ≡ old
+Achieves doing.Tell file out old new = (new ≡ old) × IfSome old (λ files. file_of files (new_name out) ≡ None)
 
 pub record KeepsBoth (out : List ℕ) (old new : List File) : Type 0 where
   pub text : KeepsFile out old new

@@ -1,5 +1,5 @@
 -- What carrying out a plan comes to.
-use Rattle.std.specs.Prelude.{◌≡◌, ℕ, Option, IfSome, IsSome, List, ⊤}
+use Rattle.std.specs.Prelude.{◌≡◌, ℕ, Option, None, IfSome, IsSome, List, ⊤}
 use Rattle.pb_io.specs.Faults.{Rose}
 use Rattle.pb_io.specs.Files.{File, file_of}
 use Rattle.pb_renew.specs.Faults.{unput}
@@ -18,10 +18,10 @@ use Rattle.pabble_renew.specs.Leaves.{KeepsBoth}
 use Rattle.pabble_renew.specs.declared.doing.Doing.{Doing}
 use Rattle.pabble_renew.specs.declared.doing.Doing.TheVariants as doing
 
--- the task is put; or nothing is done
+-- the task is put; or nothing is done, and no lock is there
 abbrev pub CarriesOut : Doing → Task → Option (List File) → Option (List File) → Type 0
 CarriesOut doing.Renew t old new = Turns old new (Puts t)
-CarriesOut doing.Tell t old new = new ≡ old
+CarriesOut doing.Tell t old new = (new ≡ old) × IfSome old (λ files. file_of files (new_name t.out) ≡ None)
 
 abbrev pub Goes : Doing → Task → Option (List Deed) → Option (List Deed) → Option (List File) → Option (List File) → Type 0
 Goes doing.Renew t old_deeds new_deeds old new = Leads t start old_deeds new_deeds old new Finishes

@@ -1,9 +1,10 @@
 //! Carrying a plan out.
 
-ghost use Rattle.std.specs.Prelude.{◌≡◌, ◌≤◌, false, IfErr, IsErrOf, OnOk};
+ghost use Rattle.std.specs.Prelude.{◌≡◌, ◌≤◌, None, false, IfErr, IfSome, IsErrOf, OnOk};
 ghost use Rattle.std.specs.String.{string_bytes};
+ghost use Rattle.pb_io.specs.Files.{file_of};
 ghost use Rattle.pb_renew_put.specs.Jobs.{task_of};
-ghost use Rattle.pb_renew_put.specs.Names.{is_written};
+ghost use Rattle.pb_renew_put.specs.Names.{is_written, new_name};
 ghost use Rattle.pb_renew_put.specs.Puts.{KeepsRest};
 ghost use Rattle.pb_renew_store.specs.Changes.{Turns};
 ghost use Rattle.pb_renew_store.specs.Deeds.{DidNothing};
@@ -44,6 +45,7 @@ pub fn carry_out<S: Store>(
 
 /// `Busy` where OUT.new is there.
 fn look_at_lock<S: Store>(alloc: Global, store: &mut S, out: &str) -> Result<(), Unrenewed>
+    ensures free { OnOk result (IfSome (S.holds store.old) (λ files. file_of files (new_name out.now) ≡ None)) }
     ensures cause { IfErr result (λ why. IsLockCause why out.now (S.holds store.old) (S.faults store.old) (S.faults store.new)) }
     ensures nothing { DidNothing (S.deeds store.old) (S.deeds store.new) (S.holds store.old) (S.holds store.new) }
     ensures later { S.faults store.old ≤ S.faults store.new }

@@ -10,9 +10,10 @@ use Rattle.pb_renew_lines.specs.declared.outside.Outside.{Outside}
 use Rattle.pb_renew_lines.specs.declared.outside.Outside.TheVariants as outside
 use Rattle.pb_renew.specs.Made.{IsMade, IsMarked, IsTold, is_line}
 use Rattle.pb_renew.specs.Places.{Agrees, IsThere}
-use Rattle.pb_renew.specs.Plans.{IsPlan, IsPutTogether, LeavesAs, SparesLines, WasBefore, WasTold, bytes_of, left_bytes}
+use Rattle.pb_renew.specs.Plans.{IsPlan, IsPutTogether, LeavesAs, SparesLines, WasBefore, WasTold, bytes_of}
 use Rattle.pb_renew.specs.declared.made.Made.{Made}
 use Rattle.pb_renew.specs.declared.plan.Plan.{Plan}
+use Rattle.pb_renew_laws.specs.Bodies.{SavesIn}
 use Rattle.pb_renew_merge.specs.Lost.{NothingLost}
 use Rattle.pb_renew_put.specs.Jobs.{Behind, task_of}
 use Rattle.pb_renew.specs.declared.place.Place.{Place}
@@ -260,17 +261,28 @@ left_failed losing tree reason (Some files) h1 name bytes before place renewed s
 
 -- ---- a plan that is made
 
+-- bodies that go to OUT.left, behind what it had
+pub saves_so : (renewed : Renewed) (before : Option (List ℕ)) (was left : List ℕ) → was ≡ unwrap_or before []
+    → ((old : List ℕ) (tree : CTree) → IsRenewal old tree renewed → NothingLost old renewed.text.items left) → NothingLost was left []
+    → ((old : List ℕ) (tree : CTree) → IsRenewal old tree renewed → NothingLost left was old)
+    → (old : List ℕ) (tree : CTree) → IsRenewal old tree renewed → SavesIn (Some (record { before = before; bodies = left })) old renewed.text.items
+saves_so renewed before was left is lost keeps adds old tree renewal = record {
+  whole = lost old tree renewal;
+  grows = subst (λ (b : List ℕ). NothingLost b left []) is keeps;
+  known = subst (λ (b : List ℕ). NothingLost left b old) is (adds old tree renewal);
+}
+
 pub plan_so : (tree : CTree) (bytes : List ℕ) (old : Option (List ℕ)) (made : Made) (behind : Option Behind) (plan : Plan) → bytes ≡ unwrap_or old [] → IsMade bytes tree made → LeavesAs made.renewed.gone.items made.renewed behind
-    → ((out : List ℕ) (t : CTree) → IsRenewal out t made.renewed → NothingLost out made.renewed.text.items (left_bytes behind)) → IsPutTogether old made behind plan → IsPlan tree plan
-plan_so tree bytes old made behind plan are is leaves lost of =
+    → ((out : List ℕ) (t : CTree) → IsRenewal out t made.renewed → SavesIn behind out made.renewed.text.items) → IsPutTogether old made behind plan → IsPlan tree plan
+plan_so tree bytes old made behind plan are is leaves sound of =
     let was : bytes ≡ bytes_of (task_of plan.job).old = are ∙ ap bytes_of (sym of.was) in
     let renewal = subst (λ (b : List ℕ). IsRenewal b tree made.renewed) was is.renewal in
     record {
       renewal = subst (λ (r : Renewed). IsRenewal (bytes_of (task_of plan.job).old) tree r) (sym of.renewed) renewal;
       text = refl;
       left = subst (λ (r : Renewed). LeavesAs r.gone.items r (task_of plan.job).behind) (sym of.renewed) (subst (λ (b : Option Behind). LeavesAs made.renewed.gone.items made.renewed b) (sym of.left) leaves);
-      lost = subst (λ (b : Option Behind). NothingLost (bytes_of (task_of plan.job).old) plan.job.text.items (left_bytes b)) (sym of.left)
-          (subst (λ (r : Renewed). NothingLost (bytes_of (task_of plan.job).old) r.text.items (left_bytes behind)) (sym of.renewed) (lost _ tree renewal));
+      sound = subst (λ (b : Option Behind). SavesIn b (bytes_of (task_of plan.job).old) plan.job.text.items) (sym of.left)
+          (subst (λ (r : Renewed). SavesIn behind (bytes_of (task_of plan.job).old) r.text.items) (sym of.renewed) (sound _ tree renewal));
       lines = λ spared. subst SparesLines was (is.lines (sym of.lines ∙ spared));
     }
 

@@ -9,6 +9,7 @@ use Rattle.pb_kernels.specs.Files.{kernel_file, lines, read_from}
 use Rattle.pb_kernels.specs.Names.{body_of, is_among}
 use Rattle.pb_renew.specs.Plans.{Fits, LeavesAs, SparesLines, bytes_of, left_bytes}
 use Rattle.pb_renew.specs.Renewing.{Grows, GrowsBy, KeepsLines, Renews}
+use Rattle.pb_renew_laws.specs.Bodies.{SavesIn, StandsIn}
 use Rattle.pb_renew_merge.specs.declared.renewed.Renewed.{Renewed}
 use Rattle.pb_renew_merge.specs.Lost.{Keeps, NothingLost}
 use Rattle.pb_renew_merge.specs.Renewed.{IsLeft, IsRenewal}
@@ -46,6 +47,28 @@ content_is files name o e = ap bytes_of e
 lost_left : (was text out : List ℕ) (behind : Option Behind) (old new : List File) → PutsLeft behind out old new → NothingLost was text (left_bytes behind) → NothingLost was text (content_of new (left_name out))
 lost_left was text out None old new put lost = lost_none was text _ lost
 lost_left was text out (Some b) old new put lost = subst (λ (l : List ℕ). NothingLost was text l) (sym (content_is new (left_name out) (Some b.bodies) put.1)) lost
+
+-- where a task is sound, OUT.left keeps what it had, and gets no more than the old OUT had
+lost_of : (behind : Option Behind) (was text : List ℕ) → SavesIn behind was text → NothingLost was text (left_bytes behind)
+lost_of None was text is = is
+lost_of (Some b) was text is = is.whole
+
+stands_there : (bytes out : List ℕ) → NothingLost bytes bytes out
+stands_there bytes out = λ list read name there. inl (record { list = list; read = read; there = there; same = refl })
+
+had_so : (behind : Option Behind) (was text out : List ℕ) (old new : List File) → SavesIn behind was text → PutsLeft behind out old new → StandsIn (content_of old (left_name out)) (content_of new (left_name out))
+had_so None was text out old new is put =
+    subst (λ (l : List ℕ). StandsIn (content_of old (left_name out)) l) (sym (content_is new (left_name out) (file_of old (left_name out)) put)) (stands_there (content_of old (left_name out)) [])
+had_so (Some b) was text out old new is put =
+    subst (λ (l : List ℕ). StandsIn l (content_of new (left_name out))) (sym (content_is old (left_name out) b.before put.0))
+    (subst (λ (l : List ℕ). StandsIn (bytes_of b.before) l) (sym (content_is new (left_name out) (Some b.bodies) put.1)) is.grows)
+
+known_so : (behind : Option Behind) (was text out : List ℕ) (old new : List File) → SavesIn behind was text → PutsLeft behind out old new → NothingLost (content_of new (left_name out)) (content_of old (left_name out)) was
+known_so None was text out old new is put =
+    subst (λ (l : List ℕ). NothingLost l (content_of old (left_name out)) was) (sym (content_is new (left_name out) (file_of old (left_name out)) put)) (stands_there (content_of old (left_name out)) was)
+known_so (Some b) was text out old new is put =
+    subst (λ (l : List ℕ). NothingLost (content_of new (left_name out)) l was) (sym (content_is old (left_name out) b.before put.0))
+    (subst (λ (l : List ℕ). NothingLost l (bytes_of b.before) was) (sym (content_is new (left_name out) (Some b.bodies) put.1)) is.known)
 
 is_some_of : (o : Option (List ℕ)) (bytes : List ℕ) → o ≡ Some bytes → IsSome o
 is_some_of o bytes e = subst (λ (p : Option (List ℕ)). IsSome p) (sym e) refl
@@ -89,7 +112,9 @@ at_out out tree renewed task old new e fits puts =
       text = puts.text ∙ ap Some fits.text;
       lost = subst (λ (l : List ℕ). NothingLost l (content_of new task.out) (content_of new (left_name task.out))) (sym was)
           (subst (λ (l : List ℕ). NothingLost (bytes_of task.old) l (content_of new (left_name task.out))) (sym text)
-          (lost_left (bytes_of task.old) task.text task.out task.behind old new puts.left fits.lost));
+          (lost_left (bytes_of task.old) task.text task.out task.behind old new puts.left (lost_of task.behind (bytes_of task.old) task.text fits.sound)));
+      had = had_so task.behind (bytes_of task.old) task.text task.out old new fits.sound puts.left;
+      known = subst (λ (l : List ℕ). NothingLost (content_of new (left_name task.out)) (content_of old (left_name task.out)) l) (sym was) (known_so task.behind (bytes_of task.old) task.text task.out old new fits.sound puts.left);
       left = grows_by renewed.gone.items renewed task.out task.behind old new fits.left puts.left puts.spare;
       lines = subst (λ (o : Option (List ℕ)). KeepsLines o task.out old new) (sym puts.was) (keeps_lines task.keeps_old task.old task.out old new fits.lines puts.kept);
       fresh = puts.fresh;

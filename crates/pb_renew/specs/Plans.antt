@@ -13,7 +13,7 @@ use Rattle.pb_renew.specs.declared.place.Place.{Place}
 use Rattle.pb_renew.specs.declared.plan.Plan.{Plan}
 use Rattle.pb_renew_put.specs.declared.job.Job.{Job}
 use Rattle.pb_renew_merge.specs.declared.renewed.Renewed.{Renewed}
-use Rattle.pb_renew_merge.specs.Lost.{NothingLost}
+use Rattle.pb_renew_laws.specs.Bodies.{Sound}
 use Rattle.pb_renew_merge.specs.Renewed.{IsLeft, IsRenewal}
 use Rattle.pb_renew_put.specs.Jobs.{Behind, Task, task_of}
 
@@ -36,13 +36,13 @@ abbrev pub left_bytes : Option Behind → List ℕ
 left_bytes None = []
 left_bytes (Some b) = b.bodies
 
--- the text of the tree, with each body that OUT had and that still has a function; the others go to OUT.left; and the old OUT is kept
--- whole where a line of it would be lost
+-- the text of the tree, with each body that OUT had and that still has a function; the others go to OUT.left, which keeps what it had
+-- and gets no more; and the old OUT is kept whole where a line of it would be lost
 pub record Fits (tree : CTree) (renewed : Renewed) (task : Task) : Type 0 where
   pub renewal : IsRenewal (bytes_of task.old) tree renewed
   pub text : task.text ≡ renewed.text.items
   pub left : LeavesAs renewed.gone.items renewed task.behind
-  pub lost : NothingLost (bytes_of task.old) task.text (left_bytes task.behind)
+  pub sound : Sound task
   pub lines : task.keeps_old ≡ false → SparesLines (bytes_of task.old)
 
 abbrev pub renewed_of : Plan → Renewed

@@ -4,6 +4,7 @@ use Rattle.pb_io.specs.Files.{File, content_of, file_of}
 use Rattle.pb_ctree.specs.declared.tree.CTree.{CTree}
 use Rattle.pb_ctree.specs.declared.kernel.KName.{KName}
 use Rattle.pb_renew.specs.Plans.{Fits, SparesLines}
+use Rattle.pb_renew_laws.specs.Bodies.{StandsIn}
 use Rattle.pb_renew_merge.specs.declared.renewed.Renewed.{Renewed}
 use Rattle.pb_renew_merge.specs.Lost.{NothingLost}
 use Rattle.pb_renew_merge.specs.Renewed.{IsLeft, IsRenewal}
@@ -31,8 +32,8 @@ abbrev pub KeepsLines : Option (List ℕ) → List ℕ → List File → List Fi
 KeepsLines None out old new = ⊤
 KeepsLines (Some bytes) out old new = SparesLines bytes ⊎ KeepsOld out (Some bytes) old new
 
--- OUT has the text that renews the bytes that it had; each of its old bodies stands there, byte for byte, or in OUT.left; and
--- nothing is left of a new one
+-- OUT has the text that renews the bytes that it had; each of its old bodies stands there, byte for byte, or in OUT.left, which keeps
+-- each body that it had and gets none but those; and nothing is left of a new one
 pub record Renews (out : List ℕ) (tree : CTree) (old new : List File) : Type 0 where
   pub task : Task
   pub renewed : Renewed
@@ -42,6 +43,8 @@ pub record Renews (out : List ℕ) (tree : CTree) (old new : List File) : Type 0
   pub renewal : IsRenewal (content_of old out) tree renewed
   pub text : file_of new out ≡ Some renewed.text.items
   pub lost : NothingLost (content_of old out) (content_of new out) (content_of new (left_name out))
+  pub had : StandsIn (content_of old (left_name out)) (content_of new (left_name out))
+  pub known : NothingLost (content_of new (left_name out)) (content_of old (left_name out)) (content_of old out)
   pub left : GrowsBy renewed.gone.items renewed out old new
   pub lines : KeepsLines (file_of old out) out old new
   pub fresh : file_of new (new_name out) ≡ None

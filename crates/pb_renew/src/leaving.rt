@@ -6,8 +6,9 @@ ghost use Rattle.std.specs.String.{string_bytes};
 ghost use Rattle.pb_io.specs.Files.{content_of, file_of};
 ghost use Rattle.pb_ctree.specs.declared.tree.CTree.{CTree};
 ghost use Rattle.pb_renew.specs.Places.{IsThere};
-ghost use Rattle.pb_renew.specs.Plans.{LeavesAs, WasBefore, left_bytes};
+ghost use Rattle.pb_renew.specs.Plans.{LeavesAs, WasBefore};
 ghost use Rattle.pb_renew.specs.Reasons.{IsNoLeft, IsRead, IsReasonWith};
+ghost use Rattle.pb_renew_laws.specs.Bodies.{SavesIn};
 ghost use Rattle.pb_renew_merge.specs.Lost.{NothingLost};
 ghost use Rattle.pb_renew_merge.specs.Renewed.{IsLeft, IsRenewal};
 ghost use Rattle.pb_renew_put.specs.Jobs.{behind_of};
@@ -33,7 +34,7 @@ pub fn leaving_of<F: Folder>(
 ) -> Result<Option<Leaving>, Unrenewed>
     ensures leaving { IfOk result (λ leaving. LeavesAs renewed.now.gone.items renewed.now (option_map behind_of leaving)) }
     ensures before { IfOk result (λ leaving. IfSome (F.holds folder.old) (λ files. IsThere (string_bytes place.now.left) place.now.is_left files → WasBefore (option_map behind_of leaving) (file_of files (string_bytes place.now.left)))) }
-    ensures lost { IfOk result (λ leaving. (old : List ℕ) → (tree : CTree) → IsRenewal old tree renewed.now → NothingLost old renewed.now.text.items (left_bytes (option_map behind_of leaving))) }
+    ensures sound { IfOk result (λ leaving. (old : List ℕ) → (tree : CTree) → IsRenewal old tree renewed.now → SavesIn (option_map behind_of leaving) old renewed.now.text.items) }
     ensures refused { IfErr result (λ why. IfSome (F.holds folder.old) (λ files. IsThere (string_bytes place.now.left) place.now.is_left files
         → (old : List ℕ) → (tree : CTree) → IsRenewal old tree renewed.now → IsReasonWith losing old (content_of files (string_bytes place.now.left)) tree why)) }
     ensures read { IfErr result (λ why. IsRead why (F.faults folder.old) (F.faults folder.new)) }
@@ -71,6 +72,8 @@ fn left_of(
 ) -> Result<Vec<u8>, Unrenewed>
     ensures bytes { IfOk result (λ left. IsLeft renewed.now before.now left.items) }
     ensures lost { IfOk result (λ left. (old : List ℕ) → (tree : CTree) → IsRenewal old tree renewed.now → NothingLost old renewed.now.text.items left.items) }
+    ensures keeps { IfOk result (λ left. NothingLost before.now left.items []) }
+    ensures adds { IfOk result (λ left. (old : List ℕ) → (tree : CTree) → IsRenewal old tree renewed.now → NothingLost left.items before.now old) }
     ensures fault { IfErr result (λ why. IsNoLeft why losing renewed.now before.now) }
 {
     if let (Losing::Refused, Some(line)) = (losing, first_indented(before)) {

@@ -12,7 +12,7 @@ returns-in-Err-leaving_of-clause-refused g c =
 
 pub returns-in-Ok-planned-clause-plan : goal.returns-in-Ok-planned-clause-plan
 returns-in-Ok-planned-clause-plan g c =
-    plan_so _ _ _ _ _ _ c.bytes_in.ensures c.in-Ok-made_of.ensures.made c.in-Ok-leaving_of.ensures.leaving c.in-Ok-leaving_of.ensures.lost c.in-Ok-planned.ensures.parts
+    plan_so _ _ _ _ _ _ c.bytes_in.ensures c.in-Ok-made_of.ensures.made c.in-Ok-leaving_of.ensures.leaving c.in-Ok-leaving_of.ensures.sound c.in-Ok-planned.ensures.parts
 
 pub returns-in-Ok-planned-clause-told : goal.returns-in-Ok-planned-clause-told
 returns-in-Ok-planned-clause-told g c =
