@@ -6,3 +6,4 @@ mod Moves
 mod Steps
 mod Calls
 mod Two
+mod Worked
