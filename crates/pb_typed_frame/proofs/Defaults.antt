@@ -1,6 +1,6 @@
 -- The default bodies of functions with names are bodies.
-use Rattle.std.proofs.Common.{◌≡◌, ℕ, Bool, true, false, List, [], ◌∷◌, ◌++◌, refl, sym, ap, ◌∙◌, append_assoc, arith, nat_eq, eqb-true, subst}
-use Rattle.std.specs.Prelude.{IsTrue, codes, not, nat_le, nat_lt, ◌&&◌, ◌||◌, length}
+use Rattle.std.proofs.Common.{◌≡◌, ℕ, Bool, true, false, List, [], ◌∷◌, ◌++◌, refl, ap, ◌∙◌, append_assoc, nat_eq, eqb-true, subst}
+use Rattle.std.specs.Prelude.{IsTrue, codes, not, nat_lt, ◌&&◌, ◌||◌, length}
 use Rattle.std.specs.List.{list_all}
 use Rattle.std.proofs.lemmas.Bool.{and_parts}
 use Rattle.pb_local.specs.Names.{is_name, is_word, is_letter, is_digit, is_keyword}
@@ -11,7 +11,7 @@ use Rattle.pb_typed.specs.Functions.{default_body}
 
 -- no line begins behind a byte of a name
 within : (c : ℕ) (rest : List ℕ) → nat_eq c 10 ≡ false → is_rest false rest ≡ true → is_rest false (c ∷ rest) ≡ true
-within c rest no is = ap (λ b. is_rest b rest) no ∙ is
+within c rest apart is = ap (λ b. is_rest b rest) apart ∙ is
 
 abbrev fits : ℕ → Bool
 fits c = is_letter c || is_digit c

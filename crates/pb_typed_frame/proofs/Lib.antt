@@ -1,4 +1,5 @@
 pub mod Defaults
 pub mod Named
+pub mod Rounds
 pub mod Tables
 pub mod Written

@@ -2,7 +2,6 @@
 use Rattle.std.proofs.Common.{◌≡◌, ℕ, zero, suc, ◌+◌, List, [], ◌∷◌, drop, get_or, refl, sym, ap, ◌∙◌, add-one}
 use Rattle.std.specs.List.{All}
 use Rattle.std.specs.Prelude.{IsTrue}
-use Rattle.pb_syntax.specs.declared.core_label.CoreLabel.{CoreLabel}
 use Rattle.pb_local.specs.Names.{is_name}
 use Rattle.pb_local.specs.Tree.{Program}
 use Rattle.pb_local.specs.WellMade.{IsWellMade}
@@ -25,4 +24,4 @@ others_of types at = behind types at ∙ ap (λ n. drop n types) (sym (add-one a
   behind (c ∷ cs) (suc at) = behind cs at
 
 pub label_names : (p : Program) → IsWellMade p → All (λ l. IsTrue (is_name l.name)) p.labels
-label_names p is = λ at below. (is.labels.each at below).name
+label_names p is = λ at other below. (is.labels.each at other below).name

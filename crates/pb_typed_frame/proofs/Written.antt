@@ -1,5 +1,5 @@
 -- What the pieces of heads and functions spell.
-use Rattle.std.proofs.Common.{◌≡◌, ℕ, ◌+◌, Bool, true, false, List, [], ◌∷◌, ◌++◌, refl, sym, ap, ◌∙◌, append_assoc, append-nil, drop}
+use Rattle.std.proofs.Common.{◌≡◌, ℕ, Bool, true, false, List, [], ◌∷◌, ◌++◌, refl, sym, ap, ◌∙◌, append_assoc, append-nil}
 use Rattle.std.specs.Prelude.{if◌then◌else◌, codes, decimal}
 use Rattle.std.specs.List.{list_any}
 use Rattle.pb_syntax.specs.declared.core_label.CoreLabel.{CoreLabel}
@@ -17,12 +17,14 @@ use Rattle.pb_cprint.specs.Framed.{protocol_line, range_line, roles_written, lab
 use Rattle.pb_cprint.proofs.Frames.{roles_same, labels_same, buffers_same, body_lines_same, kernels_same}
 use Rattle.pb_cprint.proofs.Texts.{right2, both}
 use Rattle.pb_types.specs.declared.carried.Carried.{Carried}
+use Rattle.pb_types.specs.declared.carried.Carried.TheVariants.{Fixed, Open}
+use Rattle.pb_types.specs.Elements.{c_name}
 use Rattle.pb_typed_types.specs.declared.types.Constant.{Constant}
-use Rattle.pb_typed.specs.Frame.{first_carried, others_carried, type_rows, trace_lines, is_open, count_lines, constant_lines, owns, head_pieces, marker_of, headed, room_head, room_pieces, label_pieces, behind_label, functions_after}
+use Rattle.pb_typed.specs.Frame.{first_carried, others_carried, type_rows, trace_lines, is_open, count_lines, constant_lines, own_lines, owns, head_pieces, marker_of, headed, room_head, room_pieces, label_pieces, behind_label, functions_after}
 use Rattle.pb_types.specs.declared.element.Element.{Element}
-use Rattle.pb_typed.specs.Pieces.{Piece, same, instead, added, pieces_text, as_they_are, further}
+use Rattle.pb_typed.specs.Pieces.{same, instead, added, pieces_text, as_they_are, further}
 use Rattle.pb_typed.proofs.Spelling.{pieces_append, steps, step}
-use Rattle.pb_typed_frame.specs.Functions.{pieces_of_label, behind_of, labels_pieces, behind_labels}
+use Rattle.pb_typed_frame.specs.Functions.{labels_pieces, behind_labels}
 
 pub written : (p : Program) (ls : List Line) → pieces_text p (as_they_are ls) ≡ text_of p ls
 written p [] = refl
@@ -135,3 +137,26 @@ pub functions_put : (p : Program) (ls : List CoreLabel) (types : List Carried) (
 functions_put p ls types ks bodies rest old mid now first is last =
     onto old mid now (pieces_text p (labels_pieces ls types bodies)) (kernels_written ks (behind_labels ls types bodies)) first (last ∙ ap (λ r. mid ++ kernels_written ks r) is)
     ∙ ap (λ t. old ++ t) (sym (after_text p ls types ks bodies))
+
+-- ---- lines in parts
+
+pub fronted : (a b : List ℕ) (rest : List (List ℕ)) (old x now : List ℕ) → x ≡ old ++ (a ++ b) → now ≡ x ++ P.line 0 (P.joined rest) → now ≡ old ++ P.line 0 (P.joined (a ∷ b ∷ rest))
+fronted a b rest old x now first last =
+    onto old x now (a ++ b) (P.line 0 (P.joined rest)) first last
+    ∙ ap (λ w. old ++ w) (sym (append_assoc (a ++ b) (P.joined rest) (10 ∷ [])) ∙ ap (λ w. w ++ 10 ∷ []) (append_assoc a b (P.joined rest)))
+
+two_texts : (s t old a now : List ℕ) → a ≡ old ++ s → now ≡ a ++ t → now ≡ old ++ (s ++ (t ++ []))
+two_texts s t old a now first last = onto old a now s (t ++ []) first (last ∙ ap (λ w. a ++ w) (sym (append-nil t)))
+
+pub fixed_put : (p : Program) (e : Element) (number : ℕ) (l : CoreLabel) (old a now : List ℕ)
+    → a ≡ old ++ P.line 0 (P.joined (codes "enum { n_" ∷ l.name ∷ codes " = " ∷ decimal number ∷ codes " };" ∷ []))
+    → now ≡ a ++ P.line 0 (P.joined (codes "static " ∷ c_name e ∷ codes " s_" ∷ l.name ∷ codes "[n_" ∷ l.name ∷ codes "], t_" ∷ l.name ∷ codes "[n_" ∷ l.name ∷ codes "];" ∷ []))
+    → now ≡ old ++ pieces_text p (own_lines (Fixed e number) l)
+fixed_put p e number l old a now first last = two_texts _ _ old a now first last
+
+pub open_put : (p : Program) (e : Element) (l : CoreLabel) (old a b now : List ℕ)
+    → a ≡ old ++ P.line 0 (P.joined (codes "static const " ∷ c_name e ∷ codes " *s_" ∷ l.name ∷ codes ";" ∷ []))
+    → b ≡ a ++ P.line 0 (P.joined (codes "static " ∷ c_name e ∷ codes " *t_" ∷ l.name ∷ codes ";" ∷ []))
+    → now ≡ b ++ P.line 0 (P.joined (codes "static int n_" ∷ l.name ∷ codes ", m_" ∷ l.name ∷ codes ";" ∷ []))
+    → now ≡ old ++ pieces_text p (own_lines (Open e) l)
+open_put p e l old a b now first second last = onto old a now _ _ first (two_texts _ _ a b now second last)

@@ -54,7 +54,8 @@ fn push_make(
     push_brace(out)?;
     push_make_marker(out, label)?;
     push_body_at(out, bodies, at)?;
-    push_function_end(out)
+    push_function_end(out)?;
+    Ok(())
 }
 
 fn push_room(
@@ -71,7 +72,8 @@ fn push_room(
     push_brace(out)?;
     push_room_marker(out, label)?;
     push_body_at(out, bodies, at)?;
-    push_function_end(out)
+    push_function_end(out)?;
+    Ok(())
 }
 
 fn push_take(
@@ -88,11 +90,12 @@ fn push_take(
     push_brace(out)?;
     push_take_marker(out, label)?;
     push_body_at(out, bodies, at)?;
-    push_function_end(out)
+    push_function_end(out)?;
+    Ok(())
 }
 
 /// The functions that make and take what a label carries, in buffers of the text.
-#[tactic(auto, using(pb_typed::proofs::Spelling::pieces_append, pb_cprint::proofs::Bodied::others_at))]
+#[tactic(auto, using(pb_cprint::proofs::Bodied::others_at))]
 fn push_two(
     local: &Local,
     out: &mut Vec<u8>,
@@ -112,7 +115,7 @@ fn push_two(
 }
 
 /// The functions of a label with an open count.
-#[tactic(auto, using(pb_typed::proofs::Spelling::pieces_append, pb_cprint::proofs::Bodied::others_at))]
+#[tactic(auto, using(pb_cprint::proofs::Bodied::others_at))]
 fn push_three(
     local: &Local,
     out: &mut Vec<u8>,
@@ -158,7 +161,6 @@ fn push_label(
 }
 
 /// The functions of the labels; gives the place behind their bodies.
-#[tactic(auto, using(pb_typed::proofs::Spelling::pieces_append, crate::proofs::Tables::others_of))]
 fn push_labels(
     local: &Local,
     out: &mut Vec<u8>,
@@ -198,5 +200,6 @@ pub fn push_functions(
     ensures { OnOk result (out.new.items ≡ out.old.items ++ pieces_text (program_of tree.now.local) (functions_after tree.now.local.labels.items types.now tree.now.local.kernels.items bodies.now)) }
 {
     let at = push_labels(&tree.local, out, &tree.local.labels, types, bodies)?;
-    push_kernels(out, &tree.local.kernels, rest_of(bodies, at), 0)
+    push_kernels(out, &tree.local.kernels, rest_of(bodies, at), 0)?;
+    Ok(())
 }

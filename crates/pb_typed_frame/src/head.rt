@@ -9,7 +9,7 @@ ghost use Rattle.pb_typed.specs.Frame.{type_row, type_rows, trace_lines, is_open
 ghost use Rattle.pb_typed.specs.Pieces.{pieces_text};
 
 use crate::labels::{carried_of, has_open};
-use crate::lines::{push_front, push_text};
+use crate::lines::{push_declared, push_text};
 use itoa::Buffer;
 use pb_cprint::{push_buffers, push_labels, push_protocol, push_range, push_roles};
 use pb_ctree::{CoreLabel, Local};
@@ -35,7 +35,6 @@ fn push_row(
     push_type_row(out, &label.name, carried)
 }
 
-#[tactic(auto, using(pb_typed::proofs::Spelling::pieces_append, crate::proofs::Tables::others_of))]
 fn push_rows(
     local: &Local,
     out: &mut Vec<u8>,
@@ -133,13 +132,13 @@ fn push_fixed(
     ensures { OnOk result (out.new.items ≡ out.old.items ++ pieces_text (program_of local.now) (own_lines (Fixed element count) label.now)) }
 {
     push_own_count(out, label.name.bytes(), count)?;
-    push_front(out, b"static ", element.c_name())?;
-    push_text(
+    push_declared(
         out,
-        0,
+        b"static ",
+        element.c_name(),
+        b" s_",
+        label.name.bytes(),
         &[
-            b" s_",
-            label.name.bytes(),
             b"[n_",
             label.name.bytes(),
             b"], t_",
@@ -148,7 +147,8 @@ fn push_fixed(
             label.name.bytes(),
             b"];",
         ],
-    )
+    )?;
+    Ok(())
 }
 
 /// The two pointers of a label, and their counts.
@@ -160,10 +160,22 @@ fn push_open(
 ) -> Result<(), NoMemory>
     ensures { OnOk result (out.new.items ≡ out.old.items ++ pieces_text (program_of local.now) (own_lines (Open element) label.now)) }
 {
-    push_front(out, b"static const ", element.c_name())?;
-    push_text(out, 0, &[b" *s_", label.name.bytes(), b";"])?;
-    push_front(out, b"static ", element.c_name())?;
-    push_text(out, 0, &[b" *t_", label.name.bytes(), b";"])?;
+    push_declared(
+        out,
+        b"static const ",
+        element.c_name(),
+        b" *s_",
+        label.name.bytes(),
+        &[b";"],
+    )?;
+    push_declared(
+        out,
+        b"static ",
+        element.c_name(),
+        b" *t_",
+        label.name.bytes(),
+        &[b";"],
+    )?;
     push_text(
         out,
         0,
@@ -174,7 +186,8 @@ fn push_open(
             label.name.bytes(),
             b";",
         ],
-    )
+    )?;
+    Ok(())
 }
 
 fn push_own(
@@ -192,7 +205,6 @@ fn push_own(
     }
 }
 
-#[tactic(auto, using(pb_typed::proofs::Spelling::pieces_append, crate::proofs::Tables::others_of))]
 fn push_owns(
     local: &Local,
     out: &mut Vec<u8>,
@@ -221,5 +233,6 @@ pub fn push_head(local: &Local, types: &Types, out: &mut Vec<u8>) -> Result<(), 
     push_trace(local, out)?;
     push_counts(local, out, &types.labels)?;
     push_constants(local, out, &types.constants)?;
-    push_owns(local, out, &local.labels, &types.labels)
+    push_owns(local, out, &local.labels, &types.labels)?;
+    Ok(())
 }

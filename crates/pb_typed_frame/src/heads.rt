@@ -5,7 +5,7 @@ ghost use Rattle.pb_local.specs.Pieces.{line};
 ghost use Rattle.pb_ctree.specs.Frame.{element_text};
 ghost use Rattle.pb_typed.specs.Frame.{to_end, from_end, typed_make_head, typed_take_head, room_head, marker_of};
 
-use crate::lines::{push_front, push_text};
+use crate::lines::{push_begun, push_declared, push_text};
 use pb_ctree::{CoreLabel, Payload};
 use pb_text::NoMemory;
 use pb_typed_types::Carried;
@@ -41,20 +41,28 @@ pub fn push_make_head(
 ) -> Result<(), NoMemory>
     ensures { OnOk result (out.new.items ≡ out.old.items ++ line 0 (typed_make_head carried label.now)) }
 {
+    let name = label.name.bytes();
     match carried {
-        Carried::Words => {
-            push_front(out, b"static void make_", label.name.bytes())?;
-            push_text(out, 0, &[to_end(), words_type(label.payload), b" *v)"])
-        }
-        Carried::Fixed { element, .. } => {
-            push_front(out, b"static void make_", label.name.bytes())?;
-            push_text(out, 0, &[to_end(), element.c_name(), b" *v)"])
-        }
-        Carried::Open { element } => {
-            push_front(out, b"static const ", element.c_name())?;
-            push_front(out, b" *make_", label.name.bytes())?;
-            push_text(out, 0, &[to_end(), b"int *count)"])
-        }
+        Carried::Words => push_begun(
+            out,
+            b"static void make_",
+            name,
+            &[to_end(), words_type(label.payload), b" *v)"],
+        ),
+        Carried::Fixed { element, .. } => push_begun(
+            out,
+            b"static void make_",
+            name,
+            &[to_end(), element.c_name(), b" *v)"],
+        ),
+        Carried::Open { element } => push_declared(
+            out,
+            b"static const ",
+            element.c_name(),
+            b" *make_",
+            name,
+            &[to_end(), b"int *count)"],
+        ),
     }
 }
 
@@ -66,9 +74,14 @@ pub fn push_room_head(
 ) -> Result<(), NoMemory>
     ensures { OnOk result (out.new.items ≡ out.old.items ++ line 0 (room_head element label.now)) }
 {
-    push_front(out, b"static ", element.c_name())?;
-    push_front(out, b" *room_", label.name.bytes())?;
-    push_text(out, 0, &[from_end(), b"int *most)"])
+    push_declared(
+        out,
+        b"static ",
+        element.c_name(),
+        b" *room_",
+        label.name.bytes(),
+        &[from_end(), b"int *most)"],
+    )
 }
 
 /// Appends the first line of the function that takes what a label carries.
@@ -79,27 +92,26 @@ pub fn push_take_head(
 ) -> Result<(), NoMemory>
     ensures { OnOk result (out.new.items ≡ out.old.items ++ line 0 (typed_take_head carried label.now)) }
 {
+    let name = label.name.bytes();
     match carried {
-        Carried::Words => {
-            push_front(out, b"static void take_", label.name.bytes())?;
-            push_text(
-                out,
-                0,
-                &[from_end(), b"const ", words_type(label.payload), b" *v)"],
-            )
-        }
-        Carried::Fixed { element, .. } => {
-            push_front(out, b"static void take_", label.name.bytes())?;
-            push_text(out, 0, &[from_end(), b"const ", element.c_name(), b" *v)"])
-        }
-        Carried::Open { element } => {
-            push_front(out, b"static void take_", label.name.bytes())?;
-            push_text(
-                out,
-                0,
-                &[from_end(), b"const ", element.c_name(), b" *v, int count)"],
-            )
-        }
+        Carried::Words => push_begun(
+            out,
+            b"static void take_",
+            name,
+            &[from_end(), b"const ", words_type(label.payload), b" *v)"],
+        ),
+        Carried::Fixed { element, .. } => push_begun(
+            out,
+            b"static void take_",
+            name,
+            &[from_end(), b"const ", element.c_name(), b" *v)"],
+        ),
+        Carried::Open { element } => push_begun(
+            out,
+            b"static void take_",
+            name,
+            &[from_end(), b"const ", element.c_name(), b" *v, int count)"],
+        ),
     }
 }
 

@@ -1,4 +1,4 @@
-use Rattle.std.proofs.Common.{◌∙◌}
+use Rattle.std.proofs.Common.{rules}
 use Rattle.pb_local.specs.Tree.{program_of}
 use Rattle.pb_typed_frame.proofs.Written.{functions_put}
 use Rattle.pb_typed_frame.proofs.functions.push_functions.Goals as goal
@@ -7,4 +7,4 @@ pub returns : goal.returns
 returns c =
     let local = c.args.tree.now.local in
     functions_put (program_of local) local.labels.items c.args.types.now local.kernels.items c.args.bodies.now c.rest_of.result.now c.args.out.now.items c.push_labels.new.out.items c.push_kernels.new.out.items
-    c.in_ok-push_labels.ensures.text (c.rest_of.ensures ∙ c.in_ok-push_labels.ensures.behind) c.in_ok-push_kernels.ensures
+    (search rules) (search rules) (search rules)

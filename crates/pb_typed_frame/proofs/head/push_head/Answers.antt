@@ -1,3 +1,4 @@
+use Rattle.std.proofs.Common.{rules}
 use Rattle.pb_local.specs.Tree.{program_of}
 use Rattle.pb_typed_frame.proofs.Written.{head_put}
 use Rattle.pb_typed_frame.proofs.head.push_head.Goals as goal
@@ -6,4 +7,4 @@ pub returns : goal.returns
 returns c =
     head_put (program_of c.args.local.now) c.args.types.now.labels.items c.args.types.now.constants.items c.args.out.now.items
     c.push_title.new.out.items c.push_protocol.new.out.items c.push_range.new.out.items c.push_roles.new.out.items c.push_labels.new.out.items c.push_rows.new.out.items c.push_buffers.new.out.items c.push_trace.new.out.items c.push_counts.new.out.items c.push_constants.new.out.items c.push_owns.new.out.items
-    c.in_ok-push_title.ensures c.in_ok-push_protocol.ensures c.in_ok-push_range.ensures c.in_ok-push_roles.ensures c.in_ok-push_labels.ensures c.in_ok-push_rows.ensures c.in_ok-push_buffers.ensures c.in_ok-push_trace.ensures c.in_ok-push_counts.ensures c.in_ok-push_constants.ensures c.in_ok-push_owns.ensures
+    (search rules) (search rules) (search rules) (search rules) (search rules) (search rules) (search rules) (search rules) (search rules) (search rules) (search rules)

@@ -1,0 +1,4 @@
+pub mod Appended
+pub mod Blocks
+pub mod Mains
+pub mod Programs
