@@ -102,11 +102,19 @@ module _ (a : Asked) (t : Task) (tree : CTree) (renewed : Renewed) (fits : Fits 
   left_at : (now files : List File) (behind : Option Behind) → t.behind ≡ behind → IsTreeOf a.file (Some files) tree → t.old ≡ file_of files a.out → WasBefore behind (file_of files (left_name a.out)) → IsLeftOther behind a.out now
       → (file_of now (left_name a.out) ≢ file_of files (left_name a.out)) × WhereBodiesGo a files
   left_at now files None behind_is compiled old_is was is = absurd is
-  left_at now files (Some b) behind_is compiled old_is was is =
-      ((λ e. is (e ∙ sym was)),
-      (tree, compiled,
-      (renewed, subst (λ (l : List ℕ). IsRenewal l tree renewed) (ap (λ (o : Option (List ℕ)). unwrap_or o []) old_is) fits.renewal,
-      some_gone renewed.gone.items renewed t.behind b fits.left behind_is, tt)))
+  left_at now files (Some b) behind_is compiled old_is was is = (
+    (λ e. is (e ∙ sym was)),
+    (
+      tree,
+      compiled,
+      (
+        renewed,
+        subst (λ (l : List ℕ). IsRenewal l tree renewed) (ap (λ (o : Option (List ℕ)). unwrap_or o []) old_is) fits.renewal,
+        some_gone renewed.gone.items renewed t.behind b fits.left behind_is,
+        tt,
+      ),
+    ),
+  )
 
   changed_at : (now files : List File) → t.file ≡ a.file → t.out ≡ a.out → t.source ≡ content_of files a.file → IsTreeOf a.file (Some files) tree → IsAsTold a t files → IsCauseIn put.Changed t now → IsChanged a now files
   changed_at now files f at content compiled told (inl other) = inl (λ e. other (ap (λ (n : List ℕ). file_of now n) f ∙ e ∙ ap Some (sym content)))
