@@ -195,6 +195,19 @@ def irregular(rows):
     rows.refused(["/dev/null", "o.c"], 3, IRREGULAR + "/dev/null: ")
 
 
+def other_parameters(rows):
+    """Bodies that were written for the kernels' own memory have other parameters than those of a plain text, and go to OUT.left."""
+    room = rows.room
+    open_bodies = b"".join(b"/*@ kernel " + name + b" */\n  *count = 0;\n/*@ end */\n" for name in (b"make_A", b"room_A", b"take_A"))
+    room.put("p.pbl", protocol("K", "A"))
+    room.put("o.c", b"/*@ kernel k_K */\n  puts(\"K\");\n/*@ end */\n" + open_bodies)
+    rows.done(["p.pbl", "o.c"], None, lambda: room.get("o.c.left") == open_bodies and b"*count" not in room.get("o.c") and b'puts("K")' in room.get("o.c"))
+    rows.clean()
+    room.put("p.pbl", protocol("K", "A"))
+    room.put("o.c", open_bodies.replace(b"room_A", b"room_B"))
+    rows.done(["p.pbl", "o.c"], None, lambda: b"room_B" in room.get("o.c.left") and room.get("o.c").count(b"*count") == 2)
+
+
 # ---- rows on what is refused, and on what is told
 
 def table(rows):
@@ -325,7 +338,7 @@ def play(job):
     return tally.passed, tally.failed
 
 
-ROWS = [formatters, by_hand, outside, other_names, links, irregular, table, told]
+ROWS = [formatters, by_hand, outside, other_names, links, irregular, other_parameters, table, told]
 
 
 def main(words):

@@ -3,8 +3,8 @@ use Rattle.std.proofs.Common.{◌≡◌, ◌≢◌, ℕ, ◌≤◌, ◌⊎◌, i
 use Rattle.std.specs.Prelude.{IfSome}
 use Rattle.pb_io.specs.Files.{File, IsContent, content_of, file_of}
 use Rattle.pb_ctree.specs.declared.kernel.KName.{KName}
-use Rattle.pb_ctree.specs.declared.tree.CTree.{CTree}
-use Rattle.pb_cli_file.specs.Files.{IsTreeOf}
+use Rattle.pb_renew_text.specs.declared.wanted.Wanted.{Wanted}
+use Rattle.pabble_renew.specs.Wanted.{IsWantedOf}
 use Rattle.pb_renew.specs.Plans.{Fits, LeavesAs, WasBefore, renewed_of}
 use Rattle.pb_renew_merge.specs.declared.renewed.Renewed.{Renewed}
 use Rattle.pb_renew_merge.specs.Renewed.{IsRenewal}
@@ -30,7 +30,7 @@ use Rattle.pabble_renew.specs.declared.doing.Doing.TheVariants as doing
 use Rattle.pabble_renew.specs.declared.fault.Fault.{Fault}
 use Rattle.pabble_renew.specs.declared.fault.Fault.TheVariants as fault
 use Rattle.pabble_renew.proofs.Chains.{both_nothing, given, rose_sooner, sooner, still}
-use Rattle.pabble_renew.proofs.Plans.{tree_of}
+use Rattle.pabble_renew.proofs.Plans.{wanted_of}
 
 -- ---- where nothing was written
 
@@ -98,31 +98,31 @@ free_named : (own out : List ℕ) (h : Option (List File)) → IfSome h (λ now.
 free_named own out None at is = tt
 free_named own out (Some files) at is = subst (λ (o : List ℕ). file_of files (new_name o) ≡ None) at is
 
-module _ (a : Asked) (t : Task) (tree : CTree) (renewed : Renewed) (fits : Fits tree renewed t) where
-  left_at : (now files : List File) (behind : Option Behind) → t.behind ≡ behind → IsTreeOf a.file (Some files) tree → t.old ≡ file_of files a.out → WasBefore behind (file_of files (left_name a.out)) → IsLeftOther behind a.out now
+module _ (a : Asked) (t : Task) (wanted : Wanted) (renewed : Renewed) (fits : Fits wanted renewed t) where
+  left_at : (now files : List File) (behind : Option Behind) → t.behind ≡ behind → IsWantedOf a.file (Some files) wanted → t.old ≡ file_of files a.out → WasBefore behind (file_of files (left_name a.out)) → IsLeftOther behind a.out now
       → (file_of now (left_name a.out) ≢ file_of files (left_name a.out)) × WhereBodiesGo a files
   left_at now files None behind_is compiled old_is was is = absurd is
   left_at now files (Some b) behind_is compiled old_is was is = (
     (λ e. is (e ∙ sym was)),
     (
-      tree,
+      wanted,
       compiled,
       (
         renewed,
-        subst (λ (l : List ℕ). IsRenewal l tree renewed) (ap (λ (o : Option (List ℕ)). unwrap_or o []) old_is) fits.renewal,
+        subst (λ (l : List ℕ). IsRenewal l wanted renewed) (ap (λ (o : Option (List ℕ)). unwrap_or o []) old_is) fits.renewal,
         some_gone renewed.gone.items renewed t.behind b fits.left behind_is,
         tt,
       ),
     ),
   )
 
-  changed_at : (now files : List File) → t.file ≡ a.file → t.out ≡ a.out → t.source ≡ content_of files a.file → IsTreeOf a.file (Some files) tree → IsAsTold a t files → IsCauseIn put.Changed t now → IsChanged a now files
+  changed_at : (now files : List File) → t.file ≡ a.file → t.out ≡ a.out → t.source ≡ content_of files a.file → IsWantedOf a.file (Some files) wanted → IsAsTold a t files → IsCauseIn put.Changed t now → IsChanged a now files
   changed_at now files f at content compiled told (inl other) = inl (λ e. other (ap (λ (n : List ℕ). file_of now n) f ∙ e ∙ ap Some (sym content)))
   changed_at now files f at content compiled told (inr (inl other)) = inr (inl (λ e. other (ap (λ (n : List ℕ). file_of now n) at ∙ e ∙ sym told.out)))
   changed_at now files f at content compiled told (inr (inr other)) =
       inr (inr (left_at now files t.behind refl compiled told.out told.left (subst (λ (o : List ℕ). IsLeftOther t.behind o now) at other)))
 
-  changed_alike : (store folder : Option (List File)) → t.file ≡ a.file → IfSome store (λ now. t.out ≡ a.out) → IsContent folder a.file t.source → IsTreeOf a.file folder tree
+  changed_alike : (store folder : Option (List File)) → t.file ≡ a.file → IfSome store (λ now. t.out ≡ a.out) → IsContent folder a.file t.source → IsWantedOf a.file folder wanted
       → IfSome store (λ now. IfSome folder (λ files. TellAlike a.out now files → IsAsTold a t files)) → IfSome store (IsCauseIn put.Changed t)
       → IfSome store (λ now. IfSome folder (λ files. TellAlike a.out now files → IsChanged a now files))
   changed_alike None folder f at content compiled told is = tt
@@ -139,7 +139,7 @@ reason_of fault.NoMemory = why.NoMemory
 reason_of fault.NoFile = why.NoMemory
 reason_of (fault.File it) = why.NoMemory
 
-module _ (a : Asked) (tree : CTree) (plan : Plan) (h0 folder : Option (List File)) (is : IsPlanned a h0 folder tree plan) where
+module _ (a : Asked) (wanted : Wanted) (plan : Plan) (h0 folder : Option (List File)) (is : IsPlanned a h0 folder wanted plan) where
   renews_file : (x y : List File) → is_written a.out a.file ≡ false → (task_of plan.job).out ≡ a.out → Puts (task_of plan.job) x y → RenewsFile a.file a.out x y
   renews_file x y apart at puts =
       let there : file_of x a.file ≡ Some (task_of plan.job).source = subst (λ (n : List ℕ). file_of x n ≡ Some (task_of plan.job).source) is.file puts.source in
@@ -147,9 +147,9 @@ module _ (a : Asked) (tree : CTree) (plan : Plan) (h0 folder : Option (List File
         apart = apart;
         bytes = (task_of plan.job).source;
         there = there;
-        tree = tree;
-        compiled = tree_of a.file (Some x) (task_of plan.job).source tree (sym (ap (λ (o : Option (List ℕ)). unwrap_or o []) there)) is.compiles;
-        renewed = renews a.out tree (renewed_of plan) (task_of plan.job) x y at is.fits puts;
+        wanted = wanted;
+        compiled = wanted_of a.file (Some x) (task_of plan.job).source wanted (sym (ap (λ (o : Option (List ℕ)). unwrap_or o []) there)) is.compiles;
+        renewed = renews a.out wanted (renewed_of plan) (task_of plan.job) x y at is.fits puts;
       }
 
   pub achieves : (d : Doing) (h1 h2 : Option (List File)) → is_written a.out a.file ≡ false → h1 ≡ h0 → CarriesOut d (task_of plan.job) h1 h2 → Achieves d a.file a.out h0 h2
@@ -160,7 +160,7 @@ module _ (a : Asked) (tree : CTree) (plan : Plan) (h0 folder : Option (List File
 
   works : (d0 d1 d2 : Option (List Deed)) (h1 h2 : Option (List File)) (End : Task → Phase → Type 0) → DidNothing d0 d1 h0 h1 → Leads (task_of plan.job) start d1 d2 h1 h2 (End (task_of plan.job)) → Works a d0 d2 h0 h2 End
   works d0 d1 d2 h1 h2 End nothing leads = record {
-    tree = tree;
+    wanted = wanted;
     renewed = renewed_of plan;
     task = (task_of plan.job);
     file = is.file;
@@ -195,7 +195,7 @@ module _ (a : Asked) (tree : CTree) (plan : Plan) (h0 folder : Option (List File
   spares_out why.Changed x y at fails = subst (λ (o : List ℕ). KeepsBoth o x y) at fails
   spares_out why.Olds x y at fails = subst (λ (o : List ℕ). KeepsBoth o x y) at fails
   spares_out why.WriteFault x y at fails = subst (λ (o : List ℕ). KeepsBoth o x y) at fails
-  spares_out why.Halfway x y at fails = record { tree = tree; renewed = renewed_of plan; task = (task_of plan.job); at = at; fits = is.fits; fails = fails }
+  spares_out why.Halfway x y at fails = record { wanted = wanted; renewed = renewed_of plan; task = (task_of plan.job); at = at; fits = is.fits; fails = fails }
 
   pub spares_so : (reason : Unrenewed) (h1 h2 : Option (List File)) → h1 ≡ h0 → Turns h1 h2 (FailsTo reason (task_of plan.job)) → Spares (fault.Out reason) a.out h0 h2
   spares_so reason h1 h2 e fails = given (λ x. (task_of plan.job).out ≡ a.out) (FailsTo reason (task_of plan.job)) (SparesOut reason a.out) (λ x y at it. spares_out reason x y at it) h0 h2 is.out (sooner (FailsTo reason (task_of plan.job)) h0 h1 h2 e fails)
@@ -231,7 +231,7 @@ module _ (a : Asked) (tree : CTree) (plan : Plan) (h0 folder : Option (List File
   cause_so (why.LeftIndented line) h1 n0 n1 n2 u0 u1 e le it = absurd it
   cause_so (why.Left kernel) h1 n0 n1 n2 u0 u1 e le it = absurd it
   cause_so why.Busy h1 n0 n1 n2 u0 u1 e le it = busy_at (task_of plan.job).out a.out h0 is.out (subst (λ (h : Option (List File)). IfSome h (IsCauseIn put.Busy (task_of plan.job))) e it)
-  cause_so why.Changed h1 n0 n1 n2 u0 u1 e le it = changed_alike a (task_of plan.job) tree (renewed_of plan) is.fits h0 folder is.file is.out is.content (tree_of a.file folder (task_of plan.job).source tree is.content is.compiles) is.told (subst (λ (h : Option (List File)). IfSome h (IsCauseIn put.Changed (task_of plan.job))) e it)
+  cause_so why.Changed h1 n0 n1 n2 u0 u1 e le it = changed_alike a (task_of plan.job) wanted (renewed_of plan) is.fits h0 folder is.file is.out is.content (wanted_of a.file folder (task_of plan.job).source wanted is.content is.compiles) is.told (subst (λ (h : Option (List File)). IfSome h (IsCauseIn put.Changed (task_of plan.job))) e it)
   cause_so why.Olds h1 n0 n1 n2 u0 u1 e le it = olds_at (task_of plan.job).out a.out h0 is.out (subst (λ (h : Option (List File)). IfSome h (IsCauseIn put.Olds (task_of plan.job))) e it)
   cause_so why.WriteFault h1 n0 n1 n2 u0 u1 e le it = rose_sooner n0 n1 n2 le it
   cause_so why.Halfway h1 n0 n1 n2 u0 u1 e le it = has_failed h0 n0 n1 n2 le (subst (λ (h : Option (List File)). HasFailed put.Halfway h n1 n2) e it)

@@ -1,11 +1,14 @@
 -- What is planned, and why nothing is.
-use Rattle.std.proofs.Common.{◌≡◌, ℕ, ◌≤◌, false, inr, List, Option, None, Some, is_some, length, sym, ap, subst, ◌∙◌}
+use Rattle.std.proofs.Common.{◌≡◌, ℕ, ◌≤◌, false, inr, List, Option, None, Some, is_some, length, sym, ap, subst, ◌∙◌, refl}
 use Rattle.std.specs.Prelude.{IfSome}
 use Rattle.std.specs.String.{string_bytes}
 use Rattle.pb_io.specs.Files.{File, IsContent, content_of, file_of}
 use Rattle.pb_core_language.specs.Plain.{Protocol}
 use Rattle.pb_ctree.specs.declared.tree.CTree.{CTree}
-use Rattle.pb_cli_file.specs.Files.{IsTreeOf, most_bytes}
+use Rattle.pb_renew_text.specs.declared.wanted.Wanted.{Wanted}
+use Rattle.pb_typed_types.specs.declared.types.Form.TheVariants.{Plain}
+use Rattle.pb_cli_file.specs.Files.{most_bytes}
+use Rattle.pabble_renew.specs.Wanted.{IsWantedOf}
 use Rattle.pb_compile.specs.Compiled.{IsCompiled}
 use Rattle.pb_renew.specs.Places.{Agrees, IsPlace}
 use Rattle.pb_renew.specs.Plans.{IsFor, IsPlan, WasBefore, WasTold}
@@ -27,21 +30,22 @@ use Rattle.pabble_renew.specs.declared.source.Source.{Source}
 
 -- ---- FILE
 
-pub tree_of : (file : List ℕ) (folder : Option (List File)) (bytes : List ℕ) (tree : CTree) → IsContent folder file bytes → Compiles bytes tree → IsTreeOf file folder tree
-tree_of file folder bytes tree content is = record { bytes = bytes; protocol = is.protocol; content = content; short = is.short; compiled = is.compiled }
+pub wanted_of : (file : List ℕ) (folder : Option (List File)) (bytes : List ℕ) (wanted : Wanted) → IsContent folder file bytes → Compiles bytes wanted → IsWantedOf file folder wanted
+wanted_of file folder bytes wanted content is = record { tree = record { bytes = bytes; protocol = is.protocol; content = content; short = is.short; compiled = is.compiled }; form = is.form }
 
-pub compiles : (bytes : List ℕ) (p : Protocol) (tree : CTree) → length bytes ≤ most_bytes → IsCompiled bytes p tree → Compiles bytes tree
-compiles bytes p tree short is = record { protocol = p; short = short; compiled = is }
+pub compiles : (bytes : List ℕ) (p : Protocol) (tree : CTree) → length bytes ≤ most_bytes → IsCompiled bytes p tree → Compiles bytes (record { tree = tree; form = Plain })
+compiles bytes p tree short is = record { protocol = p; short = short; compiled = is; form = refl }
 
 -- ---- at a place
 
-pub planned_at : (a : Asked) (place : Place) (folder mid : Option (List File)) (source : Source) (bytes : List ℕ) (plan : Plan) → mid ≡ folder → IsSource a.file folder source → bytes ≡ source.bytes.items → IsPlan source.tree plan → IsFor a.file bytes place plan.job
-    → IfSome mid (λ files. Agrees place files → WasTold (task_of plan.job) place files) → (a.losing ≡ losing.Refused → plan.job.keeps_old ≡ false) → IsPlannedAt a place folder source.tree plan
+pub planned_at : (a : Asked) (place : Place) (folder mid : Option (List File)) (source : Source) (bytes : List ℕ) (plan : Plan) → mid ≡ folder → IsSource a.file folder source → bytes ≡ source.bytes.items → IsPlan source.wanted plan → IsFor a.file bytes place plan.job
+    → IfSome mid (λ files. Agrees place files → WasTold (task_of plan.job) place files) → (a.losing ≡ losing.Refused → plan.job.keeps_old ≡ false) → IsPlannedAt a place folder source.wanted plan
 planned_at a place folder mid source bytes plan same is e planned of told spared =
     let was : source.bytes.items ≡ (task_of plan.job).source = sym e ∙ sym of.bytes in
     record {
       content = subst (λ (l : List ℕ). IsContent folder a.file l) was is.content;
-      compiles = subst (λ (l : List ℕ). Compiles l source.tree) was is.compiles;
+      compiles = subst (λ (l : List ℕ). Compiles l source.wanted) was is.compiles;
+      tree = is.tree;
       fits = planned;
       file = of.name;
       out = of.out;
@@ -50,14 +54,14 @@ planned_at a place folder mid source bytes plan same is e planned of told spared
     }
 
 pub unplanned : (a : Asked) (place : Place) (folder mid : Option (List File)) (source : Source) (reason : Unrenewed) (f0 f1 f2 : ℕ) → mid ≡ folder → f0 ≤ f1 → IsSource a.file folder source → IsRead reason f1 f2
-    → IfSome mid (λ files. Agrees place files → IsReasonWith a.losing (content_of files (string_bytes place.out)) (content_of files (string_bytes place.left)) source.tree reason)
+    → IfSome mid (λ files. Agrees place files → IsReasonWith a.losing (content_of files (string_bytes place.out)) (content_of files (string_bytes place.left)) source.wanted reason)
     → IsFolderCause (fault.Out reason) a place folder f0 f2
 unplanned a place folder mid source reason f0 f1 f2 same le is read refused = (
   read_sooner reason f0 f1 f2 le read,
   (
-    source.tree,
-    tree_of a.file folder source.bytes.items source.tree is.content is.compiles,
-    subst (λ (h : Option (List File)). IfSome h (λ files. Agrees place files → IsReasonWith a.losing (content_of files (string_bytes place.out)) (content_of files (string_bytes place.left)) source.tree reason)) same refused,
+    source.wanted,
+    wanted_of a.file folder source.bytes.items source.wanted is.content is.compiles,
+    subst (λ (h : Option (List File)). IfSome h (λ files. Agrees place files → IsReasonWith a.losing (content_of files (string_bytes place.out)) (content_of files (string_bytes place.left)) source.wanted reason)) same refused,
   ),
 )
 
@@ -72,18 +76,18 @@ agrees out place now files at left alike =
     }
 
 module _ (a : Asked) (place : Place) (left : string_bytes place.left ≡ left_name (string_bytes place.out)) where
-  reason_with : (tree : CTree) (reason : Unrenewed) (now files : List File) → IsPlace a.out place now
-      → IsReasonWith a.losing (content_of files (string_bytes place.out)) (content_of files (string_bytes place.left)) tree reason → IsReasonWith a.losing (content_of files a.out) (content_of files (left_name a.out)) tree reason
-  reason_with tree reason now files at is =
-      subst (λ (n : List ℕ). IsReasonWith a.losing (content_of files a.out) (content_of files n) tree reason) (left ∙ ap left_name at.name)
-      (subst (λ (n : List ℕ). IsReasonWith a.losing (content_of files n) (content_of files (string_bytes place.left)) tree reason) at.name is)
+  reason_with : (wanted : Wanted) (reason : Unrenewed) (now files : List File) → IsPlace a.out place now
+      → IsReasonWith a.losing (content_of files (string_bytes place.out)) (content_of files (string_bytes place.left)) wanted reason → IsReasonWith a.losing (content_of files a.out) (content_of files (left_name a.out)) wanted reason
+  reason_with wanted reason now files at is =
+      subst (λ (n : List ℕ). IsReasonWith a.losing (content_of files a.out) (content_of files n) wanted reason) (left ∙ ap left_name at.name)
+      (subst (λ (n : List ℕ). IsReasonWith a.losing (content_of files n) (content_of files (string_bytes place.left)) wanted reason) at.name is)
 
-  reason_alike : (tree : CTree) (reason : Unrenewed) (store folder : Option (List File)) → IfSome store (IsPlace a.out place)
-      → IfSome folder (λ files. Agrees place files → IsReasonWith a.losing (content_of files (string_bytes place.out)) (content_of files (string_bytes place.left)) tree reason)
-      → IfSome store (λ now. IfSome folder (λ files. TellAlike a.out now files → IsReasonWith a.losing (content_of files a.out) (content_of files (left_name a.out)) tree reason))
-  reason_alike tree reason None folder at is = tt
-  reason_alike tree reason (Some now) None at is = tt
-  reason_alike tree reason (Some now) (Some files) at is = λ alike. reason_with tree reason now files at (is (agrees a.out place now files at left alike))
+  reason_alike : (wanted : Wanted) (reason : Unrenewed) (store folder : Option (List File)) → IfSome store (IsPlace a.out place)
+      → IfSome folder (λ files. Agrees place files → IsReasonWith a.losing (content_of files (string_bytes place.out)) (content_of files (string_bytes place.left)) wanted reason)
+      → IfSome store (λ now. IfSome folder (λ files. TellAlike a.out now files → IsReasonWith a.losing (content_of files a.out) (content_of files (left_name a.out)) wanted reason))
+  reason_alike wanted reason None folder at is = tt
+  reason_alike wanted reason (Some now) None at is = tt
+  reason_alike wanted reason (Some now) (Some files) at is = λ alike. reason_with wanted reason now files at (is (agrees a.out place now files at left alike))
 
   reason_at : (reason : Unrenewed) (s : Scene) (before after : ℕ) → IfSome s.store (IsPlace a.out place) → IsFolderCause (fault.Out reason) a place s.folder before after → IsReasonAt reason a s
   reason_at reason s before after at is = (is.1.0, is.1.1, reason_alike is.1.0 reason s.store s.folder at is.1.2)
@@ -129,10 +133,11 @@ module _ (a : Asked) (place : Place) (left : string_bytes place.left ≡ left_na
   out_named o None e at = tt
   out_named o (Some now) e at = e ∙ at.name
 
-  pub planned_for : (store folder : Option (List File)) (tree : CTree) (plan : Plan) → IfSome store (IsPlace a.out place) → is_written (string_bytes place.out) a.file ≡ false → IsPlannedAt a place folder tree plan → IsPlanned a store folder tree plan
-  planned_for store folder tree plan at apart is = record {
+  pub planned_for : (store folder : Option (List File)) (wanted : Wanted) (plan : Plan) → IfSome store (IsPlace a.out place) → is_written (string_bytes place.out) a.file ≡ false → IsPlannedAt a place folder wanted plan → IsPlanned a store folder wanted plan
+  planned_for store folder wanted plan at apart is = record {
     content = is.content;
     compiles = is.compiles;
+    tree = is.tree;
     fits = is.fits;
     file = is.file;
     out = out_named (task_of plan.job).out store is.out at;

@@ -2,11 +2,12 @@
 use Rattle.std.specs.Prelude.{◌≡◌, ◌≢◌, ◌⊎◌, ℕ, ◌≤◌, List, Option, Some, IfSome, IsSome, is_some, true, ⊤}
 use Rattle.pb_io.specs.Faults.{Rose}
 use Rattle.pb_io.specs.Files.{File, content_of, file_of}
-use Rattle.pb_ctree.specs.declared.tree.CTree.{CTree}
+use Rattle.pb_renew_text.specs.declared.wanted.Wanted.{Wanted}
 use Rattle.pb_cli_status.specs.Lines as Lines
 use Rattle.pb_cli_status.specs.declared.refusal.Refusal.{Refusal}
 use Rattle.pb_cli_status.specs.declared.refusal.Refusal.TheVariants as refusal
-use Rattle.pb_cli_file.specs.Files.{IsFileRefusal, IsTreeOf}
+use Rattle.pb_cli_file.specs.Files.{IsFileRefusal}
+use Rattle.pabble_renew.specs.Wanted.{IsWantedOf}
 use Rattle.pb_renew.specs.Places.{IsNoPlace}
 use Rattle.pb_renew.specs.Reasons.{IsReasonWith, WhereGone}
 use Rattle.pb_renew.specs.declared.unrenewed.Unrenewed.{Unrenewed}
@@ -39,12 +40,12 @@ WhereAlike a s P = IfSome s.store (λ now. IfSome s.folder (λ files. TellAlike 
 -- FILE is accepted, and this is why the text of its tree can't be put in the place of OUT
 abbrev pub IsReasonAt : Unrenewed → Asked → Scene → Type 0
 IsReasonAt reason a s =
-    (tree : CTree) × IsTreeOf a.file s.folder tree
-    × WhereAlike a s (λ now files. IsReasonWith a.losing (content_of files a.out) (content_of files (left_name a.out)) tree reason)
+    (wanted : Wanted) × IsWantedOf a.file s.folder wanted
+    × WhereAlike a s (λ now files. IsReasonWith a.losing (content_of files a.out) (content_of files (left_name a.out)) wanted reason)
 
 -- FILE is accepted, and bodies are gone in a text of its tree
 abbrev pub WhereBodiesGo : Asked → List File → Type 0
-WhereBodiesGo a files = (tree : CTree) × IsTreeOf a.file (Some files) tree × WhereGone (content_of files a.out) tree (λ renewed. ⊤)
+WhereBodiesGo a files = (wanted : Wanted) × IsWantedOf a.file (Some files) wanted × WhereGone (content_of files a.out) wanted (λ renewed. ⊤)
 
 -- one of the three files isn't in the store as the folder tells; of OUT.left that matters where bodies go there
 abbrev pub IsChanged : Asked → List File → List File → Type 0

@@ -1,8 +1,8 @@
 -- What a call leaves of OUT and of the files beside it.
 use Rattle.std.specs.Prelude.{◌≡◌, ◌⊎◌, ℕ, true, false, List, Option, None, Some, IfSome, IsSome}
 use Rattle.pb_io.specs.Files.{File, file_of}
-use Rattle.pb_ctree.specs.declared.tree.CTree.{CTree}
-use Rattle.pb_cli_file.specs.Files.{IsTreeOf}
+use Rattle.pb_renew_text.specs.declared.wanted.Wanted.{Wanted}
+use Rattle.pabble_renew.specs.Wanted.{IsWantedOf}
 use Rattle.pb_renew.specs.Faults.{unput}
 use Rattle.pb_renew.specs.Plans.{Fits}
 use Rattle.pb_renew.specs.Renewing.{Renews}
@@ -31,9 +31,9 @@ pub record RenewsFile (file out : List ℕ) (old new : List File) : Type 0 where
   pub apart : is_written out file ≡ false
   pub bytes : List ℕ
   pub there : file_of old file ≡ Some bytes
-  pub tree : CTree
-  pub compiled : IsTreeOf file (Some old) tree
-  pub renewed : Renews out tree old new
+  pub wanted : Wanted
+  pub compiled : IsWantedOf file (Some old) wanted
+  pub renewed : Renews out wanted old new
 
 -- what is done is that; or nothing at all, where no other call is at work
 abbrev pub Achieves : Doing → List ℕ → List ℕ → Option (List File) → Option (List File) → Type 0
@@ -46,11 +46,11 @@ pub record KeepsBoth (out : List ℕ) (old new : List File) : Type 0 where
 
 -- OUT is as it was, and OUT.left has the bodies that are gone in a text that fits, behind what it had
 pub record Halves (out : List ℕ) (old new : List File) : Type 0 where
-  pub tree : CTree
+  pub wanted : Wanted
   pub renewed : Renewed
   pub task : Task
   pub at : task.out ≡ out
-  pub fits : Fits tree renewed task
+  pub fits : Fits wanted renewed task
   pub fails : Fails put.Halfway task old new
 
 -- behind a fault both are as they were, but halfway
@@ -73,12 +73,12 @@ pub record SparesRest (a : Asked) (old new : List File) : Type 0 where
 
 -- what a call may do that puts a text which fits, and it ended so
 pub record Works (a : Asked) (old_deeds new_deeds : Option (List Deed)) (old new : Option (List File)) (End : Task → Phase → Type 0) : Type 0 where
-  pub tree : CTree
+  pub wanted : Wanted
   pub renewed : Renewed
   pub task : Task
   pub file : task.file ≡ a.file
   pub out : IfSome old (λ files. task.out ≡ a.out)
-  pub fits : Fits tree renewed task
+  pub fits : Fits wanted renewed task
   pub leads : Leads task start old_deeds new_deeds old new (End task)
 
 -- it stopped with this fault, and so many failed calls had been counted then

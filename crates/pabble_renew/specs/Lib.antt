@@ -4,3 +4,4 @@ pub mod Endings
 pub mod Leaves
 pub mod Planned
 pub mod Steps
+pub mod Wanted

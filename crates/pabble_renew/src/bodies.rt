@@ -1,6 +1,7 @@
 //! What is told of a text that was renewed, or would be.
 
 ghost use Rattle.std.specs.Prelude.{◌≤◌};
+ghost use Rattle.pb_ctree.specs.Trees.{IsTree};
 ghost use Rattle.pb_renew_store.specs.Deeds.{DidNothing};
 
 use crate::doing::Doing;
@@ -10,7 +11,7 @@ use crate::renewing::Renewal;
 use crate::request::Request;
 use pb_explain_source::{Page, Part};
 use pb_io::{Folder, Sink, read_all, write_all};
-use pb_kernels::{KName, KernelFile, Kind, read_kernels};
+use pb_kernels::{Dialect, KName, KernelFile, Kind, read_bodies};
 use pb_renew::Plan;
 use pb_renew_merge::{changed_names, default_names};
 use pb_renew_put::left_name;
@@ -27,6 +28,7 @@ pub fn tell_done<S: Store, F: Folder, T: Sink>(
     again: &mut F,
     told: &mut T,
 )
+    requires { IsTree renewal.now.wanted.tree }
     ensures nothing { DidNothing (S.deeds store.old) (S.deeds store.new) (S.holds store.old) (S.holds store.new) }
     ensures later { S.faults store.old ≤ S.faults store.new }
 {
@@ -66,7 +68,9 @@ fn page_of<F: Folder>(
     out: &str,
     old: &Option<String>,
     again: &mut F,
-) -> Result<Page, NoMemory> {
+) -> Result<Page, NoMemory>
+    requires { IsTree renewal.now.wanted.tree }
+{
     let mut page = Page::new(alloc);
     match doing {
         Doing::Renew => {}
@@ -144,20 +148,22 @@ fn say_kept(
     renewal: &Renewal,
     out: &str,
     new: &[KName],
-) -> Result<(), NoMemory> {
+) -> Result<(), NoMemory>
+    requires { IsTree renewal.now.wanted.tree }
+{
     let plan = &renewal.plan;
     if let Some(before) = &plan.before {
         let changed = changed_names(
             alloc,
             &before.tree.local.labels,
-            &renewal.tree,
+            &renewal.wanted.tree,
             &plan.old,
             &plan.kept,
         )?;
         let front = ": bodies kept, though what their labels carry has changed:";
         say_names(page, out, front, &without(alloc, &changed, new)?)?;
     }
-    let defaults = default_names(alloc, &renewal.tree, &plan.kept)?;
+    let defaults = default_names(alloc, &renewal.wanted, &plan.kept)?;
     let front = ": functions whose bodies are still the default ones:";
     say_names(page, out, front, &without(alloc, &defaults, new)?)
 }
@@ -169,7 +175,7 @@ fn bodies_in<F: Folder>(alloc: Global, folder: &mut F, file: &str) -> Option<Ker
     let Ok(bytes) = read_all(alloc, folder, file, MOST_TEXT_BYTES) else {
         return None;
     };
-    read_kernels(alloc, &bytes).ok()
+    read_bodies(alloc, &bytes, Dialect::Program).ok()
 }
 
 /// Those of the names of which a file has bodies.

@@ -16,17 +16,16 @@ use crate::fault::Fault;
 use crate::place::place_for;
 use crate::request::Request;
 use crate::source::{Source, source_in};
-use pb_cli_file::CTree;
 use pb_io::Folder;
-use pb_renew::{Place, Plan, plan_for};
+use pb_renew::{Place, Plan, Wanted, plan_for};
 use pb_renew_store::Store;
 use std::alloc::Global;
 
-/// What became of OUT and OUT.left, or would, and the tree of the protocol.
+/// What became of OUT and OUT.left, or would, and the text that OUT gets.
 #[derive(Drop)]
 pub struct Renewal {
     pub plan: Plan,
-    pub tree: CTree,
+    pub wanted: Wanted,
 }
 
 /// Puts the C text of the protocol in FILE in the place of OUT, or of the file that OUT leads to. It has each body of the old OUT
@@ -44,7 +43,7 @@ pub fn renew_file<S: Store, F: Folder>(
     folder: &mut F,
     request: &Request<'_>,
 ) -> Result<Renewal, Fault>
-    ensures planned { IfOk result (λ it. IsPlanned (asked_by request.now) (S.holds store.old) (F.holds folder.old) it.tree it.plan) }
+    ensures planned { IfOk result (λ it. IsPlanned (asked_by request.now) (S.holds store.old) (F.holds folder.old) it.wanted it.plan) }
     ensures apart { OnOk result (is_written request.now.out.now request.now.file.now ≡ false) }
     ensures done { OnOk result (Achieves request.now.doing request.now.file.now request.now.out.now (S.holds store.old) (S.holds store.new)) }
     ensures did { OnOk result (DidAll (asked_by request.now) (S.deeds store.old) (S.deeds store.new) (S.holds store.old) (S.holds store.new)) }
@@ -75,7 +74,7 @@ fn plan_file<S: Store, F: Folder>(
     folder: &mut F,
     request: &Request<'_>,
 ) -> Result<Renewal, Fault>
-    ensures planned { IfOk result (λ it. IsPlanned (asked_by request.now) (S.holds store.old) (F.holds folder.old) it.tree it.plan) }
+    ensures planned { IfOk result (λ it. IsPlanned (asked_by request.now) (S.holds store.old) (F.holds folder.old) it.wanted it.plan) }
     ensures apart { OnOk result (is_written request.now.out.now request.now.file.now ≡ false) }
     ensures cause { IfErr result (λ why. IsCause why (asked_by request.now) (record { store = S.holds store.old; folder = F.holds folder.old; failed = S.faults store.old; failed_now = S.faults store.new; unread = F.faults folder.old; unread_now = F.faults folder.new })) }
     ensures free { IfErr result (λ it. it ≡ fault.Out why.Busy → ⊥) }
@@ -103,7 +102,7 @@ fn plan_at<F: Folder>(
     request: &Request<'_>,
     place: Place,
 ) -> Result<Renewal, Fault>
-    ensures planned { IfOk result (λ it. IsPlannedAt (asked_by request.now) place (F.holds folder.old) it.tree it.plan) }
+    ensures planned { IfOk result (λ it. IsPlannedAt (asked_by request.now) place (F.holds folder.old) it.wanted it.plan) }
     ensures cause { IfErr result (λ why. IsFolderCause why (asked_by request.now) place (F.holds folder.old) (F.faults folder.old) (F.faults folder.new)) }
     ensures read { F.faults folder.old ≤ F.faults folder.new }
     ensures holds { F.holds folder.new ≡ F.holds folder.old }
@@ -112,17 +111,17 @@ fn plan_at<F: Folder>(
         Ok(source) => source,
         Err(why) => return Err(Fault::File(why)),
     };
-    let Source { bytes, tree } = source;
+    let Source { bytes, wanted } = source;
     match plan_for(
         alloc,
         folder,
-        &tree,
+        &wanted,
         request.file,
         bytes,
         place,
         request.losing,
     ) {
-        Ok(plan) => Ok(Renewal { plan, tree }),
+        Ok(plan) => Ok(Renewal { plan, wanted }),
         Err(why) => Err(Fault::Out(why)),
     }
 }

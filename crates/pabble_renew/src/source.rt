@@ -9,15 +9,16 @@ ghost use Rattle.pabble_renew.specs.Planned.{IsSource};
 use pb_cli_file::bytes_in;
 use pb_cli_status::Refusal;
 use pb_cli_verdict::refusal_of;
-use pb_compile::{CTree, compile};
+use pb_compile::compile;
 use pb_io::Folder;
+use pb_renew::{Form, Wanted};
 use std::alloc::Global;
 
-/// What FILE has, and the C tree of that protocol.
+/// What FILE has, and the text that is wanted of that protocol.
 #[derive(Drop)]
 pub struct Source {
     pub bytes: Vec<u8>,
-    pub tree: CTree,
+    pub wanted: Wanted,
 }
 
 /// The protocol in FILE, or why it isn't accepted.
@@ -36,7 +37,10 @@ pub fn source_in<F: Folder>(alloc: Global, folder: &mut F, file: &str) -> Result
     match compile(alloc, &bytes) {
         Ok(compiled) => Ok(Source {
             bytes,
-            tree: compiled.tree,
+            wanted: Wanted {
+                tree: compiled.tree,
+                form: Form::Plain,
+            },
         }),
         Err(verdict) => Err(refusal_of(verdict)),
     }

@@ -18,6 +18,7 @@ use Rattle.pb_renew_merge.specs.Lost.{NothingLost}
 use Rattle.pb_renew_put.specs.Jobs.{Behind, task_of}
 use Rattle.pb_renew.specs.declared.place.Place.{Place}
 use Rattle.pb_ctree.specs.declared.tree.CTree.{CTree}
+use Rattle.pb_renew_text.specs.declared.wanted.Wanted.{Wanted}
 use Rattle.pb_kernels.specs.declared.fault.KernelFault.{KernelFault}
 use Rattle.pb_kernels.specs.declared.fault.KernelFault.TheVariants as kernels
 use Rattle.pb_kernels.specs.Marks.{prelude_name}
@@ -33,19 +34,19 @@ pub none_in : {A : Type 0} (list : List A) → length list ≡ 0 → list ≡ []
 none_in [] e = refl
 none_in (x ∷ xs) e = absurd (omega arith)
 
-pub untexted : (fault : KernelFault) (bytes : List ℕ) (tree : CTree) → (fault ≡ kernels.NoMemory) ⊎ IsTextFault bytes tree fault → IsNoRenewal (no_text fault) bytes tree
-untexted kernels.NoMemory bytes tree is = tt
-untexted (kernels.BadMarker line) bytes tree (inl e) = absurd cc
-untexted (kernels.BadMarker line) bytes tree (inr is) = inl is
-untexted (kernels.Twice name) bytes tree (inl e) = absurd cc
-untexted (kernels.Twice name) bytes tree (inr is) = inl is
-untexted (kernels.Missing name) bytes tree (inl e) = absurd cc
-untexted (kernels.Missing name) bytes tree (inr is) = inl is
-untexted (kernels.Extra name) bytes tree (inl e) = absurd cc
-untexted (kernels.Extra name) bytes tree (inr is) = inl is
+pub untexted : (fault : KernelFault) (bytes : List ℕ) (wanted : Wanted) → (fault ≡ kernels.NoMemory) ⊎ IsTextFault bytes wanted fault → IsNoRenewal (no_text fault) bytes wanted
+untexted kernels.NoMemory bytes wanted is = tt
+untexted (kernels.BadMarker line) bytes wanted (inl e) = absurd cc
+untexted (kernels.BadMarker line) bytes wanted (inr is) = inl is
+untexted (kernels.Twice name) bytes wanted (inl e) = absurd cc
+untexted (kernels.Twice name) bytes wanted (inr is) = inl is
+untexted (kernels.Missing name) bytes wanted (inl e) = absurd cc
+untexted (kernels.Missing name) bytes wanted (inr is) = inl is
+untexted (kernels.Extra name) bytes wanted (inl e) = absurd cc
+untexted (kernels.Extra name) bytes wanted (inr is) = inl is
 
-pub bodiless : (bytes : List ℕ) (tree : CTree) (renewed : Renewed) → IsRenewal bytes tree renewed → 0 < length bytes → renewed.old ≡ [] → IsNoRenewal (why.Out (kernels.Missing prelude_name)) bytes tree
-bodiless bytes tree renewed is some none = inr (record { some = some; none = is.read ∙ ap Ok none }, refl)
+pub bodiless : (bytes : List ℕ) (wanted : Wanted) (renewed : Renewed) → IsRenewal bytes wanted renewed → 0 < length bytes → renewed.old ≡ [] → IsNoRenewal (why.Out (kernels.Missing prelude_name)) bytes wanted
+bodiless bytes wanted renewed is some none = inr (record { some = some; none = is.read ∙ ap Ok none }, refl)
 
 pub unleft : (fault : KernelFault) (losing : Losing) (renewed : Renewed) (before : List ℕ) → (fault ≡ kernels.NoMemory) ⊎ IsLeftFault renewed before fault → IsNoLeft (no_left fault) losing renewed before
 unleft kernels.NoMemory losing renewed before is = tt
@@ -60,25 +61,25 @@ unleft (kernels.Extra name) losing renewed before (inr is) = is
 
 -- ---- what OUT gets
 
-pub long_text : (losing : Losing) (renewed : Renewed) (old : List ℕ) (tree : CTree) → IsRenewal old tree renewed → most_bytes < length renewed.text.items → (left : List ℕ) → IsReasonWith losing old left tree why.TooLong
-long_text losing renewed old tree is long left = inr (inl (renewed, is, long))
+pub long_text : (losing : Losing) (renewed : Renewed) (old : List ℕ) (wanted : Wanted) → IsRenewal old wanted renewed → most_bytes < length renewed.text.items → (left : List ℕ) → IsReasonWith losing old left wanted why.TooLong
+long_text losing renewed old wanted is long left = inr (inl (renewed, is, long))
 
-pub losing_so : (losing : Losing) (old : List ℕ) (tree : CTree) (reason : Unrenewed) → IsLosing reason losing old → (left : List ℕ) → IsReasonWith losing old left tree reason
-losing_so losing old tree why.ReadFault is left = absurd is
-losing_so losing old tree why.NoFile is left = absurd is
-losing_so losing old tree why.Shared is left = absurd is
-losing_so losing old tree why.TooLong is left = absurd is
-losing_so losing old tree why.NoMemory is left = tt
-losing_so losing old tree (why.Indented line) is left = is
-losing_so losing old tree (why.Out fault) is left = absurd is
-losing_so losing old tree (why.Outside line) is left = is
-losing_so losing old tree (why.LeftIndented line) is left = absurd is
-losing_so losing old tree (why.Left fault) is left = absurd is
-losing_so losing old tree why.Busy is left = absurd is
-losing_so losing old tree why.Changed is left = absurd is
-losing_so losing old tree why.Olds is left = absurd is
-losing_so losing old tree why.WriteFault is left = absurd is
-losing_so losing old tree why.Halfway is left = absurd is
+pub losing_so : (losing : Losing) (old : List ℕ) (wanted : Wanted) (reason : Unrenewed) → IsLosing reason losing old → (left : List ℕ) → IsReasonWith losing old left wanted reason
+losing_so losing old wanted why.ReadFault is left = absurd is
+losing_so losing old wanted why.NoFile is left = absurd is
+losing_so losing old wanted why.Shared is left = absurd is
+losing_so losing old wanted why.TooLong is left = absurd is
+losing_so losing old wanted why.NoMemory is left = tt
+losing_so losing old wanted (why.Indented line) is left = is
+losing_so losing old wanted (why.Out fault) is left = absurd is
+losing_so losing old wanted (why.Outside line) is left = is
+losing_so losing old wanted (why.LeftIndented line) is left = absurd is
+losing_so losing old wanted (why.Left fault) is left = absurd is
+losing_so losing old wanted why.Busy is left = absurd is
+losing_so losing old wanted why.Changed is left = absurd is
+losing_so losing old wanted why.Olds is left = absurd is
+losing_so losing old wanted why.WriteFault is left = absurd is
+losing_so losing old wanted why.Halfway is left = absurd is
 
 -- ---- what OUT.left gets
 
@@ -92,18 +93,18 @@ gone_some (x ∷ xs) some e = true≢false (ap (λ (l : List _). is_more l) e) w
 module _ (losing : Losing) (renewed : Renewed) (some : renewed.gone.items ≢ []) where
   -- so it is of each old text that is renewed so
   abbrev Each : List ℕ → Unrenewed → Type 0
-  Each left reason = (old : List ℕ) (tree : CTree) → IsRenewal old tree renewed → IsReasonWith losing old left tree reason
+  Each left reason = (old : List ℕ) (wanted : Wanted) → IsRenewal old wanted renewed → IsReasonWith losing old left wanted reason
 
   pub left_unread : (reason : Unrenewed) (h : Option (List File)) (name left : List ℕ) (it : Bool) (a b : ℕ) → name ≡ left → IsNoContent reason name h a b
       → IfSome h (λ files. IsThere left it files → Each (content_of files left) reason)
   left_unread why.ReadFault None name left it a b e is = tt
-  left_unread why.ReadFault (Some files) name left it a b e is = λ there old tree r. tt
+  left_unread why.ReadFault (Some files) name left it a b e is = λ there old wanted r. tt
   left_unread why.NoFile h name left it a b e is = absurd is
   left_unread why.Shared h name left it a b e is = absurd is
   left_unread why.TooLong None name left it a b e is = tt
-  left_unread why.TooLong (Some files) name left it a b e is = λ there old tree r. inr (inr (renewed, r, some, inl (subst (λ (n : List ℕ). most_bytes < length (content_of files n)) e is)))
+  left_unread why.TooLong (Some files) name left it a b e is = λ there old wanted r. inr (inr (renewed, r, some, inl (subst (λ (n : List ℕ). most_bytes < length (content_of files n)) e is)))
   left_unread why.NoMemory None name left it a b e is = tt
-  left_unread why.NoMemory (Some files) name left it a b e is = λ there old tree r. tt
+  left_unread why.NoMemory (Some files) name left it a b e is = λ there old wanted r. tt
   left_unread (why.Indented line) h name left it a b e is = absurd is
   left_unread (why.Out fault) h name left it a b e is = absurd is
   left_unread (why.Outside line) h name left it a b e is = absurd is
@@ -119,13 +120,13 @@ module _ (losing : Losing) (renewed : Renewed) (some : renewed.gone.items ≢ []
   no_left_so why.ReadFault left is = absurd is
   no_left_so why.NoFile left is = absurd is
   no_left_so why.Shared left is = absurd is
-  no_left_so why.TooLong left is = λ old tree r. inr (inr (renewed, r, some, inr is))
-  no_left_so why.NoMemory left is = λ old tree r. tt
+  no_left_so why.TooLong left is = λ old wanted r. inr (inr (renewed, r, some, inr is))
+  no_left_so why.NoMemory left is = λ old wanted r. tt
   no_left_so (why.Indented line) left is = absurd is
   no_left_so (why.Out fault) left is = absurd is
   no_left_so (why.Outside line) left is = absurd is
-  no_left_so (why.LeftIndented line) left is = λ old tree r. (is.0, is.1, (renewed, r, some, tt))
-  no_left_so (why.Left fault) left is = λ old tree r. (renewed, r, some, is)
+  no_left_so (why.LeftIndented line) left is = λ old wanted r. (is.0, is.1, (renewed, r, some, tt))
+  no_left_so (why.Left fault) left is = λ old wanted r. (renewed, r, some, is)
   no_left_so why.Busy left is = absurd is
   no_left_so why.Changed left is = absurd is
   no_left_so why.Olds left is = absurd is
@@ -159,22 +160,22 @@ read_content why.Olds name h a b is = absurd is
 read_content why.WriteFault name h a b is = absurd is
 read_content why.Halfway name h a b is = absurd is
 
-pub read_made : (reason : Unrenewed) (losing : Losing) (bytes : List ℕ) (tree : CTree) (a b : ℕ) → ((left : List ℕ) → IsReasonWith losing bytes left tree reason) → (reason ≡ why.ReadFault → ⊥) → IsRead reason a b
-read_made why.ReadFault losing bytes tree a b is never = absurd (never refl)
-read_made why.NoFile losing bytes tree a b is never = absurd (is [])
-read_made why.Shared losing bytes tree a b is never = absurd (is [])
-read_made why.TooLong losing bytes tree a b is never = tt
-read_made why.NoMemory losing bytes tree a b is never = tt
-read_made (why.Indented line) losing bytes tree a b is never = tt
-read_made (why.Out fault) losing bytes tree a b is never = tt
-read_made (why.Outside line) losing bytes tree a b is never = tt
-read_made (why.LeftIndented line) losing bytes tree a b is never = tt
-read_made (why.Left fault) losing bytes tree a b is never = tt
-read_made why.Busy losing bytes tree a b is never = absurd (is [])
-read_made why.Changed losing bytes tree a b is never = absurd (is [])
-read_made why.Olds losing bytes tree a b is never = absurd (is [])
-read_made why.WriteFault losing bytes tree a b is never = absurd (is [])
-read_made why.Halfway losing bytes tree a b is never = absurd (is [])
+pub read_made : (reason : Unrenewed) (losing : Losing) (bytes : List ℕ) (wanted : Wanted) (a b : ℕ) → ((left : List ℕ) → IsReasonWith losing bytes left wanted reason) → (reason ≡ why.ReadFault → ⊥) → IsRead reason a b
+read_made why.ReadFault losing bytes wanted a b is never = absurd (never refl)
+read_made why.NoFile losing bytes wanted a b is never = absurd (is [])
+read_made why.Shared losing bytes wanted a b is never = absurd (is [])
+read_made why.TooLong losing bytes wanted a b is never = tt
+read_made why.NoMemory losing bytes wanted a b is never = tt
+read_made (why.Indented line) losing bytes wanted a b is never = tt
+read_made (why.Out fault) losing bytes wanted a b is never = tt
+read_made (why.Outside line) losing bytes wanted a b is never = tt
+read_made (why.LeftIndented line) losing bytes wanted a b is never = tt
+read_made (why.Left fault) losing bytes wanted a b is never = tt
+read_made why.Busy losing bytes wanted a b is never = absurd (is [])
+read_made why.Changed losing bytes wanted a b is never = absurd (is [])
+read_made why.Olds losing bytes wanted a b is never = absurd (is [])
+read_made why.WriteFault losing bytes wanted a b is never = absurd (is [])
+read_made why.Halfway losing bytes wanted a b is never = absurd (is [])
 
 pub read_left : (reason : Unrenewed) (losing : Losing) (renewed : Renewed) (before : List ℕ) (a b : ℕ) → IsNoLeft reason losing renewed before → IsRead reason a b
 read_left why.ReadFault losing renewed before a b is = absurd is
@@ -213,26 +214,26 @@ read_sooner why.Halfway a b c le is = absurd is
 -- ---- a plan that isn't made
 
 -- OUT can't be read
-pub out_unread : (losing : Losing) (tree : CTree) (reason : Unrenewed) (h : Option (List File)) (name : List ℕ) (place : Place) (a b : ℕ) → name ≡ string_bytes place.out → IsNoContent reason name h a b
-    → IfSome h (λ files. Agrees place files → IsReasonWith losing (content_of files (string_bytes place.out)) (content_of files (string_bytes place.left)) tree reason)
-out_unread losing tree why.ReadFault None name place a b e is = tt
-out_unread losing tree why.ReadFault (Some files) name place a b e is = λ agrees. tt
-out_unread losing tree why.NoFile h name place a b e is = absurd is
-out_unread losing tree why.Shared h name place a b e is = absurd is
-out_unread losing tree why.TooLong None name place a b e is = tt
-out_unread losing tree why.TooLong (Some files) name place a b e is = λ agrees. inl (subst (λ (n : List ℕ). most_bytes < length (content_of files n)) e is)
-out_unread losing tree why.NoMemory None name place a b e is = tt
-out_unread losing tree why.NoMemory (Some files) name place a b e is = λ agrees. tt
-out_unread losing tree (why.Indented line) h name place a b e is = absurd is
-out_unread losing tree (why.Out fault) h name place a b e is = absurd is
-out_unread losing tree (why.Outside line) h name place a b e is = absurd is
-out_unread losing tree (why.LeftIndented line) h name place a b e is = absurd is
-out_unread losing tree (why.Left fault) h name place a b e is = absurd is
-out_unread losing tree why.Busy h name place a b e is = absurd is
-out_unread losing tree why.Changed h name place a b e is = absurd is
-out_unread losing tree why.Olds h name place a b e is = absurd is
-out_unread losing tree why.WriteFault h name place a b e is = absurd is
-out_unread losing tree why.Halfway h name place a b e is = absurd is
+pub out_unread : (losing : Losing) (wanted : Wanted) (reason : Unrenewed) (h : Option (List File)) (name : List ℕ) (place : Place) (a b : ℕ) → name ≡ string_bytes place.out → IsNoContent reason name h a b
+    → IfSome h (λ files. Agrees place files → IsReasonWith losing (content_of files (string_bytes place.out)) (content_of files (string_bytes place.left)) wanted reason)
+out_unread losing wanted why.ReadFault None name place a b e is = tt
+out_unread losing wanted why.ReadFault (Some files) name place a b e is = λ agrees. tt
+out_unread losing wanted why.NoFile h name place a b e is = absurd is
+out_unread losing wanted why.Shared h name place a b e is = absurd is
+out_unread losing wanted why.TooLong None name place a b e is = tt
+out_unread losing wanted why.TooLong (Some files) name place a b e is = λ agrees. inl (subst (λ (n : List ℕ). most_bytes < length (content_of files n)) e is)
+out_unread losing wanted why.NoMemory None name place a b e is = tt
+out_unread losing wanted why.NoMemory (Some files) name place a b e is = λ agrees. tt
+out_unread losing wanted (why.Indented line) h name place a b e is = absurd is
+out_unread losing wanted (why.Out fault) h name place a b e is = absurd is
+out_unread losing wanted (why.Outside line) h name place a b e is = absurd is
+out_unread losing wanted (why.LeftIndented line) h name place a b e is = absurd is
+out_unread losing wanted (why.Left fault) h name place a b e is = absurd is
+out_unread losing wanted why.Busy h name place a b e is = absurd is
+out_unread losing wanted why.Changed h name place a b e is = absurd is
+out_unread losing wanted why.Olds h name place a b e is = absurd is
+out_unread losing wanted why.WriteFault h name place a b e is = absurd is
+out_unread losing wanted why.Halfway h name place a b e is = absurd is
 
 -- what was read of OUT is its content
 out_content : (before : Option (List ℕ)) (name bytes : List ℕ) (place : Place) (files : List File) → name ≡ string_bytes place.out → (IsThere name place.is_out files → before ≡ file_of files name) → bytes ≡ unwrap_or before []
@@ -242,47 +243,47 @@ out_content before name bytes place files e was are agrees =
     are ∙ ap (λ (o : Option (List ℕ)). unwrap_or o []) (there agrees.out)
 
 -- its text can't be made
-pub out_unmade : (losing : Losing) (tree : CTree) (reason : Unrenewed) (h : Option (List File)) (name bytes : List ℕ) (before : Option (List ℕ)) (place : Place) → name ≡ string_bytes place.out
-    → IfSome h (λ files. IsThere name place.is_out files → before ≡ file_of files name) → bytes ≡ unwrap_or before [] → ((left : List ℕ) → IsReasonWith losing bytes left tree reason)
-    → IfSome h (λ files. Agrees place files → IsReasonWith losing (content_of files (string_bytes place.out)) (content_of files (string_bytes place.left)) tree reason)
-out_unmade losing tree reason None name bytes before place e was are is = tt
-out_unmade losing tree reason (Some files) name bytes before place e was are is = λ agrees.
-    subst (λ (t : List ℕ). IsReasonWith losing t (content_of files (string_bytes place.left)) tree reason) (out_content before name bytes place files e was are agrees) (is _)
+pub out_unmade : (losing : Losing) (wanted : Wanted) (reason : Unrenewed) (h : Option (List File)) (name bytes : List ℕ) (before : Option (List ℕ)) (place : Place) → name ≡ string_bytes place.out
+    → IfSome h (λ files. IsThere name place.is_out files → before ≡ file_of files name) → bytes ≡ unwrap_or before [] → ((left : List ℕ) → IsReasonWith losing bytes left wanted reason)
+    → IfSome h (λ files. Agrees place files → IsReasonWith losing (content_of files (string_bytes place.out)) (content_of files (string_bytes place.left)) wanted reason)
+out_unmade losing wanted reason None name bytes before place e was are is = tt
+out_unmade losing wanted reason (Some files) name bytes before place e was are is = λ agrees.
+    subst (λ (t : List ℕ). IsReasonWith losing t (content_of files (string_bytes place.left)) wanted reason) (out_content before name bytes place files e was are agrees) (is _)
 
 -- nor can OUT.left
-pub left_failed : (losing : Losing) (tree : CTree) (reason : Unrenewed) (h0 h1 : Option (List File)) (name bytes : List ℕ) (before : Option (List ℕ)) (place : Place) (renewed : Renewed) → h1 ≡ h0 → name ≡ string_bytes place.out
-    → IfSome h0 (λ files. IsThere name place.is_out files → before ≡ file_of files name) → bytes ≡ unwrap_or before [] → IsRenewal bytes tree renewed
-    → IfSome h1 (λ files. IsThere (string_bytes place.left) place.is_left files → (old : List ℕ) (t : CTree) → IsRenewal old t renewed → IsReasonWith losing old (content_of files (string_bytes place.left)) t reason)
-    → IfSome h0 (λ files. Agrees place files → IsReasonWith losing (content_of files (string_bytes place.out)) (content_of files (string_bytes place.left)) tree reason)
-left_failed losing tree reason None h1 name bytes before place renewed same e was are r is = tt
-left_failed losing tree reason (Some files) h1 name bytes before place renewed same e was are r is = λ agrees.
-    let given = subst (λ (h : Option (List File)). IfSome h (λ files. IsThere (string_bytes place.left) place.is_left files → (old : List ℕ) (t : CTree) → IsRenewal old t renewed → IsReasonWith losing old (content_of files (string_bytes place.left)) t reason)) same is in
-    subst (λ (t : List ℕ). IsReasonWith losing t (content_of files (string_bytes place.left)) tree reason) (out_content before name bytes place files e was are agrees) (given agrees.left bytes tree r)
+pub left_failed : (losing : Losing) (wanted : Wanted) (reason : Unrenewed) (h0 h1 : Option (List File)) (name bytes : List ℕ) (before : Option (List ℕ)) (place : Place) (renewed : Renewed) → h1 ≡ h0 → name ≡ string_bytes place.out
+    → IfSome h0 (λ files. IsThere name place.is_out files → before ≡ file_of files name) → bytes ≡ unwrap_or before [] → IsRenewal bytes wanted renewed
+    → IfSome h1 (λ files. IsThere (string_bytes place.left) place.is_left files → (old : List ℕ) (t : Wanted) → IsRenewal old t renewed → IsReasonWith losing old (content_of files (string_bytes place.left)) t reason)
+    → IfSome h0 (λ files. Agrees place files → IsReasonWith losing (content_of files (string_bytes place.out)) (content_of files (string_bytes place.left)) wanted reason)
+left_failed losing wanted reason None h1 name bytes before place renewed same e was are r is = tt
+left_failed losing wanted reason (Some files) h1 name bytes before place renewed same e was are r is = λ agrees.
+    let given = subst (λ (h : Option (List File)). IfSome h (λ files. IsThere (string_bytes place.left) place.is_left files → (old : List ℕ) (t : Wanted) → IsRenewal old t renewed → IsReasonWith losing old (content_of files (string_bytes place.left)) t reason)) same is in
+    subst (λ (t : List ℕ). IsReasonWith losing t (content_of files (string_bytes place.left)) wanted reason) (out_content before name bytes place files e was are agrees) (given agrees.left bytes wanted r)
 
 -- ---- a plan that is made
 
 -- bodies that go to OUT.left, behind what it had
 pub saves_so : (renewed : Renewed) (before : Option (List ℕ)) (was left : List ℕ) → was ≡ unwrap_or before []
-    → ((old : List ℕ) (tree : CTree) → IsRenewal old tree renewed → NothingLost old renewed.text.items left) → NothingLost was left []
-    → ((old : List ℕ) (tree : CTree) → IsRenewal old tree renewed → NothingLost left was old)
-    → (old : List ℕ) (tree : CTree) → IsRenewal old tree renewed → SavesIn (Some (record { before = before; bodies = left })) old renewed.text.items
-saves_so renewed before was left is lost keeps adds old tree renewal = record {
-  whole = lost old tree renewal;
+    → ((old : List ℕ) (wanted : Wanted) → IsRenewal old wanted renewed → NothingLost old renewed.text.items left) → NothingLost was left []
+    → ((old : List ℕ) (wanted : Wanted) → IsRenewal old wanted renewed → NothingLost left was old)
+    → (old : List ℕ) (wanted : Wanted) → IsRenewal old wanted renewed → SavesIn (Some (record { before = before; bodies = left })) old renewed.text.items
+saves_so renewed before was left is lost keeps adds old wanted renewal = record {
+  whole = lost old wanted renewal;
   grows = subst (λ (b : List ℕ). NothingLost b left []) is keeps;
-  known = subst (λ (b : List ℕ). NothingLost left b old) is (adds old tree renewal);
+  known = subst (λ (b : List ℕ). NothingLost left b old) is (adds old wanted renewal);
 }
 
-pub plan_so : (tree : CTree) (bytes : List ℕ) (old : Option (List ℕ)) (made : Made) (behind : Option Behind) (plan : Plan) → bytes ≡ unwrap_or old [] → IsMade bytes tree made → LeavesAs made.renewed.gone.items made.renewed behind
-    → ((out : List ℕ) (t : CTree) → IsRenewal out t made.renewed → SavesIn behind out made.renewed.text.items) → IsPutTogether old made behind plan → IsPlan tree plan
-plan_so tree bytes old made behind plan are is leaves sound of =
+pub plan_so : (wanted : Wanted) (bytes : List ℕ) (old : Option (List ℕ)) (made : Made) (behind : Option Behind) (plan : Plan) → bytes ≡ unwrap_or old [] → IsMade bytes wanted made → LeavesAs made.renewed.gone.items made.renewed behind
+    → ((out : List ℕ) (t : Wanted) → IsRenewal out t made.renewed → SavesIn behind out made.renewed.text.items) → IsPutTogether old made behind plan → IsPlan wanted plan
+plan_so wanted bytes old made behind plan are is leaves sound of =
     let was : bytes ≡ bytes_of (task_of plan.job).old = are ∙ ap bytes_of (sym of.was) in
-    let renewal = subst (λ (b : List ℕ). IsRenewal b tree made.renewed) was is.renewal in
+    let renewal = subst (λ (b : List ℕ). IsRenewal b wanted made.renewed) was is.renewal in
     record {
-      renewal = subst (λ (r : Renewed). IsRenewal (bytes_of (task_of plan.job).old) tree r) (sym of.renewed) renewal;
+      renewal = subst (λ (r : Renewed). IsRenewal (bytes_of (task_of plan.job).old) wanted r) (sym of.renewed) renewal;
       text = refl;
       left = subst (λ (r : Renewed). LeavesAs r.gone.items r (task_of plan.job).behind) (sym of.renewed) (subst (λ (b : Option Behind). LeavesAs made.renewed.gone.items made.renewed b) (sym of.left) leaves);
       sound = subst (λ (b : Option Behind). SavesIn b (bytes_of (task_of plan.job).old) plan.job.text.items) (sym of.left)
-          (subst (λ (r : Renewed). SavesIn behind (bytes_of (task_of plan.job).old) r.text.items) (sym of.renewed) (sound _ tree renewal));
+          (subst (λ (r : Renewed). SavesIn behind (bytes_of (task_of plan.job).old) r.text.items) (sym of.renewed) (sound _ wanted renewal));
       lines = λ spared. subst SparesLines was (is.lines (sym of.lines ∙ spared));
     }
 
@@ -307,9 +308,9 @@ spared_outside bytes (outside.Text text) is none = inl (text.tree, text.bodies, 
 spared_outside bytes outside.Blank is none = inr is
 spared_outside bytes (outside.Line line) is none = absurd (true≢false none)
 
-pub made_so : (bytes : List ℕ) (tree : CTree) (renewed : Renewed) (mark : Bool) (lines : Outside) (made : Made) → IsRenewal bytes tree renewed → IsMarked bytes mark → IsOutside bytes lines → made.renewed ≡ renewed
-    → IsTold mark lines made.is_losing → IsMade bytes tree made
-made_so bytes tree renewed mark lines made is marked out e told = record {
-  renewal = subst (λ (r : Renewed). IsRenewal bytes tree r) (sym e) is;
+pub made_so : (bytes : List ℕ) (wanted : Wanted) (renewed : Renewed) (mark : Bool) (lines : Outside) (made : Made) → IsRenewal bytes wanted renewed → IsMarked bytes mark → IsOutside bytes lines → made.renewed ≡ renewed
+    → IsTold mark lines made.is_losing → IsMade bytes wanted made
+made_so bytes wanted renewed mark lines made is marked out e told = record {
+  renewal = subst (λ (r : Renewed). IsRenewal bytes wanted r) (sym e) is;
   lines = λ spared. record { markers = marked (told.markers spared); outside = spared_outside bytes lines out (told.outside spared) };
 }

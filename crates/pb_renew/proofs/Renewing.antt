@@ -1,11 +1,11 @@
 -- What is put is what renewing is to leave.
 use Rattle.std.proofs.Common.{◌≡◌, ℕ, ◌⊎◌, inl, inr, Bool, true, false, List, [], ◌∷◌, Option, None, Some, IsSome, refl, sym, ap, subst, ◌∙◌, Ok, Err, Result, true≢false}
 use Rattle.pb_io.specs.Files.{File, content_of, file_of}
-use Rattle.pb_ctree.specs.declared.tree.CTree.{CTree}
+use Rattle.pb_renew_text.specs.declared.wanted.Wanted.{Wanted}
 use Rattle.pb_ctree.specs.declared.kernel.KName.{KName}
 use Rattle.pb_kernels.specs.declared.fault.KernelFault.{KernelFault}
 use Rattle.pb_kernels.specs.declared.file.NamedBody.{NamedBody}
-use Rattle.pb_kernels.specs.Files.{kernel_file, lines, read_from}
+use Rattle.pb_kernels.specs.Files.{program_file, lines, read_from}
 use Rattle.pb_kernels.specs.Names.{body_of, is_among}
 use Rattle.pb_renew.specs.Plans.{Fits, LeavesAs, SparesLines, bytes_of, left_bytes}
 use Rattle.pb_renew.specs.Renewing.{Grows, GrowsBy, KeepsLines, Renews}
@@ -19,8 +19,8 @@ use Rattle.pb_renew_put.specs.Puts.{ClearsSpare, KeepsOldIf, Puts, PutsLeft}
 
 -- ---- no body stands in no bytes
 
-no_bodies : kernel_file [] ≡ Ok []
-unfolding kernel_file lines read_from
+no_bodies : program_file [] ≡ Ok []
+unfolding program_file lines read_from
 no_bodies = refl
 
 abbrev list_of : Result (List NamedBody) KernelFault → List NamedBody
@@ -98,8 +98,8 @@ keeps_lines true (Some bytes) out old new spared kept = inr kept
 
 -- ---- all of it
 
-at_out : (out : List ℕ) (tree : CTree) (renewed : Renewed) (task : Task) (old new : List File) → task.out ≡ out → Fits tree renewed task → Puts task old new → Renews task.out tree old new
-at_out out tree renewed task old new e fits puts =
+at_out : (out : List ℕ) (wanted : Wanted) (renewed : Renewed) (task : Task) (old new : List File) → task.out ≡ out → Fits wanted renewed task → Puts task old new → Renews task.out wanted old new
+at_out out wanted renewed task old new e fits puts =
     let was = content_is old task.out task.old puts.was in
     let text : content_of new task.out ≡ task.text = content_is new task.out (Some task.text) puts.text in
     record {
@@ -108,7 +108,7 @@ at_out out tree renewed task old new e fits puts =
       at = refl;
       fits = fits;
       puts = puts;
-      renewal = subst (λ (l : List ℕ). IsRenewal l tree renewed) (sym was) fits.renewal;
+      renewal = subst (λ (l : List ℕ). IsRenewal l wanted renewed) (sym was) fits.renewal;
       text = puts.text ∙ ap Some fits.text;
       lost = subst (λ (l : List ℕ). NothingLost l (content_of new task.out) (content_of new (left_name task.out))) (sym was)
           (subst (λ (l : List ℕ). NothingLost (bytes_of task.old) l (content_of new (left_name task.out))) (sym text)
@@ -120,5 +120,5 @@ at_out out tree renewed task old new e fits puts =
       fresh = puts.fresh;
     }
 
-pub renews : (out : List ℕ) (tree : CTree) (renewed : Renewed) (task : Task) (old new : List File) → task.out ≡ out → Fits tree renewed task → Puts task old new → Renews out tree old new
-renews out tree renewed task old new e fits puts = subst (λ (o : List ℕ). Renews o tree old new) e (at_out out tree renewed task old new e fits puts)
+pub renews : (out : List ℕ) (wanted : Wanted) (renewed : Renewed) (task : Task) (old new : List File) → task.out ≡ out → Fits wanted renewed task → Puts task old new → Renews out wanted old new
+renews out wanted renewed task old new e fits puts = subst (λ (o : List ℕ). Renews o wanted old new) e (at_out out wanted renewed task old new e fits puts)

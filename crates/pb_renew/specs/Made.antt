@@ -1,7 +1,7 @@
 -- The text that an OUT gets.
 use Rattle.std.specs.Prelude.{◌≡◌, ℕ, Bool, true, false, List}
 use Rattle.std.specs.Prelude.{None}
-use Rattle.pb_ctree.specs.declared.tree.CTree.{CTree}
+use Rattle.pb_renew_text.specs.declared.wanted.Wanted.{Wanted}
 use Rattle.pb_renew.specs.Plans.{SparesLines}
 use Rattle.pb_renew.specs.declared.made.Made.{Made}
 use Rattle.pb_renew_lines.specs.Lines.{first_indented}
@@ -10,8 +10,8 @@ use Rattle.pb_renew_lines.specs.declared.outside.Outside.TheVariants as outside
 use Rattle.pb_renew_merge.specs.Renewed.{IsRenewal}
 
 -- it renews the bytes, and is told where lines of them are lost
-pub record IsMade (bytes : List ℕ) (tree : CTree) (made : Made) : Type 0 where
-  pub renewal : IsRenewal bytes tree made.renewed
+pub record IsMade (bytes : List ℕ) (wanted : Wanted) (made : Made) : Type 0 where
+  pub renewal : IsRenewal bytes wanted made.renewed
   pub lines : made.is_losing ≡ false → SparesLines bytes
 
 -- without a mark no line looks like a marker that is indented

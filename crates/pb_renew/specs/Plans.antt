@@ -4,6 +4,7 @@ use Rattle.std.specs.String.{string_bytes}
 use Rattle.pb_io.specs.Files.{File, file_of}
 use Rattle.pb_ctree.specs.declared.body.Bodies.{Bodies}
 use Rattle.pb_ctree.specs.declared.tree.CTree.{CTree}
+use Rattle.pb_renew_text.specs.declared.wanted.Wanted.{Wanted}
 use Rattle.pb_ctree.specs.declared.kernel.KName.{KName}
 use Rattle.pb_ctree.specs.Texts.{Spells}
 use Rattle.pb_renew_lines.specs.Lines.{first_indented}
@@ -38,8 +39,8 @@ left_bytes (Some b) = b.bodies
 
 -- the text of the tree, with each body that OUT had and that still has a function; the others go to OUT.left, which keeps what it had
 -- and gets no more; and the old OUT is kept whole where a line of it would be lost
-pub record Fits (tree : CTree) (renewed : Renewed) (task : Task) : Type 0 where
-  pub renewal : IsRenewal (bytes_of task.old) tree renewed
+pub record Fits (wanted : Wanted) (renewed : Renewed) (task : Task) : Type 0 where
+  pub renewal : IsRenewal (bytes_of task.old) wanted renewed
   pub text : task.text ≡ renewed.text.items
   pub left : LeavesAs renewed.gone.items renewed task.behind
   pub sound : Sound task
@@ -48,8 +49,8 @@ pub record Fits (tree : CTree) (renewed : Renewed) (task : Task) : Type 0 where
 abbrev pub renewed_of : Plan → Renewed
 renewed_of plan = record { old = plan.old; text = plan.job.text; kept = plan.kept; gone = plan.gone }
 
-abbrev pub IsPlan : CTree → Plan → Type 0
-IsPlan tree plan = Fits tree (renewed_of plan) (task_of plan.job)
+abbrev pub IsPlan : Wanted → Plan → Type 0
+IsPlan wanted plan = Fits wanted (renewed_of plan) (task_of plan.job)
 
 -- what is put is for a protocol in this file with these bytes, and at this place
 pub record IsFor (file source : List ℕ) (place : Place) (job : Job) : Type 0 where

@@ -2,10 +2,10 @@
 use Rattle.std.specs.Prelude.{◌≡◌, ◌≢◌, ℕ, ◌<◌, ◌⊎◌, ⊤, List, [], Ok, Option, Some, IfSome, length}
 use Rattle.pb_io.specs.Faults.{Rose}
 use Rattle.pb_io.specs.Files.{File, content_of}
-use Rattle.pb_ctree.specs.declared.tree.CTree.{CTree}
+use Rattle.pb_renew_text.specs.declared.wanted.Wanted.{Wanted}
 use Rattle.pb_kernels.specs.declared.fault.KernelFault.{KernelFault}
 use Rattle.pb_kernels.specs.declared.fault.KernelFault.TheVariants.{Missing}
-use Rattle.pb_kernels.specs.Files.{kernel_file}
+use Rattle.pb_kernels.specs.Files.{program_file}
 use Rattle.pb_kernels.specs.Marks.{prelude_name}
 use Rattle.pb_renew.specs.declared.losing.Losing.{Losing}
 use Rattle.pb_renew.specs.declared.losing.Losing.TheVariants.{Refused}
@@ -24,22 +24,22 @@ most_bytes = 67108864
 -- there are bytes, and they are a kernel file without a body
 pub record HasNoBody (bytes : List ℕ) : Type 0 where
   pub some : 0 < length bytes
-  pub none : kernel_file bytes ≡ Ok []
+  pub none : program_file bytes ≡ Ok []
 
 -- why an OUT with these bytes can't be renewed: it is no kernel file, or has no body at all
-abbrev pub IsOutFault : List ℕ → CTree → KernelFault → Type 0
-IsOutFault old tree fault = IsTextFault old tree fault ⊎ (HasNoBody old × (fault ≡ Missing prelude_name))
+abbrev pub IsOutFault : List ℕ → Wanted → KernelFault → Type 0
+IsOutFault old wanted fault = IsTextFault old wanted fault ⊎ (HasNoBody old × (fault ≡ Missing prelude_name))
 
 -- some bodies are gone in the text that renews it, and so it is with that text
-abbrev pub WhereGone : List ℕ → CTree → (Renewed → Type 0) → Type 0
-WhereGone old tree P = (renewed : Renewed) × IsRenewal old tree renewed × (renewed.gone.items ≢ []) × P renewed
+abbrev pub WhereGone : List ℕ → Wanted → (Renewed → Type 0) → Type 0
+WhereGone old wanted P = (renewed : Renewed) × IsRenewal old wanted renewed × (renewed.gone.items ≢ []) × P renewed
 
 -- OUT has more bytes than it may, or would have; or a body is gone, and OUT.left has, or would have
-abbrev pub IsTooLong : List ℕ → List ℕ → CTree → Type 0
-IsTooLong old left tree =
+abbrev pub IsTooLong : List ℕ → List ℕ → Wanted → Type 0
+IsTooLong old left wanted =
     (most_bytes < length old)
-    ⊎ ((renewed : Renewed) × IsRenewal old tree renewed × (most_bytes < length renewed.text.items))
-    ⊎ WhereGone old tree (λ renewed. (most_bytes < length left) ⊎ ((new : List ℕ) × IsLeft renewed left new × (most_bytes < length new)))
+    ⊎ ((renewed : Renewed) × IsRenewal old wanted renewed × (most_bytes < length renewed.text.items))
+    ⊎ WhereGone old wanted (λ renewed. (most_bytes < length left) ⊎ ((new : List ℕ) × IsLeft renewed left new × (most_bytes < length new)))
 
 -- why a file's bytes aren't there: the folder couldn't read it, or they are too many
 abbrev pub IsNoContent : Unrenewed → List ℕ → Option (List File) → ℕ → ℕ → Type 0
@@ -49,10 +49,10 @@ IsNoContent why.NoMemory name holds before now = ⊤
 IsNoContent other name holds before now = ⊥
 
 -- why there is no new text for an OUT with these bytes
-abbrev pub IsNoRenewal : Unrenewed → List ℕ → CTree → Type 0
-IsNoRenewal why.NoMemory old tree = ⊤
-IsNoRenewal (why.Out fault) old tree = IsOutFault old tree fault
-IsNoRenewal other old tree = ⊥
+abbrev pub IsNoRenewal : Unrenewed → List ℕ → Wanted → Type 0
+IsNoRenewal why.NoMemory old wanted = ⊤
+IsNoRenewal (why.Out fault) old wanted = IsOutFault old wanted fault
+IsNoRenewal other old wanted = ⊥
 
 -- why there are no new bytes for an OUT.left with these
 abbrev pub IsNoLeft : Unrenewed → Losing → Renewed → List ℕ → Type 0
@@ -70,16 +70,16 @@ IsLosing (why.Outside line) losing old = (losing ≡ Refused) × IsOutside old (
 IsLosing other losing old = ⊥
 
 -- why the text of a tree can't be put in the place of an OUT with these bytes, beside an OUT.left with those
-abbrev pub IsReasonWith : Losing → List ℕ → List ℕ → CTree → Unrenewed → Type 0
-IsReasonWith losing old left tree why.ReadFault = ⊤
-IsReasonWith losing old left tree why.TooLong = IsTooLong old left tree
-IsReasonWith losing old left tree why.NoMemory = ⊤
-IsReasonWith losing old left tree (why.Indented line) = (losing ≡ Refused) × (first_indented old ≡ Some line)
-IsReasonWith losing old left tree (why.Out fault) = IsOutFault old tree fault
-IsReasonWith losing old left tree (why.Outside line) = (losing ≡ Refused) × IsOutside old (outside.Line line)
-IsReasonWith losing old left tree (why.LeftIndented line) = (losing ≡ Refused) × (first_indented left ≡ Some line) × WhereGone old tree (λ renewed. ⊤)
-IsReasonWith losing old left tree (why.Left fault) = WhereGone old tree (λ renewed. IsLeftFault renewed left fault)
-IsReasonWith losing old left tree other = ⊥
+abbrev pub IsReasonWith : Losing → List ℕ → List ℕ → Wanted → Unrenewed → Type 0
+IsReasonWith losing old left wanted why.ReadFault = ⊤
+IsReasonWith losing old left wanted why.TooLong = IsTooLong old left wanted
+IsReasonWith losing old left wanted why.NoMemory = ⊤
+IsReasonWith losing old left wanted (why.Indented line) = (losing ≡ Refused) × (first_indented old ≡ Some line)
+IsReasonWith losing old left wanted (why.Out fault) = IsOutFault old wanted fault
+IsReasonWith losing old left wanted (why.Outside line) = (losing ≡ Refused) × IsOutside old (outside.Line line)
+IsReasonWith losing old left wanted (why.LeftIndented line) = (losing ≡ Refused) × (first_indented left ≡ Some line) × WhereGone old wanted (λ renewed. ⊤)
+IsReasonWith losing old left wanted (why.Left fault) = WhereGone old wanted (λ renewed. IsLeftFault renewed left fault)
+IsReasonWith losing old left wanted other = ⊥
 
 -- a plan isn't made for one of these reasons: the folder is at fault only where its count of faults rose, and no store is asked
 abbrev pub IsRead : Unrenewed → ℕ → ℕ → Type 0

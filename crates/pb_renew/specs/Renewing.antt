@@ -1,7 +1,7 @@
 -- What renewing a text leaves of OUT and of the files beside it.
 use Rattle.std.specs.Prelude.{◌≡◌, ◌⊎◌, ℕ, List, [], ◌∷◌, Option, None, Some, IsSome, ⊤}
 use Rattle.pb_io.specs.Files.{File, content_of, file_of}
-use Rattle.pb_ctree.specs.declared.tree.CTree.{CTree}
+use Rattle.pb_renew_text.specs.declared.wanted.Wanted.{Wanted}
 use Rattle.pb_ctree.specs.declared.kernel.KName.{KName}
 use Rattle.pb_renew.specs.Plans.{Fits, SparesLines}
 use Rattle.pb_renew_laws.specs.Bodies.{StandsIn}
@@ -34,13 +34,13 @@ KeepsLines (Some bytes) out old new = SparesLines bytes ⊎ KeepsOld out (Some b
 
 -- OUT has the text that renews the bytes that it had; each of its old bodies stands there, byte for byte, or in OUT.left, which keeps
 -- each body that it had and gets none but those; and nothing is left of a new one
-pub record Renews (out : List ℕ) (tree : CTree) (old new : List File) : Type 0 where
+pub record Renews (out : List ℕ) (wanted : Wanted) (old new : List File) : Type 0 where
   pub task : Task
   pub renewed : Renewed
   pub at : task.out ≡ out
-  pub fits : Fits tree renewed task
+  pub fits : Fits wanted renewed task
   pub puts : Puts task old new
-  pub renewal : IsRenewal (content_of old out) tree renewed
+  pub renewal : IsRenewal (content_of old out) wanted renewed
   pub text : file_of new out ≡ Some renewed.text.items
   pub lost : NothingLost (content_of old out) (content_of new out) (content_of new (left_name out))
   pub had : StandsIn (content_of old (left_name out)) (content_of new (left_name out))

@@ -4,7 +4,7 @@ ghost use Rattle.std.specs.Prelude.{◌≡◌, ◌≤◌, ◌≢◌, [], ℕ, Li
 ghost use Rattle.std.specs.Option.{option_map};
 ghost use Rattle.std.specs.String.{string_bytes};
 ghost use Rattle.pb_io.specs.Files.{content_of, file_of};
-ghost use Rattle.pb_ctree.specs.declared.tree.CTree.{CTree};
+ghost use Rattle.pb_renew_text.specs.declared.wanted.Wanted.{Wanted};
 ghost use Rattle.pb_renew.specs.Places.{IsThere};
 ghost use Rattle.pb_renew.specs.Plans.{LeavesAs, WasBefore};
 ghost use Rattle.pb_renew.specs.Reasons.{IsNoLeft, IsRead, IsReasonWith};
@@ -34,9 +34,9 @@ pub fn leaving_of<F: Folder>(
 ) -> Result<Option<Leaving>, Unrenewed>
     ensures leaving { IfOk result (λ leaving. LeavesAs renewed.now.gone.items renewed.now (option_map behind_of leaving)) }
     ensures before { IfOk result (λ leaving. IfSome (F.holds folder.old) (λ files. IsThere (string_bytes place.now.left) place.now.is_left files → WasBefore (option_map behind_of leaving) (file_of files (string_bytes place.now.left)))) }
-    ensures sound { IfOk result (λ leaving. (old : List ℕ) → (tree : CTree) → IsRenewal old tree renewed.now → SavesIn (option_map behind_of leaving) old renewed.now.text.items) }
+    ensures sound { IfOk result (λ leaving. (old : List ℕ) → (wanted : Wanted) → IsRenewal old wanted renewed.now → SavesIn (option_map behind_of leaving) old renewed.now.text.items) }
     ensures refused { IfErr result (λ why. IfSome (F.holds folder.old) (λ files. IsThere (string_bytes place.now.left) place.now.is_left files
-        → (old : List ℕ) → (tree : CTree) → IsRenewal old tree renewed.now → IsReasonWith losing old (content_of files (string_bytes place.now.left)) tree why)) }
+        → (old : List ℕ) → (wanted : Wanted) → IsRenewal old wanted renewed.now → IsReasonWith losing old (content_of files (string_bytes place.now.left)) wanted why)) }
     ensures read { IfErr result (λ why. IsRead why (F.faults folder.old) (F.faults folder.new)) }
     ensures holds { F.holds folder.new ≡ F.holds folder.old }
     ensures later { F.faults folder.old ≤ F.faults folder.new }
@@ -71,9 +71,9 @@ fn left_of(
     losing: Losing,
 ) -> Result<Vec<u8>, Unrenewed>
     ensures bytes { IfOk result (λ left. IsLeft renewed.now before.now left.items) }
-    ensures lost { IfOk result (λ left. (old : List ℕ) → (tree : CTree) → IsRenewal old tree renewed.now → NothingLost old renewed.now.text.items left.items) }
+    ensures lost { IfOk result (λ left. (old : List ℕ) → (wanted : Wanted) → IsRenewal old wanted renewed.now → NothingLost old renewed.now.text.items left.items) }
     ensures keeps { IfOk result (λ left. NothingLost before.now left.items []) }
-    ensures adds { IfOk result (λ left. (old : List ℕ) → (tree : CTree) → IsRenewal old tree renewed.now → NothingLost left.items before.now old) }
+    ensures adds { IfOk result (λ left. (old : List ℕ) → (wanted : Wanted) → IsRenewal old wanted renewed.now → NothingLost left.items before.now old) }
     ensures fault { IfErr result (λ why. IsNoLeft why losing renewed.now before.now) }
 {
     if let (Losing::Refused, Some(line)) = (losing, first_indented(before)) {

@@ -15,7 +15,7 @@ mod renewal;
 mod unrenewed;
 
 pub use losing::Losing;
-pub use pb_renew_merge::{CTree, KernelFault, NoMemory};
+pub use pb_renew_merge::{CTree, Form, KernelFault, NoMemory, Wanted};
 pub use pb_renew_store::Store;
 pub use place::{Place, place_of};
 pub use plan::{Plan, plan_for};

@@ -6,7 +6,7 @@ ghost use Rattle.pb_renew.specs.Made.{IsMade, IsMarked, IsTold, is_line};
 ghost use Rattle.pb_renew.specs.Reasons.{IsLosing, IsReasonWith};
 ghost use Rattle.pb_renew_lines.specs.Outside.{IsOutside};
 
-use crate::CTree;
+use crate::Wanted;
 use crate::content::MOST_BYTES;
 use crate::losing::Losing;
 use crate::renewal::renewal_of;
@@ -26,18 +26,23 @@ pub struct Made {
 }
 
 /// The text that an OUT with these bytes gets.
-pub fn made_of(alloc: Global, tree: &CTree, bytes: &[u8], losing: Losing) -> Result<Made, Unrenewed>
-    requires { IsTree tree.now }
-    ensures made { IfOk result (IsMade bytes.now tree.now) }
+pub fn made_of(
+    alloc: Global,
+    wanted: &Wanted,
+    bytes: &[u8],
+    losing: Losing,
+) -> Result<Made, Unrenewed>
+    requires { IsTree wanted.now.tree }
+    ensures made { IfOk result (IsMade bytes.now wanted.now) }
     ensures spared { IfOk result (λ made. losing ≡ Losing.Refused → made.is_losing ≡ false) }
-    ensures fault { IfErr result (λ why. (left : List ℕ) → IsReasonWith losing bytes.now left tree.now why) }
+    ensures fault { IfErr result (λ why. (left : List ℕ) → IsReasonWith losing bytes.now left wanted.now why) }
     ensures unread { IsErrOf result Unrenewed.ReadFault → ⊥ }
 {
     let has_indented = match indented_in(bytes, losing) {
         Ok(has) => has,
         Err(why) => return Err(why),
     };
-    let renewed = match renewal_of(alloc, tree, bytes) {
+    let renewed = match renewal_of(alloc, wanted, bytes) {
         Ok(renewed) => renewed,
         Err(why) => return Err(why),
     };

@@ -16,7 +16,7 @@ use crate::losing::Losing;
 use crate::made::{Made, made_of};
 use crate::place::Place;
 use crate::unrenewed::Unrenewed;
-use crate::{CTree, NoMemory};
+use crate::{NoMemory, Wanted};
 use pb_io::Folder;
 use pb_kernels::{KName, KernelFile};
 use pb_renew_lines::CText;
@@ -37,9 +37,9 @@ pub struct Plan {
     pub before: Option<CText>,
 }
 
-/// Plans the renewing of OUT for the protocol FILE, which has these bytes: it gets the text of its tree, with each body that it has and that still has a function, and default
-/// bodies for new functions. The other bodies go to OUT.left, behind what is there; it isn't read where none goes there. A missing OUT
-/// is one without a body.
+/// Plans the renewing of OUT for the protocol FILE, which has these bytes: it gets the text that is wanted, with each body that it
+/// has and that still has a function whose parameters allow it, and default bodies for the others. The bodies that this text lacks go
+/// to OUT.left, behind what is there; it isn't read where none goes there. A missing OUT is one without a body.
 ///
 /// Where lines are refused that would be lost, `Indented` names the first line of OUT that looks like a marker that is indented,
 /// and `Outside` the first one outside of bodies that isn't the compiler's (or blank). An OUT that is no kernel file, or has bytes and no
@@ -48,19 +48,19 @@ pub struct Plan {
 pub fn plan_for<F: Folder>(
     alloc: Global,
     folder: &mut F,
-    tree: &CTree,
+    wanted: &Wanted,
     file: &str,
     source: Vec<u8>,
     place: Place,
     losing: Losing,
 ) -> Result<Plan, Unrenewed>
-    requires { IsTree tree.now }
-    ensures plan { IfOk result (IsPlan tree.now) }
+    requires { IsTree wanted.now.tree }
+    ensures plan { IfOk result (IsPlan wanted.now) }
     ensures job { IfOk result (λ plan. IsFor file.now source.items place plan.job) }
     ensures told { IfOk result (λ plan. IfSome (F.holds folder.old) (λ files. Agrees place files → WasTold (task_of plan.job) place files)) }
     ensures spared { IfOk result (λ plan. losing ≡ Losing.Refused → plan.job.keeps_old ≡ false) }
     ensures refused { IfErr result (λ why. IfSome (F.holds folder.old) (λ files. Agrees place files
-        → IsReasonWith losing (content_of files (string_bytes place.out)) (content_of files (string_bytes place.left)) tree.now why)) }
+        → IsReasonWith losing (content_of files (string_bytes place.out)) (content_of files (string_bytes place.left)) wanted.now why)) }
     ensures read { IfErr result (λ why. IsRead why (F.faults folder.old) (F.faults folder.new)) }
     ensures holds { F.holds folder.new ≡ F.holds folder.old }
     ensures later { F.faults folder.old ≤ F.faults folder.new }
@@ -69,7 +69,7 @@ pub fn plan_for<F: Folder>(
         Ok(old) => old,
         Err(why) => return Err(why),
     };
-    let made = match made_of(alloc, tree, bytes_in(&old), losing) {
+    let made = match made_of(alloc, wanted, bytes_in(&old), losing) {
         Ok(made) => made,
         Err(why) => return Err(why),
     };

@@ -6,7 +6,7 @@ ghost use Rattle.pb_renew.specs.Reasons.{IsNoRenewal};
 ghost use Rattle.pb_renew_merge.specs.Renewed.{IsRenewal};
 
 use crate::unrenewed::Unrenewed;
-use crate::{CTree, KernelFault};
+use crate::{KernelFault, Wanted};
 use pb_kernels::{KName, KernelFile, Kind};
 use pb_renew_merge::{Renewed, renew_text};
 use std::alloc::Global;
@@ -18,12 +18,12 @@ const PRELUDE: KName = KName {
 
 /// What becomes of an OUT with these bytes.
 #[tactic(auto, using(crate::proofs::Reasons::untexted, crate::proofs::Reasons::bodiless))]
-pub fn renewal_of(alloc: Global, tree: &CTree, bytes: &[u8]) -> Result<Renewed, Unrenewed>
-    requires { IsTree tree.now }
-    ensures renewal { IfOk result (IsRenewal bytes.now tree.now) }
-    ensures fault { IfErr result (λ why. IsNoRenewal why bytes.now tree.now) }
+pub fn renewal_of(alloc: Global, wanted: &Wanted, bytes: &[u8]) -> Result<Renewed, Unrenewed>
+    requires { IsTree wanted.now.tree }
+    ensures renewal { IfOk result (IsRenewal bytes.now wanted.now) }
+    ensures fault { IfErr result (λ why. IsNoRenewal why bytes.now wanted.now) }
 {
-    match renew_text(alloc, tree, bytes) {
+    match renew_text(alloc, wanted, bytes) {
         Ok(renewal) => {
             if has_no_body(bytes, &renewal.old) {
                 Err(Unrenewed::Out(KernelFault::Missing(PRELUDE)))

@@ -5,7 +5,7 @@ use Rattle.pb_ctree.specs.declared.kernel.KName.{KName}
 use Rattle.pb_io.specs.Files.{File, content_of, file_of}
 use Rattle.pb_kernels.specs.declared.fault.KernelFault.{KernelFault}
 use Rattle.pb_kernels.specs.declared.file.NamedBody.{NamedBody}
-use Rattle.pb_kernels.specs.Files.{kernel_file, lines, read_from}
+use Rattle.pb_kernels.specs.Files.{program_file, lines, read_from}
 use Rattle.pb_kernels.specs.Names.{is_among}
 use Rattle.pb_renew_merge.specs.Lost.{Keeps, NothingLost}
 use Rattle.pb_renew_store.specs.Changes.{KeepsFile, KeepsOthers, Renames}
@@ -23,15 +23,15 @@ use Rattle.pb_renew_laws.proofs.Tests.{false_true, missing}
 pub carried : (name : KName) (body a b c : List ℕ) → NothingLost a b c → Keeps name body a → Keeps name body b ⊎ Keeps name body c
 carried name body a b c loss kept = subst (λ x. Keeps name x b ⊎ Keeps name x c) kept.same (loss kept.list kept.read name kept.there)
 
-empty_file : kernel_file [] ≡ Ok []
-unfolding kernel_file lines read_from
+empty_file : program_file [] ≡ Ok []
+unfolding program_file lines read_from
 empty_file = refl
 
 abbrev bodies_of : Result (List NamedBody) KernelFault → List NamedBody
 bodies_of (Ok list) = list
 bodies_of (Err fault) = []
 
-none_in : (list : List NamedBody) → kernel_file [] ≡ Ok list → [] ≡ list
+none_in : (list : List NamedBody) → program_file [] ≡ Ok list → [] ≡ list
 none_in list read = ap bodies_of (sym empty_file ∙ read)
 
 -- an empty file has none

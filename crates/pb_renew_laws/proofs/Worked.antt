@@ -8,7 +8,7 @@ use Rattle.pb_ctree.specs.Functions.{named as function_named}
 use Rattle.pb_ctree.specs.declared.kernel.Kind.TheVariants.{Compute}
 use Rattle.pb_ctree.specs.declared.kernel.KName.{KName}
 use Rattle.pb_io.specs.Files.{File}
-use Rattle.pb_kernels.specs.Files.{kernel_file, lines, read_from, step}
+use Rattle.pb_kernels.specs.Files.{program_file, lines, read_from, step}
 use Rattle.pb_kernels.specs.Marks.{ends_marker, kernel_of, marker_of, opening_of}
 use Rattle.pb_kernels.specs.Names.{body_of}
 use Rattle.pb_renew_merge.specs.Lost.{Keeps, NothingLost}
@@ -227,7 +227,7 @@ abbrev body : List ℕ
 body = codes "a = 1;\n"
 
 stood : Keeps name body was
-unfolding kernel_file lines read_from step marker_of kernel_of opening_of ends_marker
+unfolding program_file lines read_from step marker_of kernel_of opening_of ends_marker
 stood = record { list = record { name = name; body = body } ∷ []; read = refl; there = refl; same = refl }
 
 pub stands : Stands name body out after

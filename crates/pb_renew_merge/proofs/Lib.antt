@@ -1,4 +1,3 @@
 mod Faults
 pub mod Losses
-pub mod Texts
 pub mod Places

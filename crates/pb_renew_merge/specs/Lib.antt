@@ -3,4 +3,3 @@ pub mod Left
 pub mod Lost
 pub mod Payloads
 pub mod Renewed
-pub mod Texts

@@ -4,7 +4,7 @@ use Rattle.std.specs.Cmp.Lexicographic.{pointwise}
 use Rattle.std.specs.List.{filter}
 use Rattle.pb_ctree.specs.declared.kernel.KName.{KName}
 use Rattle.pb_kernels.specs.declared.file.NamedBody.{NamedBody}
-use Rattle.pb_kernels.specs.Files.{kernel_file}
+use Rattle.pb_kernels.specs.Files.{program_file}
 use Rattle.pb_kernels.specs.Names.{body_of, is_among, names_of}
 
 -- a list has a body with this name and these bytes
@@ -41,12 +41,12 @@ first_misplaced old text before made =
 -- the bytes are a kernel file with a body of this name and these bytes
 pub record Keeps (name : KName) (body bytes : List ℕ) : Type 0 where
   pub list : List NamedBody
-  pub read : kernel_file bytes ≡ Ok list
+  pub read : program_file bytes ≡ Ok list
   pub there : is_among name list ≡ true
   pub same : body_of name list ≡ body
 
 -- each body of an old kernel file stands, with its name and byte for byte, in one of two others
 abbrev pub NothingLost : List ℕ → List ℕ → List ℕ → Type 0
 NothingLost old text left =
-    (list : List NamedBody) → kernel_file old ≡ Ok list → (name : KName) → is_among name list ≡ true
+    (list : List NamedBody) → program_file old ≡ Ok list → (name : KName) → is_among name list ≡ true
     → Keeps name (body_of name list) text ⊎ Keeps name (body_of name list) left

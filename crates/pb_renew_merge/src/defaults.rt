@@ -1,62 +1,78 @@
 //! Functions that nobody has filled in.
 
-ghost use Rattle.std.specs.Prelude.{◌≡◌, ◌++◌, true, IfOk, OnOk};
-ghost use Rattle.pb_local.specs.Tree.{program_of};
-ghost use Rattle.pb_ctree.specs.Functions.{default_of, functions_of};
+ghost use Rattle.std.specs.Prelude.{◌≡◌, ◌++◌, IfOk, IsTrue, OnOk};
+ghost use Rattle.std.specs.List.{All};
+ghost use Rattle.pb_ctree.specs.Trees.{IsTree};
+ghost use Rattle.pb_local.specs.Names.{is_name};
+ghost use Rattle.pb_typed_frame.specs.Functions.{Named};
 ghost use Rattle.pb_renew_merge.specs.Defaults.{default_name, default_names, has_default};
+ghost use Rattle.pb_renew_text.specs.Texts.{functions_of};
 
-use pb_ctree::functions;
-use pb_kernels::{CTree, KName, KernelFile, Kind, NoMemory};
+use pb_kernels::{KName, KernelFile, NoMemory};
+use pb_renew_text::{Form, Function, Wanted, default_in, wanted_functions};
+use pb_typed_frame::body_name;
 use std::alloc::Global;
 
-/// The functions of a tree's text whose body in the file is the default one, in printed order.
-pub fn default_names(alloc: Global, tree: &CTree, kept: &KernelFile) -> Result<Vec<KName>, NoMemory>
-    ensures { IfOk result (λ list. list.items ≡ default_names (functions_of (program_of tree.now.local)) kept.now) }
+/// The functions of a text whose body in the file is the default one, in printed order.
+pub fn default_names(
+    alloc: Global,
+    wanted: &Wanted,
+    kept: &KernelFile,
+) -> Result<Vec<KName>, NoMemory>
+    requires { IsTree wanted.now.tree }
+    ensures { IfOk result (λ list. list.items ≡ default_names wanted.now.form (functions_of wanted.now) kept.now) }
 {
-    let functions = functions(alloc, tree)?;
+    let functions = wanted_functions(alloc, wanted)?;
     let mut list = Vec::new(alloc);
-    push_defaults(&functions, kept, &mut list)?;
+    push_defaults(alloc, &wanted.form, &functions, kept, &mut list)?;
     Ok(list)
 }
 
 fn push_defaults(
-    functions: &[KName],
+    alloc: Global,
+    form: &Form,
+    functions: &[Function],
     kept: &KernelFile,
     out: &mut Vec<KName>,
 ) -> Result<(), NoMemory>
-    ensures { OnOk result (out.new.items ≡ out.old.items ++ default_names functions.now kept.now) }
+    requires { All Named functions.now }
+    ensures { OnOk result (out.new.items ≡ out.old.items ++ default_names form.now functions.now kept.now) }
 {
     for function in functions {
-        push_default(function, kept, out)?;
+        push_default(alloc, form, function, kept, out)?;
     }
     Ok(())
 }
 
-/// Appends the function, where its body is the default one.
-fn push_default(name: &KName, kept: &KernelFile, out: &mut Vec<KName>) -> Result<(), NoMemory>
-    ensures { OnOk result (out.new.items ≡ out.old.items ++ default_name name.now kept.now) }
+/// Appends the function's name, where its body is the default one.
+fn push_default(
+    alloc: Global,
+    form: &Form,
+    function: &Function,
+    kept: &KernelFile,
+    out: &mut Vec<KName>,
+) -> Result<(), NoMemory>
+    requires { IsTrue (is_name function.now.name) }
+    ensures { OnOk result (out.new.items ≡ out.old.items ++ default_name form.now function.now kept.now) }
 {
-    if has_default(name, kept) {
-        out.push(KName {
-            kind: name.kind,
-            name: name.name,
-        })?;
+    let name = body_name(function);
+    // The check learns here of which type a name's word is.
+    let _word = &name.name;
+    if has_default(alloc, form, function, kept)? {
+        out.push(name)?;
     }
     Ok(())
 }
 
-fn has_default(name: &KName, kept: &KernelFile) -> bool
-    ensures { result ≡ has_default name.now kept.now }
+fn has_default(
+    alloc: Global,
+    form: &Form,
+    function: &Function,
+    kept: &KernelFile,
+) -> Result<bool, NoMemory>
+    requires { IsTrue (is_name function.now.name) }
+    ensures { IfOk result (λ is. is ≡ has_default form.now function.now kept.now) }
 {
-    kept.bytes_of(name) == default_lines(name.kind)
-}
-
-/// The lines of a function's body where nothing else is given.
-fn default_lines(kind: Kind) -> &'static [u8]
-    ensures { result.now ≡ default_of kind }
-{
-    match kind {
-        Kind::Choice => b"  return 0;\n",
-        Kind::Prelude | Kind::Compute | Kind::Make | Kind::Take | Kind::Room => b"",
-    }
+    let default = default_in(alloc, form, function)?;
+    Ok(kept.bytes_of(&body_name(function)) == default.bytes())
 }

@@ -2,7 +2,7 @@
 
 ghost use Rattle.std.specs.Prelude.{◌≡◌, ◌⊎◌, ◌++◌, ℕ, List, [], IfErr, IfOk, OnOk};
 ghost use Rattle.std.specs.List.{flat_map};
-ghost use Rattle.pb_ctree.specs.declared.tree.CTree.{CTree};
+ghost use Rattle.pb_renew_text.specs.declared.wanted.Wanted.{Wanted};
 ghost use Rattle.pb_kernels.specs.declared.fault.KernelFault.TheVariants as faults;
 ghost use Rattle.pb_renew_merge.specs.Left.{first_twice, left_text, line_end, text_for};
 ghost use Rattle.pb_renew_merge.specs.Lost.{NothingLost};
@@ -10,8 +10,9 @@ ghost use Rattle.pb_renew_merge.specs.Renewed.{HasAnother, IsLeft, IsLeftFault, 
 
 use crate::lost::{first_misplaced, keeps};
 use crate::marker::push_body;
+use crate::reading::read_text;
 use crate::renewed::Renewed;
-use pb_kernels::{KName, KernelFault, KernelFile, NoMemory, read_kernels};
+use pb_kernels::{KName, KernelFault, KernelFile, NoMemory};
 use std::alloc::Global;
 
 /// The bytes of a kernel file with those bodies behind them that the new text lacks.
@@ -23,12 +24,12 @@ use std::alloc::Global;
 #[tactic(auto, using(crate::proofs::Losses::is_left, crate::proofs::Losses::nothing_lost, crate::proofs::Losses::all_kept, crate::proofs::Losses::none_added, crate::proofs::Faults::no_left, crate::proofs::Faults::another, crate::proofs::Faults::not_made, crate::proofs::Faults::not_found))]
 pub fn left_for(alloc: Global, renewed: &Renewed, before: &[u8]) -> Result<Vec<u8>, KernelFault>
     ensures bytes { IfOk result (λ left. IsLeft renewed.now before.now left.items) }
-    ensures kept { IfOk result (λ left. (out : List ℕ) → (tree : CTree) → IsRenewal out tree renewed.now → NothingLost out renewed.now.text.items left.items) }
+    ensures kept { IfOk result (λ left. (out : List ℕ) → (wanted : Wanted) → IsRenewal out wanted renewed.now → NothingLost out renewed.now.text.items left.items) }
     ensures keeps { IfOk result (λ left. NothingLost before.now left.items []) }
-    ensures adds { IfOk result (λ left. (out : List ℕ) → (tree : CTree) → IsRenewal out tree renewed.now → NothingLost left.items before.now out) }
+    ensures adds { IfOk result (λ left. (out : List ℕ) → (wanted : Wanted) → IsRenewal out wanted renewed.now → NothingLost left.items before.now out) }
     ensures fault { IfErr result (λ fault. (fault ≡ faults.NoMemory) ⊎ IsLeftFault renewed.now before.now fault) }
 {
-    let left = match read_kernels(alloc, before) {
+    let left = match read_text(alloc, before) {
         Ok(left) => left,
         Err(fault) => return Err(fault),
     };
@@ -36,7 +37,7 @@ pub fn left_for(alloc: Global, renewed: &Renewed, before: &[u8]) -> Result<Vec<u
         Ok(bytes) => bytes,
         Err(fault) => return Err(fault),
     };
-    let again = match read_kernels(alloc, &bytes) {
+    let again = match read_text(alloc, &bytes) {
         Ok(again) => again,
         Err(fault) => return Err(fault),
     };

@@ -6,8 +6,9 @@ ghost use Rattle.pb_kernels.specs.declared.fault.KernelFault.TheVariants as faul
 ghost use Rattle.pb_renew_merge.specs.Renewed.{IsRenewal, IsTextFault};
 
 use crate::lost::lost_names;
-use crate::made::text_of;
-use pb_kernels::{CTree, KName, KernelFault, KernelFile, read_kernels};
+use crate::reading::read_text;
+use pb_kernels::{KName, KernelFault, KernelFile};
+use pb_renew_text::{Wanted, wanted_text};
 use std::alloc::Global;
 
 /// What a text becomes.
@@ -23,22 +24,23 @@ pub struct Renewed {
     pub gone: Vec<KName>,
 }
 
-/// The text of a tree that has each body of an old text that still has a function, and default bodies for new functions.
+/// The text that is wanted, with each body of an old text that still has a function whose parameters allow it, and default bodies for
+/// the other functions.
 ///
 /// `BadMarker` and `Twice` say why the old text is no kernel file, or why the new one can't be read again. An empty old text has
 /// no body. `NoMemory` may come in place of each.
 #[tactic(auto, using(crate::proofs::Faults::no_file, crate::proofs::Faults::no_text))]
-pub fn renew_text(alloc: Global, tree: &CTree, out: &[u8]) -> Result<Renewed, KernelFault>
-    requires { IsTree tree.now }
-    ensures renewal { IfOk result (IsRenewal out.now tree.now) }
-    ensures fault { IfErr result (λ fault. (fault ≡ faults.NoMemory) ⊎ IsTextFault out.now tree.now fault) }
+pub fn renew_text(alloc: Global, wanted: &Wanted, out: &[u8]) -> Result<Renewed, KernelFault>
+    requires { IsTree wanted.now.tree }
+    ensures renewal { IfOk result (IsRenewal out.now wanted.now) }
+    ensures fault { IfErr result (λ fault. (fault ≡ faults.NoMemory) ⊎ IsTextFault out.now wanted.now fault) }
 {
-    let old = match read_kernels(alloc, out) {
+    let old = match read_text(alloc, out) {
         Ok(old) => old,
         Err(fault) => return Err(fault),
     };
-    let text = text_of(alloc, tree, &old)?;
-    let kept = match read_kernels(alloc, &text) {
+    let text = wanted_text(alloc, wanted, &old)?;
+    let kept = match read_text(alloc, &text) {
         Ok(kept) => kept,
         Err(fault) => return Err(fault),
     };

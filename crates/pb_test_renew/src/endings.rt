@@ -3,7 +3,7 @@
 ghost use Rattle.pb_ctree.specs.Trees.{IsTree};
 
 use crate::files::{K, L, has_part, joined, renew, store_of};
-use pb_renew::{CTree, Losing, Unrenewed};
+use pb_renew::{Losing, Unrenewed, Wanted};
 use pb_renew_store::MemStore;
 use std::alloc::Global;
 use std::test::Fail;
@@ -21,22 +21,22 @@ pub enum Ending {
     Astray,
 }
 
-/// The ending of renewing an OUT with K and L by the text of a tree, where the calls with these numbers fail.
+/// The ending of renewing an OUT with K and L by a text, where the calls with these numbers fail.
 ///
 /// `gone` are the bodies that are to go to OUT.left, and `before` is what that has; None where it isn't there.
 pub fn ending_of(
     alloc: Global,
-    tree: &CTree,
+    wanted: &Wanted,
     gone: &[u8],
     before: Option<&[u8]>,
     fails: Vec<u64>,
 ) -> Result<Ending, Fail>
-    requires { IsTree tree.now }
+    requires { IsTree wanted.now.tree }
 {
     let text = joined(alloc, K, L)?;
     let more = joined(alloc, before.unwrap_or_default(), gone)?;
     let mut store = store_of(alloc, &text, before, fails)?;
-    let renewed = renew(alloc, &mut store, tree, "o.c", Losing::Refused);
+    let renewed = renew(alloc, &mut store, wanted, "o.c", Losing::Refused);
     let left = store.bytes_of("o.c.left");
     let is_more = if gone.is_empty() {
         left == before
@@ -71,17 +71,17 @@ fn has_body(store: &MemStore, body: &[u8]) -> bool {
 /// The endings where so many calls fail: from each of the first 80 on.
 pub fn endings(
     alloc: Global,
-    tree: &CTree,
+    wanted: &Wanted,
     gone: &[u8],
     before: Option<&[u8]>,
     count: u64,
 ) -> Result<Vec<Ending>, Fail>
-    requires { IsTree tree.now }
+    requires { IsTree wanted.now.tree }
 {
     let mut list = Vec::new(alloc);
     for first in 0_u64..80 {
         let fails = (first..first.saturating_add(count)).collect(alloc)?;
-        list.push(ending_of(alloc, tree, gone, before, fails)?)?;
+        list.push(ending_of(alloc, wanted, gone, before, fails)?)?;
     }
     Ok(list)
 }
@@ -89,17 +89,17 @@ pub fn endings(
 /// The endings where this call fails, and another one behind it: each up to the 60th.
 pub fn endings_of_two(
     alloc: Global,
-    tree: &CTree,
+    wanted: &Wanted,
     gone: &[u8],
     before: Option<&[u8]>,
     first: u64,
 ) -> Result<Vec<Ending>, Fail>
-    requires { IsTree tree.now }
+    requires { IsTree wanted.now.tree }
 {
     let mut list = Vec::new(alloc);
     for second in first..60 {
         let fails = [first, second].to_vec(alloc)?;
-        list.push(ending_of(alloc, tree, gone, before, fails)?)?;
+        list.push(ending_of(alloc, wanted, gone, before, fails)?)?;
     }
     Ok(list)
 }

@@ -3,9 +3,9 @@
 ghost use Rattle.std.specs.Prelude.{IfOk};
 ghost use Rattle.pb_ctree.specs.Trees.{IsTree};
 
-use pb_cli_file::{CTree, tree_in};
+use pb_cli_file::tree_in;
 use pb_io::{MemFile, MemFolder};
-use pb_renew::{Losing, Unrenewed, place_of, plan_for};
+use pb_renew::{Form, Losing, Unrenewed, Wanted, place_of, plan_for};
 use pb_renew_put::{Job, Leaving, PutFault, is_written, put};
 use pb_renew_store::MemStore;
 use pb_text::NoMemory;
@@ -96,11 +96,11 @@ pub fn put_job(alloc: Global, store: &mut MemStore, job: &Job) -> Result<(), Put
 pub fn renew(
     alloc: Global,
     store: &mut MemStore,
-    tree: &CTree,
+    wanted: &Wanted,
     name: &str,
     losing: Losing,
 ) -> Result<(), Unrenewed>
-    requires { IsTree tree.now }
+    requires { IsTree wanted.now.tree }
 {
     let place = place_of(alloc, store, name, losing)?;
     let mut files = Vec::new(alloc);
@@ -114,16 +114,16 @@ pub fn renew(
     if source.extend_from_slice(SOURCE).is_err() {
         return Err(Unrenewed::NoMemory);
     }
-    let plan = plan_for(alloc, &mut folder, tree, "p", source, place, losing)?;
+    let plan = plan_for(alloc, &mut folder, wanted, "p", source, place, losing)?;
     match put_job(alloc, store, &plan.job) {
         Ok(()) => Ok(()),
         Err(fault) => Err(Unrenewed::unput(fault)),
     }
 }
 
-/// The tree of a protocol that runs these kernels.
-pub fn tree_of(alloc: Global, kernels: &[&str]) -> Result<CTree, Fail>
-    ensures { IfOk result IsTree }
+/// The plain text of a protocol that runs these kernels.
+pub fn wanted_of(alloc: Global, kernels: &[&str]) -> Result<Wanted, Fail>
+    ensures { IfOk result (λ wanted. IsTree wanted.tree) }
 {
     let mut text = String::from_str(
         alloc,
@@ -139,7 +139,10 @@ pub fn tree_of(alloc: Global, kernels: &[&str]) -> Result<CTree, Fail>
     push_file(alloc, &mut files, "p", text.as_bytes())?;
     let mut folder = MemFolder::new(files, Vec::new(alloc));
     match tree_in(alloc, &mut folder, "p") {
-        Ok(tree) => Ok(tree),
+        Ok(tree) => Ok(Wanted {
+            tree,
+            form: Form::Plain,
+        }),
         Err(refusal) => Err(Fail::from(refusal)),
     }
 }

@@ -1,4 +1,4 @@
-use crate::files::{K, L, OTHER_K, has_part, joined, tree_of};
+use crate::files::{K, L, OTHER_K, has_part, joined, wanted_of};
 use pb_renew_merge::{KernelFault, left_for, renew_text};
 use std::test::Fail;
 
@@ -6,13 +6,13 @@ use std::test::Fail;
 fn bodies_stay_where_their_functions_do(rt: HostRuntime) -> Result<(), Fail> {
     let prelude = b"/*@ prelude */\n#include <stdio.h>\n/*@ end */\n";
     let old = joined(rt.alloc(), prelude, K)?;
-    let tree = tree_of(rt.alloc(), &["M", "K"])?;
-    let renewal = renew_text(rt.alloc(), &tree, &old)?;
+    let wanted = wanted_of(rt.alloc(), &["M", "K"])?;
+    let renewal = renew_text(rt.alloc(), &wanted, &old)?;
     for part in [prelude.as_slice(), K, b"/*@ kernel k_M */\n/*@ end */\n"] {
         assert!(rt; has_part(Some(&renewal.text), part));
     }
     assert!(rt; renewal.gone.is_empty());
-    let again = renew_text(rt.alloc(), &tree, &renewal.text)?;
+    let again = renew_text(rt.alloc(), &wanted, &renewal.text)?;
     assert!(rt; again.text.as_slice() == renewal.text.as_slice());
     Ok(())
 }
@@ -20,8 +20,8 @@ fn bodies_stay_where_their_functions_do(rt: HostRuntime) -> Result<(), Fail> {
 #[test]
 fn what_is_gone_stands_behind_what_was_left(rt: HostRuntime) -> Result<(), Fail> {
     let old = joined(rt.alloc(), L, K)?;
-    let tree = tree_of(rt.alloc(), &[])?;
-    let renewal = renew_text(rt.alloc(), &tree, &old)?;
+    let wanted = wanted_of(rt.alloc(), &[])?;
+    let renewal = renew_text(rt.alloc(), &wanted, &old)?;
     // What was left, and what is put between it and K.
     let rows: [(&[u8], &[u8]); 5] = [
         (b"", L),

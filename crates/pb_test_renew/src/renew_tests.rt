@@ -1,5 +1,5 @@
 use crate::endings::{Ending, count_of, endings, endings_of_two, place_of};
-use crate::files::{K, L, OTHER_K, has_part, renew, store_of, tree_of};
+use crate::files::{K, L, OTHER_K, has_part, renew, store_of, wanted_of};
 use pb_renew::{KernelFault, Losing, Unrenewed};
 use std::test::Fail;
 
@@ -12,7 +12,7 @@ const ALL: u64 = 99;
 #[test]
 fn one_call_fails(rt: HostRuntime) -> Result<(), Fail> {
     let alloc = rt.alloc();
-    let tree = tree_of(alloc, &["L"])?;
+    let wanted = wanted_of(alloc, &["L"])?;
     let rows: [(Option<&[u8]>, &[u8]); 4] = [
         (None, K),
         (Some(b""), K),
@@ -20,7 +20,7 @@ fn one_call_fails(rt: HostRuntime) -> Result<(), Fail> {
         (Some(K), b""),
     ];
     for (left, gone) in rows {
-        let endings = endings(alloc, &tree, gone, left, 1)?;
+        let endings = endings(alloc, &wanted, gone, left, 1)?;
         assert!(rt; place_of(&endings, Ending::Astray) == None);
         assert!(rt; place_of(&endings, Ending::Halfway) == None);
         let done = place_of(&endings, Ending::Done).unwrap_or_default();
@@ -34,9 +34,9 @@ fn one_call_fails(rt: HostRuntime) -> Result<(), Fail> {
 #[test]
 fn all_calls_fail_from_one_on(rt: HostRuntime) -> Result<(), Fail> {
     let alloc = rt.alloc();
-    let tree = tree_of(alloc, &["L"])?;
+    let wanted = wanted_of(alloc, &["L"])?;
     for left in [None, Some(NOTE)] {
-        let endings = endings(alloc, &tree, K, left, ALL)?;
+        let endings = endings(alloc, &wanted, K, left, ALL)?;
         assert!(rt; place_of(&endings, Ending::Astray) == None);
         // OUT.left isn't brought to the disk, or the new OUT doesn't get its name.
         assert!(rt; count_of(&endings, Ending::Halfway) == 2);
@@ -51,10 +51,10 @@ fn all_calls_fail_from_one_on(rt: HostRuntime) -> Result<(), Fail> {
 #[test]
 fn two_calls_fail(rt: HostRuntime) -> Result<(), Fail> {
     let alloc = rt.alloc();
-    let tree = tree_of(alloc, &["L"])?;
+    let wanted = wanted_of(alloc, &["L"])?;
     let mut halves = 0_usize;
     for first in 0..60 {
-        let endings = endings_of_two(alloc, &tree, K, Some(NOTE), first)?;
+        let endings = endings_of_two(alloc, &wanted, K, Some(NOTE), first)?;
         assert!(rt; place_of(&endings, Ending::Astray) == None, "{first}");
         halves = halves.saturating_add(count_of(&endings, Ending::Halfway));
     }
@@ -66,9 +66,9 @@ fn two_calls_fail(rt: HostRuntime) -> Result<(), Fail> {
 #[test]
 fn each_body_has_its_function(rt: HostRuntime) -> Result<(), Fail> {
     let alloc = rt.alloc();
-    let tree = tree_of(alloc, &["L", "K"])?;
+    let wanted = wanted_of(alloc, &["L", "K"])?;
     for count in [1, ALL] {
-        let endings = endings(alloc, &tree, b"", Some(b"/*@ end */\n"), count)?;
+        let endings = endings(alloc, &wanted, b"", Some(b"/*@ end */\n"), count)?;
         assert!(rt; place_of(&endings, Ending::Astray) == None, "{count}");
         assert!(rt; place_of(&endings, Ending::Halfway) == None, "{count}");
         assert!(rt; count_of(&endings, Ending::Refused) > 10, "{count}");
@@ -79,14 +79,14 @@ fn each_body_has_its_function(rt: HostRuntime) -> Result<(), Fail> {
 
 #[test]
 fn one_file_alone(rt: HostRuntime) -> Result<(), Fail> {
-    let tree = tree_of(rt.alloc(), &["L", "K", "M"])?;
+    let wanted = wanted_of(rt.alloc(), &["L", "K", "M"])?;
     // Where nothing is gone, what is left isn't read.
     let left = b"/*@ end */\n".as_slice();
     let mut store = store_of(rt.alloc(), K, Some(left), Vec::new(rt.alloc()))?;
-    assert!(rt; renew(rt.alloc(), &mut store, &tree, "o.c", Losing::Refused) == Ok(()));
+    assert!(rt; renew(rt.alloc(), &mut store, &wanted, "o.c", Losing::Refused) == Ok(()));
     assert!(rt; has_part(store.bytes_of("o.c"), K));
     assert!(rt; store.bytes_of("o.c.left") == Some(left));
-    assert!(rt; renew(rt.alloc(), &mut store, &tree, "new.c", Losing::Refused) == Ok(()));
+    assert!(rt; renew(rt.alloc(), &mut store, &wanted, "new.c", Losing::Refused) == Ok(()));
     assert!(rt; has_part(store.bytes_of("new.c"), L));
     assert!(rt; store.bytes_of("new.c.left") == None);
     Ok(())
@@ -94,7 +94,7 @@ fn one_file_alone(rt: HostRuntime) -> Result<(), Fail> {
 
 #[test]
 fn what_is_refused(rt: HostRuntime) -> Result<(), Fail> {
-    let tree = tree_of(rt.alloc(), &[])?;
+    let wanted = wanted_of(rt.alloc(), &[])?;
     let rows: [(&[u8], &[u8]); 4] = [
         (K, OTHER_K),
         (K, b"/*@ end */\n"),
@@ -103,14 +103,14 @@ fn what_is_refused(rt: HostRuntime) -> Result<(), Fail> {
     ];
     for (text, left) in rows {
         let mut store = store_of(rt.alloc(), text, Some(left), Vec::new(rt.alloc()))?;
-        let renewed = renew(rt.alloc(), &mut store, &tree, "o.c", Losing::Refused);
+        let renewed = renew(rt.alloc(), &mut store, &wanted, "o.c", Losing::Refused);
         let is_refused = matches!(&renewed, Err(Unrenewed::Left(_) | Unrenewed::Out(_)));
         assert!(rt; is_refused);
         assert!(rt; store.bytes_of("o.c") == Some(text));
         assert!(rt; store.bytes_of("o.c.left") == Some(left));
     }
     let mut store = store_of(rt.alloc(), b"text", None, Vec::new(rt.alloc()))?;
-    let renewed = renew(rt.alloc(), &mut store, &tree, "o.c", Losing::Refused);
+    let renewed = renew(rt.alloc(), &mut store, &wanted, "o.c", Losing::Refused);
     assert!(rt; matches!(&renewed, Err(Unrenewed::Out(KernelFault::Missing(_)))));
     Ok(())
 }
